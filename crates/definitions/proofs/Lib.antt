@@ -1,1 +1,2 @@
 -- Theorems about the definitions.
+pub mod Rendering
