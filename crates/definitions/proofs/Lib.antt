@@ -1,2 +1,3 @@
 -- Theorems about the definitions.
 pub mod Rendering
+pub mod Starred
