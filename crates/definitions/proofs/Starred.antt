@@ -86,13 +86,13 @@ abbrev Q8 : Relations
 Q8 = record {
   n = 3;
   rows =
-    row 2 (0 ∷ 0 ∷ 0 ∷ [])
-    ∷ row 2 (1 ∷ 0 ∷ 0 ∷ [])
-    ∷ row 0 (0 ∷ 0 ∷ 0 ∷ [])
-    ∷ row 2 (1 ∷ 0 ∷ 0 ∷ [])
-    ∷ row 0 (0 ∷ 0 ∷ 0 ∷ [])
-    ∷ row 0 (1 ∷ 0 ∷ 0 ∷ [])
-    ∷ [];
+      row 2 (0 ∷ 0 ∷ 0 ∷ [])
+      ∷ row 2 (1 ∷ 0 ∷ 0 ∷ [])
+      ∷ row 0 (0 ∷ 0 ∷ 0 ∷ [])
+      ∷ row 2 (1 ∷ 0 ∷ 0 ∷ [])
+      ∷ row 0 (0 ∷ 0 ∷ 0 ∷ [])
+      ∷ row 0 (1 ∷ 0 ∷ 0 ∷ [])
+      ∷ [];
 }
 
 -- S3 times a group of order 2, whose third generator is not central
@@ -100,13 +100,13 @@ abbrev dense12 : Relations
 dense12 = record {
   n = 3;
   rows =
-    row 3 (0 ∷ 0 ∷ 0 ∷ [])
-    ∷ row 2 (0 ∷ 0 ∷ 0 ∷ [])
-    ∷ row 0 (1 ∷ 0 ∷ 0 ∷ [])
-    ∷ row 2 (0 ∷ 0 ∷ 0 ∷ [])
-    ∷ row 0 (1 ∷ 0 ∷ 0 ∷ [])
-    ∷ row 0 (2 ∷ 0 ∷ 0 ∷ [])
-    ∷ [];
+      row 3 (0 ∷ 0 ∷ 0 ∷ [])
+      ∷ row 2 (0 ∷ 0 ∷ 0 ∷ [])
+      ∷ row 0 (1 ∷ 0 ∷ 0 ∷ [])
+      ∷ row 2 (0 ∷ 0 ∷ 0 ∷ [])
+      ∷ row 0 (1 ∷ 0 ∷ 0 ∷ [])
+      ∷ row 0 (2 ∷ 0 ∷ 0 ∷ [])
+      ∷ [];
 }
 
 -- the affine group over five elements, on generators with long words
@@ -114,13 +114,13 @@ abbrev dense20 : Relations
 dense20 = record {
   n = 3;
   rows =
-    row 5 (0 ∷ 0 ∷ 0 ∷ [])
-    ∷ row 2 (0 ∷ 0 ∷ 0 ∷ [])
-    ∷ row 0 (3 ∷ 0 ∷ 0 ∷ [])
-    ∷ row 2 (3 ∷ 1 ∷ 0 ∷ [])
-    ∷ row 0 (2 ∷ 0 ∷ 0 ∷ [])
-    ∷ row 0 (4 ∷ 0 ∷ 0 ∷ [])
-    ∷ [];
+      row 5 (0 ∷ 0 ∷ 0 ∷ [])
+      ∷ row 2 (0 ∷ 0 ∷ 0 ∷ [])
+      ∷ row 0 (3 ∷ 0 ∷ 0 ∷ [])
+      ∷ row 2 (3 ∷ 1 ∷ 0 ∷ [])
+      ∷ row 0 (2 ∷ 0 ∷ 0 ∷ [])
+      ∷ row 0 (4 ∷ 0 ∷ 0 ∷ [])
+      ∷ [];
 }
 
 unfoldable pub table : Relations → List ℕ
