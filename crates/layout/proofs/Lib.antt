@@ -1,0 +1,3 @@
+-- Tables as lines of levels.
+pub mod Words
+pub mod Read

@@ -1,0 +1,2 @@
+-- What is said of levels and of the tables that list them.
+pub mod Laid
