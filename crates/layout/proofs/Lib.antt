@@ -1,3 +1,4 @@
 -- Tables as lines of levels.
 pub mod Words
 pub mod Read
+pub mod Judged

@@ -13,6 +13,7 @@ use Prim.Native.Nat.{ℕ, zero, suc, _+_, _*_, _/_, _≤_, _<_}
 use native.Mathlib.Nat.{mul-div-cancel-left, suc-inj}
 use native.Mathlib.Omega.{arith}
 use lib.ListN.{length, getD, length-map}
+use lib.Seq.{ext-getD}
 use lib.Dec.{eqb, ltb}
 use borrow.Author.Tests.{eq-eqb, ne-eqb, eqb-true, lt-ltb}
 use Rattle.definitions.specs.declared.Entry.{Entry}
@@ -119,7 +120,9 @@ module _ (n : ℕ) (L : ℕ → Level) (K : Laid n L) where
   unfolding repAt col lineOf
   repAt-laid i r a b = record {
     deg = refl;
-    entries = λ g c h h′. sym (getD-map-upto d _ c (entry 0 0) h′ ∙ (λ o. entry (w g c h h′ 6 (omega arith) o) (w g c h h′ 7 (omega arith) o)));
+    matrices = λ g h. ext-getD (entry 0 0) _ _ (K .wide i a r b g h ∙ sym (length-map (upto d) _ ∙ length-upto d)) (λ c h′.
+        let l : c < d = omega (arith, K .wide i a r b g h) in
+        sym (getD-map-upto d _ c (entry 0 0) l ∙ (λ o. entry (w g c h l 6 (omega arith) o) (w g c h l 7 (omega arith) o))));
     refs = λ g c h h′. sym (w g c h h′ 4 (omega arith));
   }
     where

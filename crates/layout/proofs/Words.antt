@@ -91,8 +91,8 @@ module _ (n : ℕ) (L : ℕ → Level) where
 line-agree : (n i r : ℕ) (D D′ : Rep) → Agree n D D′ → (g c : ℕ) → g < n → c < D .deg → lineOf i r D g c ≡ lineOf i r D′ g c
 unfolding lineOf
 line-agree n i r D D′ A g c a b =
-    let e = A .entries g c a b in
-    λ o. i ∷ r ∷ A .deg o ∷ suc g ∷ A .refs g c a b o ∷ c ∷ e o .row ∷ e o .exp ∷ []
+    let e = A .matrices g a in
+    λ o. i ∷ r ∷ A .deg o ∷ suc g ∷ A .refs g c a b o ∷ c ∷ col (e o) c .row ∷ col (e o) c .exp ∷ []
 
 rep-agree : (n i r : ℕ) (D D′ : Rep) → Agree n D D′ → repWords n i r D ≡ repWords n i r D′
 unfolding repWords

@@ -1,7 +1,8 @@
 -- Levels laid out as a table.
 --
 --   tableFrom n L              the lines of levels 1 to n
---   Laid n L                   generators, representations on every level, columns in every representation
+--   Laid n L                   generators, representations on every level, columns in every representation, and as many
+--                              in its matrices
 --   Agree n D D′               two representations have the same lines for n generators
 --   AgreeLevels n L L′         two levels have the same lines
 --   repLines, levelLines, before, position      how many lines, and which one
@@ -10,7 +11,7 @@ use Prim.Native.Nat.{ℕ, zero, suc, _+_, _*_, _<_}
 use mathlib.Core.List.{List}
 use lib.ListN.{length}
 use Rattle.definitions.specs.Lists.{blocks, sum}
-use Rattle.definitions.specs.Monomial.{Matrix, col, Rep, Level, repOf}
+use Rattle.definitions.specs.Monomial.{Matrix, Rep, Level, repOf}
 use Rattle.definitions.specs.Table.{levelWords}
 
 unfoldable pub tableFrom : ℕ → (ℕ → Level) → List ℕ
@@ -20,10 +21,11 @@ pub record Laid (n : ℕ) (L : ℕ → Level) : Type 0 where
   pub gens : 0 < n
   pub reps : (i : ℕ) → i < n → 0 < length (L (suc i))
   pub degs : (i : ℕ) → i < n → (r : ℕ) → r < length (L (suc i)) → 0 < repOf (L (suc i)) r .deg
+  pub wide : (i : ℕ) → i < n → (r : ℕ) → r < length (L (suc i)) → (g : ℕ) → g < n → length (repOf (L (suc i)) r .matrix g) ≡ repOf (L (suc i)) r .deg
 
 pub record Agree (n : ℕ) (D D′ : Rep) : Type 0 where
   pub deg : D .deg ≡ D′ .deg
-  pub entries : (g c : ℕ) → g < n → c < D .deg → col (D .matrix g) c ≡ col (D′ .matrix g) c
+  pub matrices : (g : ℕ) → g < n → D .matrix g ≡ D′ .matrix g
   pub refs : (g c : ℕ) → g < n → c < D .deg → D .ref g c ≡ D′ .ref g c
 
 pub record AgreeLevels (n : ℕ) (L L′ : Level) : Type 0 where
