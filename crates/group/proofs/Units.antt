@@ -5,10 +5,9 @@
 --   conj-trivial                           a conjugate of the trivial form
 --   power-generator                        the powers of the generator on top, below its prime
 --   conj-empty, conj-zero                  conjugation where the word on top is empty, or the exponent 0
-use mathlib.Core.Path.{_≡_, refl, sym, _∙_, ap, ap₂, subst}
+use mathlib.Core.Path.{_≡_, refl, sym, _∙_, ap, ap₂}
 use Prim.Native.Nat.{ℕ, zero, suc, _+_, _<_}
 use native.Mathlib.Omega.{arith}
-use Rattle.definitions.specs.Lists.{iter}
 use Rattle.definitions.specs.Presentation.{NF, trivial, Valid, power}
 use Rattle.definitions.specs.Consistency.{mul, conj, forms}
 use Rattle.numbers.proofs.Lists.{iter-zero, iter-fix}
