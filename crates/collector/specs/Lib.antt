@@ -1,0 +1,2 @@
+-- What the contracts of product, conjugation and the consistency test say.
+pub mod Rows
