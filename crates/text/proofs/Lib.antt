@@ -1,0 +1,2 @@
+-- Laws of reading and writing a value.
+pub mod Reading

@@ -1,0 +1,2 @@
+-- What reading and writing a value mean.
+pub mod Reading
