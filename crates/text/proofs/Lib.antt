@@ -1,2 +1,3 @@
 -- Laws of reading and writing a value.
 pub mod Reading
+pub mod Writing

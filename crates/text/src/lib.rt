@@ -5,14 +5,20 @@
 //   value          the value that stands at a position
 //   next_value     the same behind a space
 //   starts         whether given bytes stand at a position
+//   put_byte       writes a byte
+//   put_bytes      writes given bytes
+//   width          the number of digits of a value
+//   put_value      writes a value
 ghost use mathlib.Core.Path.{_≡_};
 ghost use mathlib.Core.Logic.{_↔_};
 ghost use mathlib.Core.Bool.{true, _&&_};
 ghost use mathlib.Core.List.{[], _∷_};
-ghost use Prim.Native.Nat.{ℕ, _+_, _≤_};
+ghost use Prim.Native.Nat.{ℕ, _+_, _%_, _<_, _≤_};
 ghost use lib.ListN.{getD, length};
 ghost use lib.Dec.{leb, ltb};
+ghost use Rattle.definitions.specs.Text.{decimal};
 ghost use Rattle.text.specs.Reading.{DigitAt, ReadAt, StartsAt};
+ghost use Rattle.text.specs.Writing.{Wrote};
 
 // What stands at a position.
 pub enum Read {
@@ -93,4 +99,55 @@ pub fn starts(text: &[u8], at: usize, s: &[u8]) -> bool
         k += 1;
     }
     true
+}
+
+// Writes a byte, and returns the position behind it.
+pub fn put_byte(out: &mut [u8], at: usize, b: u8) -> usize
+    requires { ⌜ at < length (now out) ⌝ }
+    ensures { λ r. ⌜ Wrote (now (out .entry)) at (b ∷ []) (now (out .exit)) r ⌝ }
+{
+    out[at] = b;
+    at + 1
+}
+
+// The last digit of a value, as a byte.
+fn last_digit(v: u32) -> u8
+    ensures { λ r. ⌜ r ≡ 48 + v % 10 ⌝ }
+{
+    (48 + v % 10) as u8
+}
+
+// The number of digits of a value.
+pub fn width(v: u32) -> usize
+    ensures { λ r. ⌜ (r ≡ length (decimal v)) × (r ≤ 10) ⌝ }
+{
+    if v < 10 {
+        return 1;
+    }
+    width(v / 10) + 1
+}
+
+// Writes a value, and returns the position behind it.
+pub fn put_value(out: &mut [u8], at: usize, v: u32) -> usize
+    requires { ⌜ at + length (decimal v) ≤ length (now out) ⌝ }
+    ensures { λ r. ⌜ Wrote (now (out .entry)) at (decimal v) (now (out .exit)) r ⌝ }
+{
+    let d = last_digit(v);
+    if v < 10 {
+        return put_byte(out, at, d);
+    }
+    let next = put_value(out, at, v / 10);
+    put_byte(out, next, d)
+}
+
+// Writes given bytes, and returns the position behind them.
+pub fn put_bytes(out: &mut [u8], at: usize, s: &[u8]) -> usize
+    requires { ⌜ at + length (now s) ≤ length (now out) ⌝ }
+    ensures { λ r. ⌜ Wrote (now (out .entry)) at (now (s .entry)) (now (out .exit)) r ⌝ }
+{
+    let mut next = at;
+    for k in 0..s.len() {
+        next = put_byte(out, next, s[k]);
+    }
+    next
 }
