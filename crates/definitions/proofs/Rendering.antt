@@ -18,6 +18,7 @@
 --   valueLine-unique, lines-unique     the same for a line and for lines of values
 --   render-unique, render-injective    the names and the rows of a rendering
 --   length-upto, presentationNames-fields, -length, -injective    the names line of presentation text
+--   and-left, and-right           the two parts of a conjunction of tests
 --   rowFormed, Formed, wellFormed-formed, formed-wellFormed       the conditions of `wellFormed`
 --   says-unique                   a text says the relations of one presentation
 use mathlib.Core.Path.{_≡_, refl, sym, ap, ap₂, subst, _∙_}
@@ -380,11 +381,11 @@ rowValues-injective (p ∷ ps) (r ∷ rs) (r′ ∷ rs′) l m q =
     let first : r ≡ r′ = λ i. record { p = head-eq-of-cons-eq h i; word = tail-eq-of-cons-eq h i } in
     ap₂ (λ (z : Row) (zs : List Row). z ∷ zs) first (rowValues-injective ps rs rs′ (suc-inj l) (suc-inj m) (tail-eq-of-cons-eq q))
 
-and-left : (a b : Bool) → (a && b) ≡ true → a ≡ true
+pub and-left : (a b : Bool) → (a && b) ≡ true → a ≡ true
 and-left true b h = refl
 and-left false b h = h
 
-and-right : (a b : Bool) → (a && b) ≡ true → b ≡ true
+pub and-right : (a b : Bool) → (a && b) ≡ true → b ≡ true
 and-right true b h = h
 and-right false b h = absurd (false≢true h)
 

@@ -3,3 +3,8 @@ pub mod Lists
 pub mod Text
 pub mod Presentation
 pub mod Consistency
+pub mod Monomial
+pub mod Table
+pub mod Steps
+pub mod Judgement
+pub mod Answers

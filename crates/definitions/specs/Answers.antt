@@ -1,0 +1,120 @@
+-- What each call answers and leaves behind ("Why a part is sent back", and the first of the four questions, in the
+-- specification). A call is a relation between what goes in and what comes out; a refused call leaves the caller's
+-- buffer as it was and counts 0.
+--
+--   First conditions a         a is the number of the first condition that applies, or 0
+--   says t Q                   the text t says relations of which Q holds
+--   presentationRefusals t     11 to 15
+--   judgements                 21 to 26, each with its condition
+--   judgement P T              the number that the check of T answers for an accepted P
+--   over before s              a buffer after s was written at its start
+--   Accept, Build, Check, ReadTable, WriteTable      the five calls
+use mathlib.Core.Path.{_≡_}
+use mathlib.Core.Logic.{_⊎_}
+use Prim.Native.Nat.{ℕ, zero, suc, _+_, _*_, _-_, _<_}
+use mathlib.Core.Bool.{Bool, true, false, cond}
+use mathlib.Core.List.{List, [], _∷_, _++_, map}
+use lib.ListN.{length, drop}
+use lib.Dec.{eqb}
+use Rattle.definitions.specs.Text.{Bytes}
+use Rattle.definitions.specs.Presentation.{lineWords, Presentation, order, buildWords, Relations, Says, InForm, presentation, someNotPrime, tooLarge, misused}
+use Rattle.definitions.specs.Consistency.{Consistent}
+use Rattle.definitions.specs.Table.{lineCount, tableText, writable}
+use Rattle.definitions.specs.Steps.{tableOf}
+use Rattle.definitions.specs.Judgement.{malformed, relationFails, restrictionFails, intertwinerFails, notSeparated, squaresFail}
+
+-- ---- The smallest number that applies
+
+-- Conditions stand in the order in which they are tried: by rising number, but for the writer's 21 before 16.
+abbrev pub First : List (ℕ × Type 0) → ℕ → Type 0
+First [] a = a ≡ 0
+First (c ∷ rest) a = (c .1 × (a ≡ c .0)) ⊎ ((¬ c .1) × First rest a)
+
+-- the same for conditions that compute
+unfoldable pub firstOf : List (ℕ × Bool) → ℕ
+firstOf [] = 0
+firstOf (c ∷ rest) = cond (c .1) (c .0) (firstOf rest)
+
+abbrev pub says : Bytes → (Relations → Type 0) → Type 0
+says t Q = (R : Relations) × Says t R × Q R
+
+-- ---- The conditions
+
+abbrev pub presentationRefusals : Bytes → List (ℕ × Type 0)
+presentationRefusals t =
+    (11, ¬ InForm t)
+    ∷ (12, says t (λ R. someNotPrime R ≡ true))
+    ∷ (13, says t (λ R. tooLarge R ≡ true))
+    ∷ (14, says t (λ R. misused R ≡ true))
+    ∷ (15, says t (λ R. ¬ Consistent (presentation R)))
+    ∷ []
+
+-- 16: fewer words than a build wants
+abbrev pub buildRefusals : Bytes → ℕ → List (ℕ × Type 0)
+buildRefusals t have = presentationRefusals t ++ ((16, says t (λ R. have < buildWords (presentation R))) ∷ [])
+
+abbrev pub judgements : List (ℕ × (Presentation → ℕ → List ℕ → Bool))
+judgements =
+    (21, malformed)
+    ∷ (22, relationFails)
+    ∷ (23, restrictionFails)
+    ∷ (24, intertwinerFails)
+    ∷ (25, notSeparated)
+    ∷ (26, squaresFail)
+    ∷ []
+
+-- exponents are modulo the order of the group
+abbrev pub checkRefusals : Bytes → List ℕ → List (ℕ × Type 0)
+checkRefusals t T =
+    presentationRefusals t
+    ++ map (λ (q : ℕ × (Presentation → ℕ → List ℕ → Bool)). (q .0, says t (λ R. let P = presentation R in q .1 P (order P (P .n)) T ≡ true))) judgements
+
+unfoldable pub judgement : Presentation → List ℕ → ℕ
+judgement P T = firstOf (map (λ (q : ℕ × (Presentation → ℕ → List ℕ → Bool)). (q .0, q .1 P (order P (P .n)) T)) judgements)
+
+-- bytes 10 of a text
+unfoldable pub newlines : Bytes → ℕ
+newlines [] = 0
+newlines (b ∷ t) = cond (eqb b 10) 1 0 + newlines t
+
+-- the text t is the table text of the words T
+pub record TableSays (t : Bytes) (T : List ℕ) : Type 0 where
+  pub formed : writable T ≡ true
+  pub written : t ≡ tableText T
+
+-- 16: fewer words than eight for each line after the first; 20: not in the form
+abbrev pub readRefusals : Bytes → ℕ → List (ℕ × Type 0)
+readRefusals t have = (16, have < lineWords * (newlines t - 1)) ∷ (20, ¬ ((T : List ℕ) × TableSays t T)) ∷ []
+
+-- 21: no whole lines, or a value of more than nine digits; 16: fewer bytes than the text
+abbrev pub writeRefusals : List ℕ → ℕ → List (ℕ × Type 0)
+writeRefusals T have = (21, writable T ≡ false) ∷ (16, have < length (tableText T)) ∷ []
+
+-- ---- The calls
+
+unfoldable pub over : List ℕ → List ℕ → List ℕ
+over before s = s ++ drop (length s) before
+
+-- a buffer and a count after a call: what a finished call leaves, or nothing changed
+pub record Leaves (Finished : ℕ → List ℕ → Type 0) (before : List ℕ) (answer count : ℕ) (after : List ℕ) : Type 0 where
+  pub finished : answer ≡ 0 → Finished count after
+  pub refused : ¬ (answer ≡ 0) → (count ≡ 0) × (after ≡ before)
+
+abbrev pub Accept : Bytes → ℕ → Type 0
+Accept t answer = First (presentationRefusals t) answer
+
+pub record Build (t : Bytes) (before : List ℕ) (answer count : ℕ) (after : List ℕ) : Type 0 where
+  pub answered : First (buildRefusals t (length before)) answer
+  pub leaves :
+      Leaves (λ k w. says t (λ R. let T = tableOf (presentation R) in (k ≡ lineCount T) × (w ≡ over before T))) before answer count after
+
+abbrev pub Check : Bytes → List ℕ → ℕ → Type 0
+Check t T answer = First (checkRefusals t T) answer
+
+pub record ReadTable (t : Bytes) (before : List ℕ) (answer count : ℕ) (after : List ℕ) : Type 0 where
+  pub answered : First (readRefusals t (length before)) answer
+  pub leaves : Leaves (λ k w. (T : List ℕ) × TableSays t T × (k ≡ lineCount T) × (w ≡ over before T)) before answer count after
+
+pub record WriteTable (T : List ℕ) (before : Bytes) (answer count : ℕ) (after : Bytes) : Type 0 where
+  pub answered : First (writeRefusals T (length before)) answer
+  pub leaves : Leaves (λ k w. (k ≡ length (tableText T)) × (w ≡ over before (tableText T))) before answer count after
