@@ -162,22 +162,22 @@ module _ {t : Bytes} {at : ℕ} where
           within = h .within;
         }
 
--- ---- A value behind a space
+-- ---- A value behind a byte
 
-module _ (t : Bytes) (at : ℕ) where
-  pub next-none : (getD t at 0 ≡ 32 → ⊥) → NoValue (32 ∷ []) t at
-  next-none h v r l e q = h (sym (drop-front t at) ∙ ap (λ (xs : Bytes). getD xs 0 0) q)
+module _ (lead t : Bytes) (at b : ℕ) where
+  pub behind-none : (getD t at 0 ≡ b → ⊥) → NoValue (b ∷ lead) t at
+  behind-none h v r l e q = h (sym (drop-front t at) ∙ ap (λ (xs : Bytes). getD xs 0 0) q)
 
-  pub next-some : getD t at 0 ≡ 32 → (r : Read) → ReadAt [] t (at + 1) r → ReadAt (32 ∷ []) t at r
-  next-some q (Value v next) h =
+  pub behind-some : 0 < b → getD t at 0 ≡ b → (r : Read) → ReadAt lead t (at + 1) r → ReadAt (b ∷ lead) t at r
+  behind-some p q (Value v next) h =
       record {
-        text = drop-byte t at 32 q (omega arith) ∙ ap (λ (xs : Bytes). 32 ∷ xs) (h .text);
+        text = drop-byte t at b q p ∙ ap (λ (xs : Bytes). b ∷ xs) (h .text);
         small = h .small;
         ends = h .ends;
         further = omega (arith, h .further);
         within = h .within;
       }
-  next-some q Nothing h = λ v r l e w. h v r l e (tail-eq-of-cons-eq (sym (drop-byte t at 32 q (omega arith)) ∙ w))
+  behind-some p q Nothing h = λ v r l e w. h v r l e (tail-eq-of-cons-eq (sym (drop-byte t at b q p) ∙ w))
 
 -- ---- Given bytes
 

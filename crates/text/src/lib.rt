@@ -3,7 +3,7 @@
 //   Read           what stands at a position: a value and the position behind it, or none
 //   byte_at        a byte, 0 beyond the end
 //   value          the value that stands at a position
-//   next_value     the same behind a space
+//   value_behind   the same behind a byte
 //   starts         whether given bytes stand at a position
 //   put_byte       writes a byte
 //   put_bytes      writes given bytes
@@ -73,11 +73,12 @@ pub fn value(text: &[u8], at: usize) -> Read
     Read::Value(v, i)
 }
 
-// The value behind a space.
-pub fn next_value(text: &[u8], at: usize) -> Read
-    ensures { λ r. ⌜ ReadAt (32 ∷ []) (now (text .entry)) at r ⌝ }
+// The value behind the byte b.
+pub fn value_behind(text: &[u8], at: usize, b: u8) -> Read
+    requires { ⌜ 0 < b ⌝ }
+    ensures { λ r. ⌜ ReadAt (b ∷ []) (now (text .entry)) at r ⌝ }
 {
-    if byte_at(text, at) != 32 {
+    if byte_at(text, at) != b {
         return Read::Nothing;
     }
     value(text, at + 1)
