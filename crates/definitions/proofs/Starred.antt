@@ -1,5 +1,5 @@
 -- The starred groups of the specification ("Starred and edge groups", and the examples of its refusal table), as rows of
--- one table over the definitions, and one lemma that covers the rows together. The definitions compute each row. Two
+-- one table over the definitions, and one lemma that covers the rows together. The definitions compute each row. Three
 -- dense presentations stand with them, since S3, C4 and Q8 do not show every slip.
 --
 --   Star, holds                a row, and what it claims
@@ -123,6 +123,24 @@ dense20 = record {
       ∷ [];
 }
 
+-- order 27 and an inversion: the scalars of an induction are found along 0, 2, 1
+abbrev dense54 : Relations
+dense54 = record {
+  n = 4;
+  rows =
+      row 3 (0 ∷ 0 ∷ 0 ∷ 0 ∷ [])
+      ∷ row 3 (0 ∷ 0 ∷ 0 ∷ 0 ∷ [])
+      ∷ row 0 (0 ∷ 0 ∷ 0 ∷ 0 ∷ [])
+      ∷ row 3 (0 ∷ 0 ∷ 0 ∷ 0 ∷ [])
+      ∷ row 0 (0 ∷ 0 ∷ 0 ∷ 0 ∷ [])
+      ∷ row 0 (1 ∷ 0 ∷ 0 ∷ 0 ∷ [])
+      ∷ row 2 (0 ∷ 0 ∷ 0 ∷ 0 ∷ [])
+      ∷ row 0 (0 ∷ 0 ∷ 0 ∷ 0 ∷ [])
+      ∷ row 0 (0 ∷ 1 ∷ 0 ∷ 0 ∷ [])
+      ∷ row 0 (2 ∷ 0 ∷ 1 ∷ 0 ∷ [])
+      ∷ [];
+}
+
 unfoldable pub table : Relations → List ℕ
 table R = tableOf (presentation R)
 
@@ -162,9 +180,12 @@ starred =
     ∷ has-matrix Q8 3 4 3 (1 ∷ 0 ∷ 0 ∷ 4 ∷ [])
     ∷ reads (one 2 (0 ∷ [])) "j i p e1\n1 1 2 0\n" 0
     ∷ wants (one 2 (0 ∷ [])) 16
+    ∷ reads dense12 "j i p e1 e2 e3\n1 1 3 0 0 0\n2 2 2 0 0 0\n2 1 0 1 0 0\n3 3 2 0 0 0\n3 1 0 1 0 0\n3 2 0 2 0 0\n" 0
     ∷ judged dense12 (table dense12) 0
     ∷ has-matrix dense12 3 5 3 (1 ∷ 10 ∷ 0 ∷ 2 ∷ [])
+    ∷ reads dense20 "j i p e1 e2 e3\n1 1 5 0 0 0\n2 2 2 0 0 0\n2 1 0 3 0 0\n3 3 2 3 1 0\n3 1 0 2 0 0\n3 2 0 4 0 0\n" 0
     ∷ has-matrix dense20 3 4 3 (3 ∷ 0 ∷ 2 ∷ 4 ∷ 0 ∷ 4 ∷ 1 ∷ 12 ∷ [])
+    ∷ has-matrix dense54 3 9 4 (0 ∷ 0 ∷ 2 ∷ 36 ∷ 1 ∷ 18 ∷ [])
     ∷ []
 
 -- ---- The example of 15
