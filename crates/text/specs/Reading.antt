@@ -5,6 +5,7 @@
 --   ValueAt, NoValue      behind the bytes `lead` stands a value; none stands there
 --   ReadAt                what `Read` says of a position
 --   StartsAt              the bytes s stand at a position
+--   trail                 values, each behind a space
 use mathlib.Core.Path.{_≡_}
 use Prim.Native.Nat.{ℕ, _+_, _<_, _≤_}
 use mathlib.Core.List.{List, [], _∷_, _++_}
@@ -44,3 +45,8 @@ module _ (lead : Bytes) (t : Bytes) (at : ℕ) where
 -- the bytes s stand at a position
 abbrev pub StartsAt : Bytes → ℕ → Bytes → Type 0
 StartsAt t at s = (r : Bytes) × (drop at t ≡ s ++ r)
+
+-- the values of a line behind its first, each behind a space
+unfoldable pub trail : List ℕ → Bytes
+trail [] = []
+trail (v ∷ vs) = 32 ∷ decimal v ++ trail vs
