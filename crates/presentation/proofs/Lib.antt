@@ -1,0 +1,2 @@
+-- Laws of reading a presentation.
+pub mod Primes
