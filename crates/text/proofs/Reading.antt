@@ -4,10 +4,13 @@
 --   value-one, value-more     a run of one digit, and of one digit more
 --   value-none, value-past    no value: no digit stands there; the run goes on behind a 0 or behind nine digits
 --   digits-shorter            digits that stand before others, where those end
+--   read-stands, read-fails   what the two answers say
+--   read-known                the value that was read is the one that stands there
+--   behind-none, behind-some  a value behind a byte
 --   value-unique              what stands behind a value, and the value
-use mathlib.Core.Path.{_≡_, refl, sym, ap, ap₂, subst, _∙_}
+use mathlib.Core.Path.{_≡_, refl, sym, ap, ap₂, subst, subst₂, _∙_}
 use mathlib.Core.Logic.{_↔_, _≢_}
-use mathlib.Core.List.{List, [], _∷_, _++_, append-assoc, append-nil, head-eq-of-cons-eq, tail-eq-of-cons-eq}
+use mathlib.Core.List.{List, [], _∷_, _++_, append-assoc, append-cancel-left, head-eq-of-cons-eq, tail-eq-of-cons-eq}
 use Prim.Native.Nat.{ℕ, zero, suc, _+_, _*_, _-_, _<_, _≤_, _^_, zero-le, suc-le-suc}
 use native.Mathlib.Nat.{le-antisymm, suc-inj, add-zero, add-suc}
 use native.Mathlib.Decide.{decLt}
@@ -82,16 +85,20 @@ getD-ahead (x ∷ xs) r p = refl
 
 module _ (t : Bytes) (at : ℕ) where
   pub value-none : (Digit (getD t at 0) → ⊥) → NoValue [] t at
-  value-none h v r l e q = h (subst Digit (sym (ap (λ (zs : Bytes). getD zs 0 0) q) ∙ drop-front t at) (lead (decimal v) (decimal-nonempty v) (decimal-digits v)))
+  value-none h = record { none = λ v r l e q. h (subst Digit (sym (ap (λ (zs : Bytes). getD zs 0 0) q) ∙ drop-front t at) (lead (decimal v) r (decimal-nonempty v) (decimal-digits v))) }
     where
-      lead : (xs : Bytes) → 0 < length xs → Each Digit xs → Digit (getD (xs ++ r) 0 0)
-      lead [] p k = absurd (omega arith)
-      lead (x ∷ xs) p k = k .0
+      lead : (xs r : Bytes) → 0 < length xs → Each Digit xs → Digit (getD (xs ++ r) 0 0)
+      lead [] r p k = absurd (omega arith)
+      lead (x ∷ xs) r p k = k .0
 
   -- the digits go on behind a value to which none may be added
   pub value-past : (v i : ℕ) → drop at t ≡ decimal v ++ drop i t → Digit (getD t i 0) → (0 < v → 100000000 ≤ v) → NoValue [] t at
-  value-past v i h d k w r l e q =
-      past v i (getD t i 0) (drop (i + 1) t) d k w r l e (ap (λ (xs : Bytes). decimal v ++ xs) (sym (drop-byte t i (getD t i 0) refl (omega arith))) ∙ sym h ∙ q)
+  value-past v i h d k =
+      record {
+        none =
+            λ w r l e q. past v i (getD t i 0) (drop (i + 1) t) d k w r l e
+            (ap (λ (xs : Bytes). decimal v ++ xs) (sym (drop-byte t i (getD t i 0) refl (omega arith))) ∙ sym h ∙ q);
+      }
     where
       past : (v i b : ℕ) (s : Bytes) → Digit b → (0 < v → 100000000 ≤ v) → (w : ℕ) (r : Bytes) → w ≤ largest → Ends r → decimal v ++ b ∷ s ≡ decimal w ++ r → ⊥
       past v i b s d k w r l e q = pick (decLt 0 v) (decLt 0 w)
@@ -113,6 +120,27 @@ module _ (t : Bytes) (at : ℕ) where
               let a : getD (decimal v) 0 0 ≡ 48 = ap (λ (n : ℕ). getD (decimal n) 0 0) (omega arith) ∙ ap (λ (xs : Bytes). getD xs 0 0) decimal-zero in
               omega (arith, decimal-lead w z, a, getD-ahead (decimal v) (b ∷ s) (decimal-nonempty v), getD-ahead (decimal w) r (decimal-nonempty w), ap (λ (xs : Bytes). getD xs 0 0) q)
 
+-- ---- What was read
+
+module _ {lead t : Bytes} {at : ℕ} where
+  pub read-stands : {v next : ℕ} → ValueAt lead t at v next → ReadAt lead t at (Value v next)
+  read-stands {v} {next} h =
+      record {
+        stands = λ w n q. let a : v ≡ w = cc in let b : next ≡ n = cc in subst₂ (λ (x y : ℕ). ValueAt lead t at x y) a b h;
+        fails = λ q. let z : _≡_ {A = ℕ} 0 1 = cc in absurd (omega arith);
+      }
+
+  pub read-fails : NoValue lead t at → ReadAt lead t at Nothing
+  read-fails h = record { stands = λ w n q. let z : _≡_ {A = ℕ} 0 1 = cc in absurd (omega arith); fails = λ q. h }
+
+  -- the value that was read is the one that stands there
+  pub read-known : {a next : ℕ} → ValueAt lead t at a next → (v : ℕ) (r : Bytes) → Ends r → drop at t ≡ lead ++ decimal v ++ r
+      → (a ≡ v) × (drop next t ≡ r)
+  read-known {a} {next} h v r e q =
+      value-unique a v (drop next t) r (h .ends) e
+      (append-cancel-left lead (decimal a ++ drop next t) (decimal v ++ r)
+      (sym (append-assoc lead (decimal a) (drop next t)) ∙ sym (h .text) ∙ q ∙ append-assoc lead (decimal v) r))
+
 -- ---- Reading a run of digits
 
 -- v has been read up to i, where the digit d stands, or none
@@ -127,8 +155,8 @@ pub digit-within : {t : Bytes} {i d : ℕ} → DigitAt t i d → d < 10 → i < 
 digit-within {t} {i} {d} h l = byte-within t i (omega (arith, h .stands l))
 
 module _ {t : Bytes} {at : ℕ} where
-  pub run-none : {d : ℕ} → DigitAt t at d → 10 ≤ d → NoValue [] t at
-  run-none h l = value-none t at (h .fails l)
+  pub run-none : {d : ℕ} → DigitAt t at d → 10 ≤ d → ReadAt [] t at Nothing
+  run-none h l = read-fails (value-none t at (h .fails l))
 
   pub run-one : {v d : ℕ} → DigitAt t at v → v < 10 → DigitAt t (at + 1) d → Run t at v (at + 1) d
   run-one {v} {d} h l k =
@@ -148,36 +176,41 @@ module _ {t : Bytes} {at : ℕ} where
           digit = k;
         }
 
-    pub run-past : d < 10 → (0 < v → 100000000 ≤ v) → NoValue [] t at
-    run-past l k = value-past t at v i (h .text) (omega (arith, h .digit .stands l)) k
+    pub run-past : d < 10 → (0 < v → 100000000 ≤ v) → ReadAt [] t at Nothing
+    run-past l k = read-fails (value-past t at v i (h .text) (omega (arith, h .digit .stands l)) k)
 
-    pub run-end : 10 ≤ d → ValueAt [] t at v i
+    pub run-end : 10 ≤ d → ReadAt [] t at (Value v i)
     unfolding largest
-    run-end l =
-        record {
-          text = h .text;
-          small = h .few;
-          ends = λ k. h .digit .fails l (subst Digit (drop-front t i) k);
-          further = h .further;
-          within = h .within;
-        }
+    run-end l = read-stands (record {
+      text = h .text;
+      small = h .few;
+      ends = λ k. h .digit .fails l (subst Digit (drop-front t i) k);
+      further = h .further;
+      within = h .within;
+    })
 
 -- ---- A value behind a byte
 
 module _ (lead t : Bytes) (at b : ℕ) where
-  pub behind-none : (getD t at 0 ≡ b → ⊥) → NoValue (b ∷ lead) t at
-  behind-none h v r l e q = h (sym (drop-front t at) ∙ ap (λ (xs : Bytes). getD xs 0 0) q)
+  pub behind-none : (getD t at 0 ≡ b → ⊥) → ReadAt (b ∷ lead) t at Nothing
+  behind-none h = read-fails (record { none = λ v r l e q. h (sym (drop-front t at) ∙ ap (λ (xs : Bytes). getD xs 0 0) q) })
 
-  pub behind-some : 0 < b → getD t at 0 ≡ b → (r : Read) → ReadAt lead t (at + 1) r → ReadAt (b ∷ lead) t at r
-  behind-some p q (Value v next) h =
-      record {
-        text = drop-byte t at b q p ∙ ap (λ (xs : Bytes). b ∷ xs) (h .text);
-        small = h .small;
-        ends = h .ends;
-        further = omega (arith, h .further);
-        within = h .within;
-      }
-  behind-some p q Nothing h = λ v r l e w. h v r l e (tail-eq-of-cons-eq (sym (drop-byte t at b q p) ∙ w))
+  module _ (p : 0 < b) (q : getD t at 0 ≡ b) where
+    behind : drop at t ≡ b ∷ drop (at + 1) t
+    behind = drop-byte t at b q p
+
+    pub behind-some : {r : Read} → ReadAt lead t (at + 1) r → ReadAt (b ∷ lead) t at r
+    behind-some h =
+        record {
+          stands = λ v next m. let k = h .stands v next m in record {
+            text = behind ∙ ap (λ (xs : Bytes). b ∷ xs) (k .text);
+            small = k .small;
+            ends = k .ends;
+            further = omega (arith, k .further);
+            within = k .within;
+          };
+          fails = λ m. record { none = λ v r l e w. h .fails m .none v r l e (tail-eq-of-cons-eq (sym behind ∙ w)) };
+        }
 
 -- ---- Given bytes
 

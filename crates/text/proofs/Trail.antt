@@ -1,7 +1,7 @@
 -- Laws of a line's values behind its first one.
 --
---   trail-nil, trail-cons, trail-append     the clauses; two runs
---   trail-one                    one more value
+--   fieldTrail-append, fieldTrail-one, line-trail     the same for fields; a line by its first field
+--   trail-nil, trail-cons, trail-one    the clauses; one more value
 --   valueLine-trail              a line of values: the first, the others, byte 10
 --   ends-trail, ends-line        what stands behind a value in a line does not go on with a digit
 --   trail-ahead                  values that stand before others are the first of them
@@ -21,40 +21,52 @@ use Rattle.definitions.specs.Text.{Bytes, largest, decimal, line, valueLine, sm
 use Rattle.definitions.proofs.Rendering.{line-cons}
 use Rattle.numbers.proofs.Bools.{and-left, and-right, and-intro}
 use Rattle.numbers.proofs.Lists.{all-getD}
-use Rattle.text.specs.Reading.{Ends, trail}
+use Rattle.text.specs.Reading.{Ends, fieldTrail, trail}
 use Rattle.text.proofs.Reading.{value-unique}
+
+-- ---- The fields of a line
+
+pub fieldTrail-append : (xs ys : List Bytes) → fieldTrail (xs ++ ys) ≡ fieldTrail xs ++ fieldTrail ys
+unfolding fieldTrail
+fieldTrail-append [] ys = refl
+fieldTrail-append (x ∷ xs) ys =
+    ap (λ (zs : Bytes). 32 ∷ x ++ zs) (fieldTrail-append xs ys) ∙ sym (append-assoc (32 ∷ x) (fieldTrail xs) (fieldTrail ys))
+
+-- one more field
+pub fieldTrail-one : (xs : List Bytes) (y : Bytes) → fieldTrail (xs ++ (y ∷ [])) ≡ fieldTrail xs ++ 32 ∷ y
+unfolding fieldTrail
+fieldTrail-one xs y = fieldTrail-append xs (y ∷ []) ∙ ap (λ (zs : Bytes). fieldTrail xs ++ 32 ∷ zs) (append-nil y)
+
+-- a line: its first field, the others, byte 10
+pub line-trail : (x : Bytes) (xs : List Bytes) (r : Bytes) → line (x ∷ xs) ++ r ≡ x ++ (fieldTrail xs ++ 10 ∷ r)
+unfolding fieldTrail
+line-trail x [] r = line-cons x [] r
+line-trail x (y ∷ ys) r =
+    line-cons x (y ∷ ys) r ∙ ap (λ (zs : Bytes). x ++ 32 ∷ zs) (line-trail y ys r ∙ sym (append-assoc y (fieldTrail ys) (10 ∷ r)))
 
 -- ---- The values of a line
 
 pub trail-nil : trail [] ≡ []
-unfolding trail
+unfolding trail fieldTrail
 trail-nil = refl
 
 pub trail-cons : (v : ℕ) (vs : List ℕ) (r : Bytes) → trail (v ∷ vs) ++ r ≡ 32 ∷ decimal v ++ (trail vs ++ r)
-unfolding trail
+unfolding trail fieldTrail
 trail-cons v vs r = ap (λ (xs : Bytes). 32 ∷ xs) (append-assoc (decimal v) (trail vs) r)
-
-pub trail-append : (vs ws : List ℕ) → trail (vs ++ ws) ≡ trail vs ++ trail ws
-unfolding trail
-trail-append [] ws = refl
-trail-append (v ∷ vs) ws = ap (λ (xs : Bytes). 32 ∷ decimal v ++ xs) (trail-append vs ws) ∙ sym (append-assoc (32 ∷ decimal v) (trail vs) (trail ws))
 
 -- one more value behind vs
 pub trail-one : (vs : List ℕ) (v : ℕ) (r : Bytes) → trail (vs ++ (v ∷ [])) ++ r ≡ trail vs ++ 32 ∷ decimal v ++ r
 unfolding trail
 trail-one vs v r =
-    ap (λ (xs : Bytes). xs ++ r) (trail-append vs (v ∷ []) ∙ ap (λ (xs : Bytes). trail vs ++ 32 ∷ xs) (append-nil (decimal v)))
-
-pub line-trail : (x : Bytes) (vs : List ℕ) (r : Bytes) → line (x ∷ map decimal vs) ++ r ≡ x ++ (trail vs ++ 10 ∷ r)
-unfolding trail
-line-trail x [] r = line-cons x [] r
-line-trail x (v ∷ vs) r =
-    line-cons x (map decimal (v ∷ vs)) r
-    ∙ ap (λ (xs : Bytes). x ++ 32 ∷ xs) (line-trail (decimal v) vs r ∙ sym (append-assoc (decimal v) (trail vs) (10 ∷ r)))
+    ap (λ (xs : List Bytes). fieldTrail xs ++ r) (map-one vs) ∙ ap (λ (xs : Bytes). xs ++ r) (fieldTrail-one (map decimal vs) (decimal v))
+  where
+    map-one : (ws : List ℕ) → map decimal (ws ++ (v ∷ [])) ≡ map decimal ws ++ (decimal v ∷ [])
+    map-one [] = refl
+    map-one (w ∷ ws) = ap (λ (zs : List Bytes). decimal w ∷ zs) (map-one ws)
 
 pub valueLine-trail : (v : ℕ) (vs : List ℕ) (r : Bytes) → valueLine (v ∷ vs) ++ r ≡ decimal v ++ (trail vs ++ 10 ∷ r)
-unfolding valueLine
-valueLine-trail v vs r = line-trail (decimal v) vs r
+unfolding valueLine trail
+valueLine-trail v vs r = line-trail (decimal v) (map decimal vs) r
 
 -- ---- Where values end
 
@@ -62,7 +74,7 @@ pub ends-byte : (b : ℕ) (r : Bytes) → b < 48 → Ends (b ∷ r)
 ends-byte b r l d = omega arith
 
 pub ends-trail : (vs : List ℕ) (r : Bytes) → Ends r → Ends (trail vs ++ r)
-unfolding trail
+unfolding trail fieldTrail
 ends-trail [] r e = e
 ends-trail (v ∷ vs) r e = λ d. omega (arith, d .0)
 

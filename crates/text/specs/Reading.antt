@@ -5,10 +5,10 @@
 --   ValueAt, NoValue      behind the bytes `lead` stands a value; none stands there
 --   ReadAt                what `Read` says of a position
 --   StartsAt              the bytes s stand at a position
---   trail                 values, each behind a space
+--   fieldTrail, trail     fields, and values, each behind a space
 use mathlib.Core.Path.{_≡_}
 use Prim.Native.Nat.{ℕ, _+_, _<_, _≤_}
-use mathlib.Core.List.{List, [], _∷_, _++_}
+use mathlib.Core.List.{List, [], _∷_, _++_, map}
 use lib.ListN.{length, getD, drop}
 use Rattle.definitions.specs.Text.{Bytes, largest, decimal}
 use Rattle.text.specs.declared.Read.{Read}
@@ -35,18 +35,21 @@ module _ (lead : Bytes) (t : Bytes) (at : ℕ) where
     pub further : at < next
     pub within : next ≤ length t
 
-  abbrev pub NoValue : Type 0
-  NoValue = (v : ℕ) (r : Bytes) → v ≤ largest → Ends r → drop at t ≡ lead ++ decimal v ++ r → ⊥
+  pub record NoValue : Type 0 where
+    pub none : (v : ℕ) (r : Bytes) → v ≤ largest → Ends r → drop at t ≡ lead ++ decimal v ++ r → ⊥
 
-  abbrev pub ReadAt : Read → Type 0
-  ReadAt (Value v next) = ValueAt v next
-  ReadAt Nothing = NoValue
+  pub record ReadAt (r : Read) : Type 0 where
+    pub stands : (v next : ℕ) → r ≡ Value v next → ValueAt v next
+    pub fails : r ≡ Nothing → NoValue
 
 -- the bytes s stand at a position
 abbrev pub StartsAt : Bytes → ℕ → Bytes → Type 0
 StartsAt t at s = (r : Bytes) × (drop at t ≡ s ++ r)
 
--- the values of a line behind its first, each behind a space
+-- the fields of a line behind its first, each behind a space; and the same for values
+unfoldable pub fieldTrail : List Bytes → Bytes
+fieldTrail [] = []
+fieldTrail (x ∷ xs) = 32 ∷ x ++ fieldTrail xs
+
 unfoldable pub trail : List ℕ → Bytes
-trail [] = []
-trail (v ∷ vs) = 32 ∷ decimal v ++ trail vs
+trail vs = fieldTrail (map decimal vs)

@@ -26,7 +26,7 @@ value-requires c κs = search needs
 returns-2 : tie.Need-returns-2
 returns-2 c =
     let a = c .before .before .before .before .args in
-    behind-some [] (a .text .now) (a .at) (a .b) (omega arith) (omega arith) (c .value .result) (c .value .ensures)
+    behind-some [] (a .text .now) (a .at) (a .b) (omega arith) (omega arith) (c .value .ensures)
 
 pub value-behind-spec : {M : Type 1} → statement M
 value-behind-spec = tie.close (tie.spec byte-at-requires returns add-value value-requires returns-2)
