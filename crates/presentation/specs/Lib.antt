@@ -1,1 +1,2 @@
--- What the read presentation holds.
+-- What stands in a presentation text, and what the read presentation holds of it.
+pub mod Lines

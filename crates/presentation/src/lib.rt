@@ -2,9 +2,11 @@
 //
 //   Presentation          n, the primes, and the words in rows of rows
 //   make, words_of        the two functions that touch the rows as a field
+//   lines                 the lines of a text
 //   prime                 primality of a value
 ghost use mathlib.Core.Path.{_≡_};
 
+pub mod lines;
 pub mod prime;
 
 // The read presentation. Row r of the words has the exponents of the pair with number r.

@@ -55,10 +55,12 @@ unfolding trail fieldTrail
 trail-cons v vs r = ap (λ (xs : Bytes). 32 ∷ xs) (append-assoc (decimal v) (trail vs) r)
 
 -- one more value behind vs
-pub trail-one : (vs : List ℕ) (v : ℕ) (r : Bytes) → trail (vs ++ (v ∷ [])) ++ r ≡ trail vs ++ 32 ∷ decimal v ++ r
+pub trail-one : (vs : List ℕ) (v : ℕ) (r : Bytes) → trail (vs ++ (v ∷ [])) ++ r ≡ trail vs ++ (32 ∷ decimal v ++ r)
 unfolding trail
 trail-one vs v r =
-    ap (λ (xs : List Bytes). fieldTrail xs ++ r) (map-one vs) ∙ ap (λ (xs : Bytes). xs ++ r) (fieldTrail-one (map decimal vs) (decimal v))
+    ap (λ (xs : List Bytes). fieldTrail xs ++ r) (map-one vs)
+    ∙ ap (λ (xs : Bytes). xs ++ r) (fieldTrail-one (map decimal vs) (decimal v))
+    ∙ append-assoc (trail vs) (32 ∷ decimal v) r
   where
     map-one : (ws : List ℕ) → map decimal (ws ++ (v ∷ [])) ≡ map decimal ws ++ (decimal v ∷ [])
     map-one [] = refl
