@@ -49,7 +49,7 @@ unfolding digits
 digits-more f v l = ap (λ (b : Bool). cond b ((48 + v) ∷ []) (digits f (v / 10) ++ ((48 + v % 10) ∷ []))) (le-ltb v 10 l)
 
 -- the number of digits allowed is of no account if it is above v
-tenth-less : (v : ℕ) → 10 ≤ v → v / 10 < v
+pub tenth-less : (v : ℕ) → 10 ≤ v → v / 10 < v
 tenth-less v l = omega (arith, div-add-mod' v 10)
 
 -- a fact of the values below 10 that passes from v / 10 to v holds of all values
@@ -172,11 +172,11 @@ decimal-lead = tenths (λ v. 0 < v → 48 < getD (decimal v) 0 0) one more
 pub decimal-zero : decimal 0 ≡ 48 ∷ []
 decimal-zero = decimal-one 0 (omega arith)
 
-length-more : (v : ℕ) → 10 ≤ v → length (decimal v) ≡ suc (length (decimal (v / 10)))
-length-more v l = ap length (decimal-more v l) ∙ length-append (decimal (v / 10)) ((48 + v % 10) ∷ []) ∙ add-one (length (decimal (v / 10)))
+pub decimal-length-more : (v : ℕ) → 10 ≤ v → length (decimal v) ≡ suc (length (decimal (v / 10)))
+decimal-length-more v l = ap length (decimal-more v l) ∙ length-append (decimal (v / 10)) ((48 + v % 10) ∷ []) ∙ add-one (length (decimal (v / 10)))
 
 pub decimal-nonempty : (v : ℕ) → 0 < length (decimal v)
-decimal-nonempty = tenths (λ v. 0 < length (decimal v)) (λ v l. omega (arith, ap length (decimal-one v l))) (λ v l h. omega (arith, length-more v l))
+decimal-nonempty = tenths (λ v. 0 < length (decimal v)) (λ v l. omega (arith, ap length (decimal-one v l))) (λ v l h. omega (arith, decimal-length-more v l))
 
 -- at most suc k digits, exactly if below 10 ^ suc k
 pub decimal-length : (k v : ℕ) → (length (decimal v) ≤ suc k) ↔ (v < 10 ^ suc k)
@@ -186,7 +186,7 @@ decimal-length zero v = pick (decLt v 10)
     pick (yes l) = (λ h. l, λ h. omega (arith, ap length (decimal-one v l)))
     pick (no l) =
         let t : 10 ≤ v = omega arith in
-        (λ h. absurd (omega (arith, length-more v t, decimal-nonempty (v / 10))), λ h. absurd (l h))
+        (λ h. absurd (omega (arith, decimal-length-more v t, decimal-nonempty (v / 10))), λ h. absurd (l h))
 decimal-length (suc k) v = pick (decLt v 10) (decimal-length k (v / 10))
   where
     pick : Dec (v < 10) → (length (decimal (v / 10)) ≤ suc k) ↔ (v / 10 < 10 ^ suc k) → (length (decimal v) ≤ suc (suc k)) ↔ (v < 10 ^ suc (suc k))
@@ -194,7 +194,7 @@ decimal-length (suc k) v = pick (decLt v 10) (decimal-length k (v / 10))
         (λ _. omega (arith, pow-suc 10 (suc k), one-le-pow (suc k) 10 (omega arith)), λ _. omega (arith, ap length (decimal-one v l)))
     pick (no l) h =
         let t : 10 ≤ v = omega arith in
-        let q = length-more v t in
+        let q = decimal-length-more v t in
         let ten : 0 < 10 = omega arith in (
           λ m. omega (arith, pow-suc 10 (suc k), div-lt-iff-lt-mul {k = 10} {x = v} {y = 10 ^ suc k} ten .0 (h .0 (omega arith))),
           λ m. omega (arith, h .1 (div-lt-iff-lt-mul {k = 10} {x = v} {y = 10 ^ suc k} ten .1 (omega (arith, pow-suc 10 (suc k))))),

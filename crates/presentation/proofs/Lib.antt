@@ -1,0 +1,6 @@
+-- Laws of reading a presentation.
+pub mod Primes
+pub mod Pairs
+pub mod Heads
+pub mod Words
+pub mod Names

@@ -1,0 +1,2 @@
+-- What stands in a presentation text, and what the read presentation holds of it.
+pub mod Lines

@@ -1,0 +1,139 @@
+// The lines of presentation text: the names line, and the parts of a line of values.
+//
+//   names          the names line, and with it n
+//   head           j, i and p of a line
+//   exponents      the n exponents of a line, and its end
+//   next_pair      the pair of the next line
+use text::Read;
+ghost use mathlib.Core.Path.{_≡_};
+ghost use mathlib.Core.List.{[], _∷_};
+ghost use Prim.Native.Nat.{ℕ, _+_, _<_, _≤_};
+ghost use lib.ListN.{length, drop};
+ghost use Rattle.definitions.specs.Text.{largest};
+ghost use Rattle.definitions.specs.Presentation.{pairNumber};
+ghost use Rattle.text.specs.Reading.{Ends, ReadAt};
+ghost use Rattle.presentation.specs.Lines.{NamesAt, HeadAt, WordAt};
+
+// The number in the exponent's name at a position.
+fn next_name(text: &[u8], at: usize) -> Read
+    ensures { λ r. ⌜ ReadAt (32 ∷ 101 ∷ []) (now (text .entry)) at r ⌝ }
+{
+    if text::byte_at(text, at) != 32 {
+        return Read::Nothing;
+    }
+    text::value_behind(text, at + 1, 101)
+}
+
+// The names line: n, and the position behind the line.
+pub fn names(text: &[u8]) -> Read
+    ensures { λ r. ⌜ NamesAt (now (text .entry)) r ⌝ }
+{
+    if !text::starts(text, 0, b"j i p") {
+        return Read::Nothing;
+    }
+    let mut n: u32 = 0;
+    let mut at: usize = 5;
+    while text::byte_at(text, at) == 32 {
+        let Read::Value(v, next) = next_name(text, at) else {
+            return Read::Nothing;
+        };
+        if v != n + 1 {
+            return Read::Nothing;
+        }
+        n = v;
+        at = next;
+    }
+    if n == 0 {
+        return Read::Nothing;
+    }
+    if text::byte_at(text, at) != 10 {
+        return Read::Nothing;
+    }
+    Read::Value(n, at + 1)
+}
+
+// The p of the line of the pair (j, i), and the position behind it.
+pub fn head(text: &[u8], at: usize, j: u32, i: u32) -> Read
+    requires { ⌜ (j < largest) × (i ≤ j) ⌝ }
+    ensures { λ r. ⌜ HeadAt (now (text .entry)) at j i r ⌝ }
+{
+    let Read::Value(a, next) = text::value(text, at) else {
+        return Read::Nothing;
+    };
+    if a != j + 1 {
+        return Read::Nothing;
+    }
+    let Read::Value(b, behind) = text::value_behind(text, next, 32) else {
+        return Read::Nothing;
+    };
+    if b != i + 1 {
+        return Read::Nothing;
+    }
+    text::value_behind(text, behind, 32)
+}
+
+// The exponents of a line, of which the first twelve are kept.
+pub struct Word {
+    pub ok: bool,
+    pub next: usize,
+    pub kept: [u32; 12],
+}
+
+// The n exponents behind the p of a line, and the end of the line.
+pub fn exponents(text: &[u8], at: usize, n: u32) -> Word
+    requires { ⌜ (at ≤ length (now text)) × Ends (drop at (now text)) ⌝ }
+    ensures { λ r. ⌜ WordAt (now (text .entry)) at n r ⌝ }
+{
+    let mut kept = [0u32; 12];
+    let mut next = at;
+    let mut k: u32 = 0;
+    while k < n {
+        let Read::Value(e, behind) = text::value_behind(text, next, 32) else {
+            return Word {
+                ok: false,
+                next,
+                kept,
+            };
+        };
+        if k < 12 {
+            kept[k as usize] = e;
+        }
+        next = behind;
+        k += 1;
+    }
+    if text::byte_at(text, next) != 10 {
+        return Word {
+            ok: false,
+            next,
+            kept,
+        };
+    }
+    Word {
+        ok: true,
+        next: next + 1,
+        kept,
+    }
+}
+
+// A pair of generators, i at most j.
+pub struct Pair {
+    pub j: u32,
+    pub i: u32,
+}
+
+// The pair with the next number.
+pub fn next_pair(j: u32, i: u32) -> Pair
+    requires { ⌜ (j < largest) × (i ≤ j) ⌝ }
+    ensures { λ r. ⌜ (pairNumber (r .j) (r .i) ≡ pairNumber j i + 1) × (r .i ≤ r .j) × (r .j ≤ j + 1) ⌝ }
+{
+    if i < j {
+        if i + 1 < j {
+            return Pair { j, i: i + 1 };
+        }
+        return Pair { j: j + 1, i: j + 1 };
+    }
+    if j == 0 {
+        return Pair { j: 1, i: 1 };
+    }
+    Pair { j, i: 0 }
+}
