@@ -1,0 +1,252 @@
+-- GROUP: where the known test passes on every level below, the valid normal forms of a level are a monoid in which the
+-- relations hold. One induction on the level carries the facts of `Group`; its step is the cyclic extension.
+--
+--   imageNf C i j k      the image of generator k under conjugation by generator j, on level i
+--   Test C i             the known test for generator i, as equations of valid forms
+--   Group C i            what is known of level i
+--   Tested               a context in which the test passes below n
+--   group                every level up to n is a group: laws, values, conjugation, relations
+--   model                level i as a model of the presentation, with its own generators
+--   conj-mul             conjugation by the next generator keeps products
+--   low-top              the next generator carries a lower form to its conjugate
+use mathlib.Core.Path.{_≡_, refl, sym, _∙_, ap, ap₂, subst}
+use Prim.Native.Nat.{ℕ, zero, suc, _+_, _-_, _≤_, _<_}
+use native.Mathlib.Omega.{arith}
+use Rattle.definitions.specs.Lists.{iter}
+use Rattle.definitions.specs.Presentation.{NF, trivial, Valid, Mul, power, value}
+use Rattle.definitions.specs.Consistency.{mul, conj}
+use Rattle.numbers.proofs.Lists.{below-suc, iter-zero, iter-suc, iter-op, iter-fix}
+use Rattle.group.specs.Models.{Laws, Satisfies, Model}
+use Rattle.group.specs.Context.{Context, Nf}
+use Rattle.group.proofs.Values.{trivial-suc, power-zero, power-suc, power-one, power-hom, value-suc, value-trivial, value-ind}
+use Rattle.group.proofs.Clauses.{mulStep-below, mulStep-over, mul-suc}
+use Rattle.group.proofs.Sound.{sound}
+use Rattle.group.proofs.Cyclic.{Cyclic}
+use Rattle.group.proofs.Level.{Nf-path, trivial-valid, level, conjNf, uNf, wNf, genNf, low, top, low-hom, gen-low, gen-top, low-value, conj-clause, laws-suc}
+
+module _ (C : Context) where
+  open Context C using (P, two)
+
+  abbrev pub imageNf : (i j k : ℕ) → Nf C i
+  imageNf i j k = conjNf C i j (genNf C i k)
+
+  pub record Test (i : ℕ) : Type 0 where
+    pub keeps : Satisfies (C .P) (level C i) (imageNf i i) i
+    pub fixes : conjNf C i i (uNf C i) ≡ uNf C i
+    pub inner : (k : ℕ) → k < i → level C i .mul (uNf C i) (iter (conjNf C i i) (C .P .p i) (genNf C i k)) ≡ level C i .mul (genNf C i k) (uNf C i)
+
+  pub record Group (i : ℕ) : Type 0 where
+    pub laws : Laws (level C i)
+    pub gen-value : (x : Nf C i) → value (level C i) (genNf C i) i (x .0) ≡ x
+    pub conj-value : (j : ℕ) → i ≤ j → (x : Nf C i) → value (level C i) (imageNf i j) i (x .0) ≡ conjNf C i j x
+    pub conj-gen : (j : ℕ) → i ≤ j → (k : ℕ) → k < i → imageNf i j k ≡ level C i .mul (genNf C i k) (value (level C i) (genNf C i) (suc k) (C .P .w k j))
+    pub satisfies : Satisfies (C .P) (level C i) (genNf C i) i
+
+  pub conj-one : (i : ℕ) → Group i → (j : ℕ) → i ≤ j → conjNf C i j (level C i .one) ≡ level C i .one
+  unfolding level
+  conj-one i G j l = sym (G .conj-value j l (level C i .one)) ∙ value-trivial (G .laws) (imageNf i j) i
+
+  module _ (i : ℕ) (G : Group i) (T : Test i) where
+    infixl 70 _*_
+    open Mul (level C i) using (mul as _*_, one)
+
+    abbrev f : Nf C i → Nf C i
+    f = conjNf C i i
+
+    abbrev u : Nf C i
+    u = uNf C i
+
+    abbrev p : ℕ
+    p = P .p i
+
+    images : Model P i (Nf C i)
+    images = record { product = level C i; laws = G .laws; h = imageNf i i; satisfies = T .keeps }
+
+    pub conj-mul : (x y : Nf C i) → conjNf C i i (level C i .mul x y) ≡ level C i .mul (conjNf C i i x) (conjNf C i i y)
+    unfolding level images
+    conj-mul x y = sym (G .conj-value i (omega arith) (x * y)) ∙ sound images i (omega arith) .mul-value (x .0) (y .0)
+        ∙ ap₂ (_*_) (G .conj-value i (omega arith) x) (G .conj-value i (omega arith) y)
+
+    -- f done p times is conjugation by u on the generators, hence everywhere
+    cyclic : Cyclic (level C i) p f u
+    cyclic = record {
+      laws = G .laws;
+      positive = omega (arith, two i);
+      f-one = conj-one i G i (omega arith);
+      f-mul = conj-mul;
+      f-u = T .fixes;
+      inner = λ x. subst Q (G .gen-value x) (value-ind (level C i) Q q-one q-mul (genNf C i) i (T .inner) (x .0));
+    }
+      where
+        Q : Nf C i → Type 0
+        Q x = u * iter f p x ≡ x * u
+
+        q-one : Q one
+        q-one = simp (iter-fix f one (conj-one i G i (omega arith)), G .laws .idl, G .laws .idr)
+
+        q-mul : (x y : Nf C i) → Q x → Q y → Q (x * y)
+        q-mul x y a b = simp (iter-op f (_*_) conj-mul, G .laws .assoc)
+            (sym (G .laws .assoc _ _ _) ∙ ap (λ t. t * iter f p y) a ∙ G .laws .assoc _ _ _ ∙ ap (λ t. x * t) b)
+
+    next : Laws (level C (suc i))
+    next = laws-suc C i cyclic
+
+    infixl 70 _⊛_
+    open Mul (level C (suc i)) using (mul as _⊛_)
+
+    abbrev rest : Nf C (suc i) → Nf C i
+    rest x = (x .0 .1, x .1 .1)
+
+    -- ---- Powers of the generator on top
+
+    conj-trivial : conj P i i (trivial i) ≡ trivial i
+    unfolding level conjNf
+    conj-trivial = ap (λ t. t .0) (conj-one i G i (omega arith))
+
+    -- (a, 1) (b, y) below the carry, and at the carry
+    top-below : (a b : ℕ) (y : NF i) → Valid P i y → a + b < p → mul P (suc i) (a, trivial i) (b, y) ≡ (a + b, y)
+    unfolding level
+    top-below a b y v l = mul-suc P i _ _ ∙ mulStep-below p (mul P i) (conj P i i) (P .u i) (a, trivial i) (b, y) l
+        ∙ ap (λ t. (a + b, mul P i t y)) (iter-fix (conj P i i) (trivial i) conj-trivial b) ∙ ap (λ t. (a + b, t .0)) (G .laws .idl (y, v))
+
+    top-over : (a b : ℕ) (y : NF i) → Valid P i y → p ≤ a + b → mul P (suc i) (a, trivial i) (b, y) ≡ (a + b - p, mul P i (P .u i) y)
+    unfolding level
+    top-over a b y v l = mul-suc P i _ _ ∙ mulStep-over p (mul P i) (conj P i i) (P .u i) (a, trivial i) (b, y) l
+        ∙ ap (λ t. (a + b - p, mul P i (P .u i) (mul P i t y))) (iter-fix (conj P i i) (trivial i) conj-trivial b)
+        ∙ ap (λ t. (a + b - p, mul P i (P .u i) (t .0))) (G .laws .idl (y, v))
+
+    power-top : (a : ℕ) → a < p → power (level C (suc i)) (top C i) a .0 ≡ (a, trivial i)
+    unfolding level top
+    power-top zero l = ap (λ t. t .0) (power-zero (level C (suc i)) (top C i)) ∙ trivial-suc i
+    power-top (suc a) l =
+        let q : 1 + a ≡ suc a = omega arith in
+        ap (λ t. t .0) (power-suc (level C (suc i)) (top C i) a) ∙ ap (mul P (suc i) (1, trivial i)) (power-top a (omega arith))
+        ∙ top-below 1 a (trivial i) (trivial-valid C i) (omega arith) ∙ ap (λ t. (t, trivial i)) q
+
+    power-top-p : power (level C (suc i)) (top C i) p ≡ low C i u
+    unfolding level top low uNf
+    power-top-p = Nf-path C (suc i) _ _ (ap (λ n. power (level C (suc i)) (top C i) n .0) q ∙ ap (λ t. t .0) (power-suc (level C (suc i)) (top C i) (p - 1))
+        ∙ ap (mul P (suc i) (1, trivial i)) (power-top (p - 1) (omega (arith, two i))) ∙ top-over 1 (p - 1) (trivial i) (trivial-valid C i) (omega (arith, two i))
+        ∙ ap₂ (λ s t. (s, t .0)) z (G .laws .idr u))
+      where
+        q : p ≡ suc (p - 1)
+        q = omega (arith, two i)
+
+        z : 1 + (p - 1) - p ≡ 0
+        z = omega (arith, two i)
+
+    -- ---- Values and conjugation one level up
+
+    value-climbs : (h : ℕ → Nf C i) (h′ : ℕ → Nf C (suc i)) → ((m : ℕ) → m < i → h′ m ≡ low C i (h m)) → (g : Nf C (suc i)) → h′ i ≡ g → (x : NF (suc i))
+        → value (level C (suc i)) h′ (suc i) x ≡ power (level C (suc i)) g (x .0) ⊛ low C i (value (level C i) h i (x .1))
+    value-climbs h h′ q g r x = value-suc (level C (suc i)) h′ i x ∙ ap₂ (λ s t. power (level C (suc i)) s (x .0) ⊛ t) r (low-value C i h h′ i q (x .1))
+
+    gen-value-suc : (x : Nf C (suc i)) → value (level C (suc i)) (genNf C (suc i)) (suc i) (x .0) ≡ x
+    unfolding level low
+    gen-value-suc x = value-climbs (genNf C i) (genNf C (suc i)) (λ m l. gen-low C i m l) (top C i) (gen-top C i) (x .0)
+        ∙ ap (λ t. power (level C (suc i)) (top C i) (x .0 .0) ⊛ low C i t) (G .gen-value (rest x)) ∙ Nf-path C (suc i) _ _ raw
+      where
+        z : x .0 .0 + 0 ≡ x .0 .0
+        z = omega arith
+
+        raw : (power (level C (suc i)) (top C i) (x .0 .0) ⊛ low C i (rest x)) .0 ≡ x .0
+        raw = ap (λ t. mul P (suc i) t (0, x .0 .1)) (power-top (x .0 .0) (x .1 .0)) ∙ top-below (x .0 .0) 0 (x .0 .1) (x .1 .1) (omega (arith, x .1 .0)) ∙ ap (λ t. (t, x .0 .1)) z
+
+    pub conj-low : (j : ℕ) → suc i ≤ j → (x : Nf C i) → conjNf C (suc i) j (low C i x) ≡ low C i (conjNf C i j x)
+    unfolding low
+    conj-low j l x = conj-clause C i j (low C i x) ∙ simp (power-zero, next .idl)
+
+    conj-top : (j : ℕ) → suc i ≤ j → conjNf C (suc i) j (top C i) ≡ top C i ⊛ wNf C i j
+    unfolding top level
+    conj-top j l = conj-clause C i j (top C i) ∙ ap₂ (_⊛_) (power-one next _) (ap (low C i) (conj-one i G j (omega arith)) ∙ low-hom C i .on-one) ∙ next .idr _
+
+    image-low : (j : ℕ) → suc i ≤ j → (m : ℕ) → m < i → imageNf (suc i) j m ≡ low C i (imageNf i j m)
+    image-low j l m h = ap (conjNf C (suc i) j) (gen-low C i m h) ∙ conj-low j l (genNf C i m)
+
+    image-top : (j : ℕ) → suc i ≤ j → imageNf (suc i) j i ≡ top C i ⊛ wNf C i j
+    image-top j l = ap (conjNf C (suc i) j) (gen-top C i) ∙ conj-top j l
+
+    conj-value-suc : (j : ℕ) → suc i ≤ j → (x : Nf C (suc i)) → value (level C (suc i)) (imageNf (suc i) j) (suc i) (x .0) ≡ conjNf C (suc i) j x
+    conj-value-suc j l x = value-climbs (imageNf i j) (imageNf (suc i) j) (image-low j l) (top C i ⊛ wNf C i j) (image-top j l) (x .0)
+        ∙ ap (λ t. power (level C (suc i)) (top C i ⊛ wNf C i j) (x .0 .0) ⊛ low C i t) (G .conj-value j (omega arith) (rest x)) ∙ sym (conj-clause C i j x)
+
+    gen-climbs : (k : ℕ) → k ≤ i → (x : NF k) → low C i (value (level C i) (genNf C i) k x) ≡ value (level C (suc i)) (genNf C (suc i)) k x
+    gen-climbs k l x = sym (low-value C i (genNf C i) (genNf C (suc i)) k (λ m h. gen-low C i m (omega arith)) x)
+
+    commutator-climbs : (j k : ℕ) → k < i → low C i (genNf C i k * value (level C i) (genNf C i) (suc k) (P .w k j))
+        ≡ genNf C (suc i) k ⊛ value (level C (suc i)) (genNf C (suc i)) (suc k) (P .w k j)
+    commutator-climbs j k a = low-hom C i .on-mul _ _ ∙ ap₂ (_⊛_) (sym (gen-low C i k a)) (gen-climbs (suc k) a (P .w k j))
+
+    conj-gen-suc : (j : ℕ) → suc i ≤ j → (k : ℕ) → k < suc i → imageNf (suc i) j k ≡ genNf C (suc i) k ⊛ value (level C (suc i)) (genNf C (suc i)) (suc k) (P .w k j)
+    unfolding wNf
+    conj-gen-suc j l = below-suc i (λ k. imageNf (suc i) j k ≡ genNf C (suc i) k ⊛ value (level C (suc i)) (genNf C (suc i)) (suc k) (P .w k j))
+        (λ k h. image-low j l k h ∙ ap (low C i) (G .conj-gen j (omega arith) k h) ∙ commutator-climbs j k h)
+        (image-top j l ∙ ap₂ (_⊛_) (sym (gen-top C i)) (sym (gen-value-suc (wNf C i j))))
+
+    -- ---- The relations one level up
+
+    pub low-top : (x : Nf C i) → level C (suc i) .mul (low C i x) (top C i) ≡ level C (suc i) .mul (top C i) (low C i (conjNf C i i x))
+    unfolding level low top conjNf
+    low-top x = Nf-path C (suc i) _ _ (mul-suc P i _ _ ∙ mulStep-below p (mul P i) (conj P i i) (P .u i) (0, x .0) (1, trivial i) (two i)
+        ∙ ap (λ t. (1, mul P i t (trivial i))) (iter-suc (conj P i i) 0 (x .0) ∙ iter-zero (conj P i i) _) ∙ ap (λ t. (1, t .0)) (G .laws .idr (f x))
+        ∙ sym (top-below 1 0 (f x .0) (f x .1) (omega (arith, two i))))
+
+    satisfies-suc : Satisfies P (level C (suc i)) (genNf C (suc i)) (suc i)
+    unfolding uNf
+    satisfies-suc = record { powers = below-suc i Power power-below power-at; commutators = λ k j a b. below-suc i Commutator commutator-below commutator-at j b k a }
+      where
+        Power : ℕ → Type 0
+        Power j = power (level C (suc i)) (genNf C (suc i) j) (P .p j) ≡ value (level C (suc i)) (genNf C (suc i)) j (P .u j)
+
+        power-below : (j : ℕ) → j < i → Power j
+        power-below j h = ap (λ g. power (level C (suc i)) g (P .p j)) (gen-low C i j h) ∙ sym (power-hom (low-hom C i) (genNf C i j) (P .p j))
+            ∙ ap (low C i) (G .satisfies .powers j h) ∙ gen-climbs j (omega arith) (P .u j)
+
+        power-at : Power i
+        power-at = ap (λ g. power (level C (suc i)) g (P .p i)) (gen-top C i) ∙ power-top-p ∙ ap (low C i) (sym (G .gen-value u)) ∙ gen-climbs i (omega arith) (P .u i)
+
+        Commutator : ℕ → Type 0
+        Commutator j = (k : ℕ) → k < j → genNf C (suc i) k ⊛ genNf C (suc i) j
+            ≡ genNf C (suc i) j ⊛ (genNf C (suc i) k ⊛ value (level C (suc i)) (genNf C (suc i)) (suc k) (P .w k j))
+
+        commutator-below : (j : ℕ) → j < i → Commutator j
+        commutator-below j h k a = ap₂ (_⊛_) (gen-low C i k (omega arith)) (gen-low C i j h) ∙ sym (low-hom C i .on-mul _ _)
+            ∙ ap (low C i) (G .satisfies .commutators k j a h) ∙ low-hom C i .on-mul _ _
+            ∙ ap₂ (_⊛_) (sym (gen-low C i j h)) (commutator-climbs j k (omega arith))
+
+        commutator-at : Commutator i
+        commutator-at k a = ap₂ (_⊛_) (gen-low C i k a) (gen-top C i) ∙ low-top (genNf C i k)
+            ∙ ap₂ (λ s t. s ⊛ low C i t) (sym (gen-top C i)) (G .conj-gen i (omega arith) k a) ∙ ap (λ t. genNf C (suc i) i ⊛ t) (commutator-climbs i k a)
+
+    group-suc : Group (suc i)
+    group-suc = record { laws = next; gen-value = gen-value-suc; conj-value = conj-value-suc; conj-gen = conj-gen-suc; satisfies = satisfies-suc }
+
+  group-zero : Group zero
+  group-zero = record {
+    laws = record { assoc = λ x y z. all _ _; idl = λ x. all _ _; idr = λ x. all _ _ };
+    gen-value = λ x. all _ _;
+    conj-value = λ j l x. all _ _;
+    conj-gen = λ j l k h. all _ _;
+    satisfies = record { powers = λ j l. all _ _; commutators = λ k j a b. all _ _ };
+  }
+    where
+      all : (x y : Nf C 0) → x ≡ y
+      all x y = Nf-path C 0 x y refl
+
+  climb : (i : ℕ) → ((k : ℕ) → k < i → Test k) → Group i
+  climb zero t = group-zero
+  climb (suc i) t = group-suc i (climb i (λ k l. t k (omega arith))) (t i (omega arith))
+
+-- ---- All levels
+
+pub record Tested : Type 0 where
+  pub context : Context
+  pub n : ℕ
+  pub tests : (i : ℕ) → i < n → Test context i
+
+module _ (T : Tested) where
+  pub group : (i : ℕ) → i ≤ T .n → Group (T .context) i
+  group i l = climb (T .context) i (λ k h. T .tests k (omega arith))
+
+  unfoldable pub model : (i : ℕ) → i ≤ T .n → Model (T .context .P) i (Nf (T .context) i)
+  model i l = record { product = level (T .context) i; laws = group i l .laws; h = genNf (T .context) i; satisfies = group i l .satisfies }

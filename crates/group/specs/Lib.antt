@@ -1,0 +1,3 @@
+-- The few definitions that the theory of normal forms needs beside those of the specification.
+pub mod Models
+pub mod Context

@@ -1,0 +1,50 @@
+-- Tests: both sides of a conjunction, and a choice whose test is known.
+--
+--   and-left, and-right, and-intro      a && b is true exactly if both are
+--   or-cases                            a || b is true: one of the two is
+--   cond-true, cond-false               a choice by a test that is known
+--   cond-lt, cond-ge, cond-eq, cond-ne  a choice by a comparison of numbers
+use mathlib.Core.Path.{_≡_, refl, ap}
+use mathlib.Core.Bool.{Bool, true, false, _&&_, _||_, cond, false≢true}
+use mathlib.Core.Logic.{_≢_}
+use Prim.Native.Nat.{ℕ, _≤_, _<_}
+use lib.Dec.{ltb, eqb}
+use borrow.Author.Tests.{lt-ltb, le-ltb, eq-eqb, ne-eqb}
+
+pub and-left : (a b : Bool) → a && b ≡ true → a ≡ true
+and-left true b h = refl
+and-left false b h = h
+
+pub and-right : (a b : Bool) → a && b ≡ true → b ≡ true
+and-right true b h = h
+and-right false b h = absurd (false≢true h)
+
+pub and-intro : (a b : Bool) → a ≡ true → b ≡ true → a && b ≡ true
+and-intro true b h k = k
+and-intro false b h k = h
+
+pub data OneOf (a b : Bool) : Type 0 where
+  first : a ≡ true → OneOf a b
+  second : b ≡ true → OneOf a b
+
+pub or-cases : (a b : Bool) → a || b ≡ true → OneOf a b
+or-cases true b h = first refl
+or-cases false b h = second h
+
+pub cond-true : {A : Type 0} (b : Bool) (x y : A) → b ≡ true → cond b x y ≡ x
+cond-true b x y h = ap (λ t. cond t x y) h
+
+pub cond-false : {A : Type 0} (b : Bool) (x y : A) → b ≡ false → cond b x y ≡ y
+cond-false b x y h = ap (λ t. cond t x y) h
+
+pub cond-lt : {A : Type 0} (m n : ℕ) (x y : A) → m < n → cond (ltb m n) x y ≡ x
+cond-lt m n x y l = cond-true (ltb m n) x y (lt-ltb m n l)
+
+pub cond-ge : {A : Type 0} (m n : ℕ) (x y : A) → n ≤ m → cond (ltb m n) x y ≡ y
+cond-ge m n x y l = cond-false (ltb m n) x y (le-ltb m n l)
+
+pub cond-eq : {A : Type 0} (m n : ℕ) (x y : A) → m ≡ n → cond (eqb m n) x y ≡ x
+cond-eq m n x y q = cond-true (eqb m n) x y (eq-eqb m n q)
+
+pub cond-ne : {A : Type 0} (m n : ℕ) (x y : A) → m ≢ n → cond (eqb m n) x y ≡ y
+cond-ne m n x y q = cond-false (eqb m n) x y (ne-eqb m n q)

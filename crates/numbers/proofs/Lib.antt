@@ -1,0 +1,3 @@
+-- Laws that the kit lacks, about the functions of the definitions that are not of one subject.
+pub mod Bools
+pub mod Lists

@@ -1,0 +1,96 @@
+-- Laws of the counted lists, tests and iterates that the definitions share.
+--
+--   below-suc                         a number below suc i is below i, or i
+--   allBelow-elim, allBelow-intro     a test of every number below n, and what it says
+--   all-getD                          a test of every element, at an index
+--   iter-zero, iter-suc, iter-add     iterates, their clauses and their sum
+--   iter-map, iter-op, iter-fix       iterates under a map, of a product, at a fixed point
+--   length-upto, length-blocks        lengths
+--   sum-ext, sum-mono                 equal terms; a longer sum is at least as large
+use mathlib.Core.Path.{_≡_, refl, sym, _∙_, ap, ap₂, subst}
+use mathlib.Core.Bool.{Bool, true}
+use mathlib.Core.List.{List, [], _∷_}
+use Prim.Native.Nat.{ℕ, zero, suc, _+_, _≤_, _<_}
+use native.Mathlib.Nat.{zero-add, suc-add}
+use native.Mathlib.Omega.{arith}
+use native.Mathlib.Decide.{decLt}
+use lib.ListN.{length, getD, length-append}
+use Rattle.definitions.specs.Lists.{upto, blocks, sum, allBelow, all, iter}
+use Rattle.numbers.proofs.Bools.{and-left, and-right, and-intro}
+
+pub below-suc : (i : ℕ) (Q : ℕ → Type 0) → ((k : ℕ) → k < i → Q k) → Q i → (k : ℕ) → k < suc i → Q k
+below-suc i Q below top k l = go (decLt k i)
+  where
+    go : Dec (k < i) → Q k
+    go (yes h) = below k h
+    go (no h) = let q : i ≡ k = omega arith in subst Q q top
+
+-- ---- Tests
+
+pub allBelow-elim : (n : ℕ) (q : ℕ → Bool) → allBelow n q ≡ true → (k : ℕ) → k < n → q k ≡ true
+unfolding allBelow
+allBelow-elim zero q h k l = absurd (omega arith)
+allBelow-elim (suc n) q h k l = below-suc n (λ k. q k ≡ true) (allBelow-elim n q (and-left (allBelow n q) (q n) h)) (and-right (allBelow n q) (q n) h) k l
+
+pub allBelow-intro : (n : ℕ) (q : ℕ → Bool) → ((k : ℕ) → k < n → q k ≡ true) → allBelow n q ≡ true
+unfolding allBelow
+allBelow-intro zero q h = refl
+allBelow-intro (suc n) q h = and-intro _ _ (allBelow-intro n q (λ k l. h k (omega arith))) (h n (omega arith))
+
+pub all-getD : {A : Type 0} (q : A → Bool) (xs : List A) (d : A) → all q xs ≡ true → (k : ℕ) → k < length xs → q (getD xs k d) ≡ true
+unfolding all
+all-getD q [] d h k l = absurd (omega arith)
+all-getD q (x ∷ xs) d h zero l = and-left (q x) (all q xs) h
+all-getD q (x ∷ xs) d h (suc k) l = all-getD q xs d (and-right (q x) (all q xs) h) k (omega arith)
+
+-- ---- Iterates
+
+pub iter-zero : {A : Type 0} (f : A → A) (x : A) → iter f zero x ≡ x
+unfolding iter
+iter-zero f x = refl
+
+pub iter-suc : {A : Type 0} (f : A → A) (k : ℕ) (x : A) → iter f (suc k) x ≡ iter f k (f x)
+unfolding iter
+iter-suc f k x = refl
+
+pub iter-add : {A : Type 0} (f : A → A) (k l : ℕ) (x : A) → iter f l (iter f k x) ≡ iter f (k + l) x
+iter-add f zero l x = simp (iter-zero, zero-add)
+iter-add f (suc k) l x = simp (suc-add, iter-suc, iter-add f k l (f x))
+
+pub iter-map : {A B : Type 0} (φ : A → B) (f : A → A) (g : B → B) → ((x : A) → φ (f x) ≡ g (φ x)) → (k : ℕ) (x : A) → φ (iter f k x) ≡ iter g k (φ x)
+iter-map φ f g h zero x = simp iter-zero
+iter-map φ f g h (suc k) x = simp (iter-suc, iter-map φ f g h k (f x), h)
+
+pub iter-op : {A : Type 0} (f : A → A) (m : A → A → A) → ((x y : A) → f (m x y) ≡ m (f x) (f y)) → (k : ℕ) (x y : A) → iter f k (m x y) ≡ m (iter f k x) (iter f k y)
+iter-op f m h zero x y = simp iter-zero
+iter-op f m h (suc k) x y = simp (iter-suc, h, iter-op f m h k (f x) (f y))
+
+pub iter-fix : {A : Type 0} (f : A → A) (x : A) → f x ≡ x → (k : ℕ) → iter f k x ≡ x
+iter-fix f x h zero = simp iter-zero
+iter-fix f x h (suc k) = simp (iter-suc, h, iter-fix f x h k)
+
+-- ---- Lengths and sums
+
+pub length-upto : (n : ℕ) → length (upto n) ≡ n
+unfolding upto
+length-upto zero = refl
+length-upto (suc n) = length-append (upto n) (n ∷ []) ∙ omega (arith, length-upto n)
+
+pub length-blocks : {A : Type 0} (n : ℕ) (f : ℕ → List A) → length (blocks n f) ≡ sum n (λ k. length (f k))
+unfolding blocks sum
+length-blocks zero f = refl
+length-blocks (suc n) f = length-append (blocks n f) (f n) ∙ ap (λ t. t + length (f n)) (length-blocks n f)
+
+pub sum-ext : (n : ℕ) (f g : ℕ → ℕ) → ((k : ℕ) → f k ≡ g k) → sum n f ≡ sum n g
+unfolding sum
+sum-ext zero f g h = refl
+sum-ext (suc n) f g h = ap₂ (λ s t. s + t) (sum-ext n f g h) (h n)
+
+pub sum-mono : (n m : ℕ) (f : ℕ → ℕ) → n ≤ m → sum n f ≤ sum m f
+unfolding sum
+sum-mono n zero f l = let q : n ≡ 0 = omega arith in subst (λ k. sum k f ≤ sum 0 f) (sym q) (omega arith)
+sum-mono n (suc m) f l = go (λ h. sum-mono n m f h) (decLt n (suc m))
+  where
+    go : (n ≤ m → sum n f ≤ sum m f) → Dec (n < suc m) → sum n f ≤ sum (suc m) f
+    go r (yes h) = omega (arith, r (omega arith))
+    go r (no h) = let q : suc m ≡ n = omega arith in subst (λ k. sum k f ≤ sum (suc m) f) q (omega arith)
