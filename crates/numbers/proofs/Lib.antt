@@ -1,3 +1,4 @@
 -- Laws that the kit lacks, about the functions of the definitions that are not of one subject.
 pub mod Bools
 pub mod Lists
+pub mod Iterates

@@ -1,0 +1,3 @@
+-- The step from one level to the next.
+pub mod Defect
+pub mod Top

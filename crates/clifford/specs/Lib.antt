@@ -1,0 +1,2 @@
+-- What one step up the chief series needs.
+pub mod Extension

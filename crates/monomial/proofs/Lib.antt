@@ -1,0 +1,5 @@
+-- The laws of monomial matrices.
+pub mod Exponents
+pub mod Maps
+pub mod Schur
+pub mod Over
