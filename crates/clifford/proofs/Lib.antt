@@ -1,3 +1,4 @@
 -- The step from one level to the next.
 pub mod Defect
 pub mod Top
+pub mod Step
