@@ -2,3 +2,4 @@
 pub mod Defect
 pub mod Top
 pub mod Step
+pub mod Levels
