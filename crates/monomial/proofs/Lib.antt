@@ -3,3 +3,4 @@ pub mod Exponents
 pub mod Maps
 pub mod Schur
 pub mod Over
+pub mod Residues

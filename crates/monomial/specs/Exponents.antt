@@ -4,8 +4,9 @@
 --   total 𝓔 g n        g 0 + g 1 + .. + g (n - 1)
 --   times 𝓔 n x        n times x
 --   Residue m          the numbers below m
+--   Parts m            a divisor p of m, above 1
 use mathlib.Core.Path.{_≡_}
-use Prim.Native.Nat.{ℕ, zero, suc, _<_}
+use Prim.Native.Nat.{ℕ, zero, suc, _*_, _<_}
 
 pub record Exponents (E : Type 0) : Type 0 where
   pub add : E → E → E
@@ -26,3 +27,9 @@ module _ {E : Type 0} (𝓔 : Exponents E) where
 
 abbrev pub Residue : ℕ → Type 0
 Residue m = (x : ℕ) × (x < m)
+
+pub record Parts (m : ℕ) : Type 0 where
+  pub p : ℕ
+  pub share : ℕ
+  pub two : 1 < p
+  pub split : m ≡ p * share

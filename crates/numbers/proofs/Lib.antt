@@ -2,3 +2,6 @@
 pub mod Bools
 pub mod Lists
 pub mod Iterates
+pub mod Prime
+pub mod Searches
+pub mod Orbits
