@@ -121,6 +121,7 @@ module _ (T : Tested) (i : ℕ) (l : i < T .n) where
     inv-right = inverse-right T i i≤n;
     inv-left = inverse-left T i i≤n;
     order = order (C .P) i;
+    order-pos = order-positive C i;
     order-one = order-one T i i≤n;
     period = λ j. order (C .P) (suc j);
     period-pos = λ j. order-positive C (suc j);

@@ -3,3 +3,4 @@ pub mod Defect
 pub mod Top
 pub mod Step
 pub mod Levels
+pub mod Scalars

@@ -16,6 +16,7 @@ pub record Extension {G G⁺ : Type 0} (𝓖 : Mul G) (𝓖⁺ : Mul G⁺) (conj
   pub inv-right : (x : G) → 𝓖 .mul x (inv x) ≡ 𝓖 .one
   pub inv-left : (x : G) → 𝓖 .mul (inv x) x ≡ 𝓖 .one
   pub order : ℕ
+  pub order-pos : 0 < order
   pub order-one : (x : G) → power 𝓖 x order ≡ 𝓖 .one
   -- conjugation by a generator has finite order
   pub period : ℕ → ℕ
