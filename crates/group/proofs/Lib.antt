@@ -4,6 +4,7 @@ pub mod Clauses
 pub mod Sound
 pub mod Cyclic
 pub mod Level
+pub mod Units
 pub mod Group
 pub mod Order
 pub mod Conjugation
