@@ -5,3 +5,5 @@ pub mod Iterates
 pub mod Prime
 pub mod Searches
 pub mod Orbits
+pub mod Sums
+pub mod Blocks

@@ -1,0 +1,66 @@
+-- Entries of mapped, counted and concatenated lists.
+--
+--   getD-map, getD-upto          an entry of a mapped list; entry k of 0, 1, .. is k
+--   getD-table                   an entry of a list given by a function
+--   getD-blocks                  an entry of f 0 ++ f 1 ++ ..: entry κ of stretch s
+--   length-even, getD-even       the same where all stretches have one length
+use mathlib.Core.Path.{_≡_, refl, sym, _∙_, ap, subst}
+use mathlib.Core.List.{List, [], _∷_, _++_, map}
+use Prim.Native.Nat.{ℕ, zero, suc, _+_, _*_, _<_}
+use native.Mathlib.Omega.{arith}
+use native.Mathlib.Decide.{decLt}
+use lib.ListN.{length, getD, length-append, length-map, List·getD-append}
+use lib.Seq.{getD-append-add}
+use Rattle.definitions.specs.Lists.{upto, blocks, sum}
+use Rattle.numbers.proofs.Lists.{length-upto, length-blocks}
+use Rattle.numbers.proofs.Sums.{sum-zero, sum-suc, sum-below, sum-const, stretch-below}
+
+pub getD-map : {A B : Type 0} (f : A → B) (xs : List A) (k : ℕ) (d : A) (e : B) → k < length xs → getD (map f xs) k e ≡ f (getD xs k d)
+getD-map f [] k d e l = absurd (omega arith)
+getD-map f (x ∷ xs) zero d e l = refl
+getD-map f (x ∷ xs) (suc k) d e l = getD-map f xs k d e (omega arith)
+
+pub getD-upto : (n k : ℕ) → k < n → getD (upto n) k 0 ≡ k
+unfolding upto
+getD-upto zero k l = absurd (omega arith)
+getD-upto (suc n) k l = go (decLt k n) (λ h. getD-upto n k h)
+  where
+    go : Dec (k < n) → (k < n → getD (upto n) k 0 ≡ k) → getD (upto n ++ (n ∷ [])) k 0 ≡ k
+    go (yes h) r = List·getD-append (upto n) (n ∷ []) 0 k (subst (λ s. k < s) (sym (length-upto n)) h) ∙ r h
+    go (no h) r =
+        let e : k ≡ length (upto n) + 0 = omega (arith, length-upto n) in
+        let q : n ≡ k = omega arith in
+        ap (λ s. getD (upto n ++ (n ∷ [])) s 0) e ∙ getD-append-add (upto n) (n ∷ []) 0 0 ∙ q
+
+pub getD-table : {B : Type 0} (f : ℕ → B) (n k : ℕ) (e : B) → k < n → getD (map f (upto n)) k e ≡ f k
+getD-table f n k e l = getD-map f (upto n) k 0 e (subst (λ s. k < s) (sym (length-upto n)) l) ∙ ap f (getD-upto n k l)
+
+pub length-table : {B : Type 0} (f : ℕ → B) (n : ℕ) → length (map f (upto n)) ≡ n
+length-table f n = length-map (upto n) f ∙ length-upto n
+
+pub getD-blocks : {A : Type 0} (d : A) (N : ℕ) (f : ℕ → List A) (s κ : ℕ) → s < N → κ < length (f s) → getD (blocks N f) (sum s (λ k. length (f k)) + κ) d ≡ getD (f s) κ d
+unfolding blocks
+getD-blocks d zero f s κ a b = absurd (omega arith)
+getD-blocks {A} d (suc N) f s κ a b = go (λ h. getD-blocks d N f s κ h b) (decLt s N)
+  where
+    w : ℕ → ℕ
+    w k = length (f k)
+
+    go : (s < N → getD (blocks N f) (sum s w + κ) d ≡ getD (f s) κ d) → Dec (s < N) → getD (blocks N f ++ f N) (sum s w + κ) d ≡ getD (f s) κ d
+    go r (yes h) = List·getD-append (blocks N f) (f N) d (sum s w + κ) (subst (λ z. sum s w + κ < z) (sym (length-blocks N f)) (stretch-below w s κ N b h)) ∙ r h
+    go r (no h) =
+        let e : s ≡ N = omega arith in
+        ap (λ z. getD (blocks N f ++ f N) (z + κ) d) (ap (λ s. sum s w) e ∙ sym (length-blocks N f)) ∙ getD-append-add (blocks N f) (f N) κ d ∙ ap (λ z. getD (f z) κ d) (sym e)
+
+-- ---- Stretches of one length
+
+module _ {A : Type 0} (f : ℕ → List A) (w : ℕ) where
+  even-start : (s : ℕ) → ((k : ℕ) → k < s → length (f k) ≡ w) → sum s (λ k. length (f k)) ≡ s * w
+  even-start s h = sum-below s (λ k. length (f k)) (λ k. w) h ∙ sum-const s w
+
+  pub length-even : (N : ℕ) → ((k : ℕ) → k < N → length (f k) ≡ w) → length (blocks N f) ≡ N * w
+  length-even N h = length-blocks N f ∙ even-start N h
+
+  pub getD-even : (d : A) (N s κ : ℕ) → ((k : ℕ) → k < N → length (f k) ≡ w) → s < N → κ < w → getD (blocks N f) (s * w + κ) d ≡ getD (f s) κ d
+  getD-even d N s κ h a b =
+      ap (λ z. getD (blocks N f) (z + κ) d) (sym (even-start s (λ k l. h k (omega arith)))) ∙ getD-blocks d N f s κ a (subst (λ z. κ < z) (sym (h s a)) b)
