@@ -4,3 +4,4 @@ pub mod Maps
 pub mod Schur
 pub mod Over
 pub mod Residues
+pub mod Frames

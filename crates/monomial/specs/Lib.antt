@@ -3,3 +3,4 @@ pub mod Exponents
 pub mod Maps
 pub mod Families
 pub mod Over
+pub mod Frames
