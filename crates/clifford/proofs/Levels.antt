@@ -28,6 +28,22 @@ module _ (C : Context) (i : ℕ) where
   abbrev pub restNf : Nf C (suc i) → Nf C i
   restNf x = (x .0 .1, x .1 .1)
 
+  pub exponent-low : (x : Nf C i) → exponentNf (low C i x) ≡ 0
+  unfolding low
+  exponent-low x = refl
+
+  pub rest-low : (x : Nf C i) → restNf (low C i x) ≡ x
+  unfolding low
+  rest-low x = refl
+
+  pub exponent-top : exponentNf (top C i) ≡ 1
+  unfolding top
+  exponent-top = refl
+
+  pub rest-top : restNf (top C i) ≡ level C i .one
+  unfolding top level
+  rest-top = Nf-path C i _ _ refl
+
   conj-iter : (k : ℕ) (x : Nf C i) → (iter (conjNf C i i) k x) .0 ≡ iter (conj (C .P) i i) k (x .0)
   unfolding conjNf
   conj-iter k x = iter-map (λ (x : Nf C i). x .0) (conjNf C i i) (conj (C .P) i i) (λ x. refl) k x
@@ -75,7 +91,7 @@ module _ (C : Context) (i : ℕ) where
             ap₂ (λ s t. pow s * d t) a b ∙ ap (λ s. pow (exponentNf x + exponentNf z - C .P .p i) * s) (H .on-mul _ _ ∙ ap (λ s. s * d (level C i .mul (iter (conjNf C i i) (exponentNf z) (restNf x)) (restNf z))) (sym root))
             ∙ sym (assoc _ _ _) ∙ ap (λ s. s * d (level C i .mul (iter (conjNf C i i) (exponentNf z) (restNf x)) (restNf z))) (sym (power-add 𝓛 y _ _) ∙ ap pow e) ∙ together _ _ _ _
 
-    raise : Hom (level C (suc i)) 𝓜 (λ x. pow (exponentNf x) * d (restNf x))
+    pub raise : Hom (level C (suc i)) 𝓜 (λ x. 𝓜 .mul (power 𝓜 y (exponentNf x)) (d (restNf x)))
     unfolding level trivial
     raise = record {
       on-one = ap₂ (_*_) (power-zero 𝓜 y) (ap d (Nf-path C i _ _ refl) ∙ H .on-one) ∙ idl _;
@@ -83,37 +99,36 @@ module _ (C : Context) (i : ℕ) where
     }
 
 module _ (T : Tested) (i : ℕ) (l : i < T .n) where
-  abbrev C : Context
+  abbrev pub C : Context
   C = T .context
 
-  abbrev i≤n : i ≤ T .n
+  abbrev pub i≤n : i ≤ T .n
   i≤n = omega arith
 
   infixl 70 _⊛_
   open Mul (level C (suc i)) using (mul as _⊛_)
 
   -- an element is the value of its exponents
-  decomposed : (x : Nf C (suc i)) → x ≡ power (level C (suc i)) (top C i) (exponentNf C i x) ⊛ low C i (restNf C i x)
+  pub decomposed : (x : Nf C (suc i)) → x ≡ power (level C (suc i)) (top C i) (exponentNf C i x) ⊛ low C i (restNf C i x)
   decomposed x =
       sym (group T (suc i) l .gen-value x) ∙ value-suc (level C (suc i)) (genNf C (suc i)) i (x .0)
       ∙ ap₂ (λ g t. power (level C (suc i)) g (x .0 .0) ⊛ t) (gen-top C i)
       (low-value C i (genNf C i) (genNf C (suc i)) i (λ k a. gen-low C i k a) (x .0 .1) ∙ ap (low C i) (group T i i≤n .gen-value (restNf C i x)))
 
-  top-power : power (level C (suc i)) (top C i) (C .P .p i) ≡ low C i (uNf C i)
+  pub top-power : power (level C (suc i)) (top C i) (C .P .p i) ≡ low C i (uNf C i)
   unfolding uNf
   top-power =
       ap (λ g. power (level C (suc i)) g (C .P .p i)) (sym (gen-top C i)) ∙ group T (suc i) l .satisfies .powers i (omega arith)
       ∙ low-value C i (genNf C i) (genNf C (suc i)) i (λ k a. gen-low C i k a) (C .P .u i) ∙ ap (low C i) (group T i i≤n .gen-value (uNf C i))
 
-  conj-top : (j : ℕ) → i < j → conjNf C (suc i) j (top C i) ≡ power (level C (suc i)) (top C i) (suc (C .P .w i j .0)) ⊛ low C i (restNf C i (wNf C i j))
+  pub conj-top : (j : ℕ) → i < j → conjNf C (suc i) j (top C i) ≡ power (level C (suc i)) (top C i) (suc (C .P .w i j .0)) ⊛ low C i (restNf C i (wNf C i j))
   unfolding wNf
   conj-top j ij =
       ap (conjNf C (suc i) j) (sym (gen-top C i)) ∙ group T (suc i) l .conj-gen j (omega arith) i (omega arith)
       ∙ ap₂ (_⊛_) (gen-top C i) (group T (suc i) l .gen-value (wNf C i j) ∙ decomposed (wNf C i j)) ∙ sym (group T (suc i) l .laws .assoc _ _ _)
       ∙ ap (λ s. s ⊛ low C i (restNf C i (wNf C i j))) (sym (power-suc (level C (suc i)) (top C i) (C .P .w i j .0)))
 
-  pub extension : Extension (level (T .context) i) (level (T .context) (suc i)) (conjNf (T .context) i) (conjNf (T .context) (suc i)) i (T .n)
-  unfolding low top level
+  abbrev pub extension : Extension (level (T .context) i) (level (T .context) (suc i)) (conjNf (T .context) i) (conjNf (T .context) (suc i)) i (T .n)
   extension = record {
     in-range = l;
     laws = group T i i≤n .laws;
@@ -136,10 +151,10 @@ module _ (T : Tested) (i : ℕ) (l : i < T .n) where
     exponent = exponentNf C i;
     rest = restNf C i;
     decompose = decomposed;
-    exponent-low = λ x. refl;
-    rest-low = λ x. refl;
-    exponent-top = refl;
-    rest-top = Nf-path C i _ _ refl;
+    exponent-low = exponent-low C i;
+    rest-low = rest-low C i;
+    exponent-top = exponent-top C i;
+    rest-top = rest-top C i;
     low-top = low-top C i (group T i i≤n) (T .tests i l);
     top-power = top-power;
     extend = raise C i;

@@ -4,3 +4,4 @@ pub mod Top
 pub mod Step
 pub mod Levels
 pub mod Scalars
+pub mod Numbering
