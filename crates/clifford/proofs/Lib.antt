@@ -5,3 +5,4 @@ pub mod Step
 pub mod Levels
 pub mod Scalars
 pub mod Numbering
+pub mod Indices
