@@ -6,3 +6,4 @@ pub mod Levels
 pub mod Scalars
 pub mod Numbering
 pub mod Indices
+pub mod Extensions

@@ -3,7 +3,7 @@
 -- that close.
 --
 --   Roots             an exponent ε with p different multiples
---   numbered κ        the scalars of the extension of number κ
+--   numbered κ        the scalars of the extension of number κ; numbered-zero: those of number 0
 --   Step              what the next level is, over the level below
 --   next              a Step is a family of the next level
 use mathlib.Core.Path.{_≡_, refl, sym, _∙_, ap, ap₂, subst, fun-ext}
@@ -18,7 +18,7 @@ use Rattle.monomial.specs.Exponents.{Exponents, total, times}
 use Rattle.monomial.specs.Maps.{Map, compose, maps, diagonal}
 use Rattle.monomial.specs.Families.{Separated, Family}
 use Rattle.monomial.specs.Over.{At, Over}
-use Rattle.monomial.proofs.Exponents.{idr, lcomm, cancel, total-add, times-nil, times-swap}
+use Rattle.monomial.proofs.Exponents.{idr, lcomm, cancel, total-zero, total-add, times-nil, times-swap}
 use Rattle.monomial.proofs.Maps.{pair, column, at-mul, mul-at, maps-laws, power-diagonal}
 use Rattle.monomial.proofs.Over.{over-one, over-mul, at-same, over-same}
 use Rattle.monomial.proofs.Schur.{rep-power}
@@ -61,13 +61,18 @@ module _ {G G⁺ : Type 0} {𝓖 : Mul G} {𝓖⁺ : Mul G⁺} {conj : ℕ → G
             ap (λ s. add s (defect S F a)) (total-add 𝓔 (λ k. σ (iter τ k (rep a))) (λ k. ε^ κ) p
             ∙ ap (add (total 𝓔 (λ k. σ (iter τ k (rep a))) p)) (times-swap 𝓔 p κ (R .ε) ∙ ap (times 𝓔 κ) (R .ε-p) ∙ times-nil 𝓔 κ) ∙ idr 𝓔 _) ∙ 𝓢 .norm a
 
-    Y-numbered : (κ : ℕ) → Y S F (numbered κ) ≡ Y S F 𝓢 * diagonal 𝓔 Ω (λ a. ε^ κ)
-    unfolding numbered Y maps compose diagonal
-    Y-numbered κ = fun-ext (λ a. pair 𝓔 refl (sym (𝓔 .assoc _ _ _)))
-
     pub Y-numbered-at : (κ : ℕ) (a : Ω) → Y S F (numbered κ) a ≡ ((X i a) .0, add ((X i a) .1) (add (σ (rep a)) (ε^ κ)))
     unfolding numbered
     Y-numbered-at κ a = Y-at S F (numbered κ) a
+
+    -- number 0 adds nothing
+    pub numbered-zero : raised S F (numbered 0) ≡ raised S F 𝓢
+    unfolding raised
+    numbered-zero = fun-ext (λ x. ap (λ y. pow y (exponent x) * d (S .rest x)) (fun-ext (λ a. Y-numbered-at 0 a ∙ pair 𝓔 refl (ap (add ((X i a) .1)) (ap (add (σ (rep a))) (total-zero 𝓔 (λ k. R .ε)) ∙ idr 𝓔 _)) ∙ sym (Y-at S F 𝓢 a))))
+
+    Y-numbered : (κ : ℕ) → Y S F (numbered κ) ≡ Y S F 𝓢 * diagonal 𝓔 Ω (λ a. ε^ κ)
+    unfolding numbered Y maps compose diagonal
+    Y-numbered κ = fun-ext (λ a. pair 𝓔 refl (sym (𝓔 .assoc _ _ _)))
 
     power-numbered : (κ k : ℕ) (a : Ω) → pow (Y S F (numbered κ)) k a ≡ ((pow (Y S F 𝓢) k a) .0, add (times 𝓔 k (ε^ κ)) ((pow (Y S F 𝓢) k a) .1))
     power-numbered κ k a = ap (λ f. pow f k a) (Y-numbered κ) ∙ power-diagonal 𝓔 (Y S F 𝓢) (λ a. ε^ κ) k a

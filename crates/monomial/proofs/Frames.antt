@@ -3,7 +3,7 @@
 --   shows-one, shows-mul, shows-power, shows-value      products of matrices show products of maps
 --   shows-scale                                         a scalar multiple shows a map with a scalar behind it
 --   shows-inverse                                       the inverse shows the inverse map
---   shows-map                                           one matrix shows equal maps
+--   shows-map, shows-on                                 one matrix shows equal maps
 --   same-shown, shown-same                              equal maps exactly where the matrices pass as equal
 --   shows-valid                                         what shows a map with an inverse is valid
 use mathlib.Core.Path.{_≡_, refl, sym, _∙_, ap, ap₂, subst}
@@ -96,6 +96,14 @@ module _ (m : ℕ) (pos : 0 < m) {Ω : Type 0} (Φ : Frame Ω) where
 
   pub shows-map : {r s : ℕ} {M : Matrix} {A B : Map (residues m pos) Ω} → Shows m Φ r s M A → A ≡ B → Shows m Φ r s M B
   shows-map {r} {s} {M} p q = subst (λ (A : Map (residues m pos) Ω). Shows m Φ r s M A) q p
+
+  -- only what the map does on the representation counts
+  pub shows-on : {r s : ℕ} {M : Matrix} {A B : Map (residues m pos) Ω} → Shows m Φ r s M A → ((a : Ω) → Φ .rep a ≡ r → A a ≡ B a) → Shows m Φ r s M B
+  shows-on p h = record {
+    size = p .size;
+    leads = λ a e. ap (λ z. rep (z .0)) (sym (h a e)) ∙ p .leads a e;
+    shown = λ a e. p .shown a e ∙ ap (λ z. entry (at (z .0)) (z .1 .0)) (h a e);
+  }
 
   -- a scalar c behind A
   pub shows-scale : {r s : ℕ} {M : Matrix} {A B : Map (residues m pos) Ω} (c : ℕ) → Shows m Φ r s M A
