@@ -7,3 +7,4 @@ pub mod Scalars
 pub mod Numbering
 pub mod Indices
 pub mod Extensions
+pub mod Next

@@ -118,7 +118,7 @@ module _ {G G⁺ : Type 0} {𝓖 : Mul G} {𝓖⁺ : Mul G⁺} {conj : ℕ → G
         infixl 70 _*′_
         open Mul (maps 𝓔 Ω′) using (mul as _*′_)
 
-        hom′ : Hom 𝓖⁺ (maps 𝓔 Ω′) d′
+        pub hom′ : Hom 𝓖⁺ (maps 𝓔 Ω′) d′
         hom′ = record {
           on-one = over-same 𝓔 base number (N .injective) _ _ _ _ (N .over _) (over-one 𝓔 base number) (λ κ. raised-hom S F (numbered κ) .on-one);
           on-mul = λ x y. over-same 𝓔 base number (N .injective) _ _ _ _ (N .over _)
@@ -229,7 +229,7 @@ module _ {G G⁺ : Type 0} {𝓖 : Mul G} {𝓖⁺ : Mul G⁺} {conj : ℕ → G
               ap (λ s. X′ j *′ s) (ap d′ (S .conj⁺-hom j ij jn .on-mul x y) ∙ hom′ .on-mul _ _) ∙ sym (assoc′ _ _ _) ∙ ap (λ s. s *′ d′ (conj⁺ j y)) a
               ∙ assoc′ _ _ _ ∙ ap (λ s. d′ x *′ s) b ∙ sym (assoc′ _ _ _) ∙ ap (λ s. s *′ X′ j) (sym (hom′ .on-mul x y))
 
-          past′ : (x : G⁺) → X′ j *′ d′ (conj⁺ j x) ≡ d′ x *′ X′ j
+          pub past′ : (x : G⁺) → X′ j *′ d′ (conj⁺ j x) ≡ d′ x *′ X′ j
           unfolding Past
           past′ x = subst Past (sym (S .decompose x)) (past-mul _ _ (power-ind 𝓖⁺ Past past-one past-mul top past-top (exponent x)) (past-low (S .rest x)))
 
@@ -238,12 +238,12 @@ module _ {G G⁺ : Type 0} {𝓖 : Mul G} {𝓖⁺ : Mul G⁺} {conj : ℕ → G
         to : (w : G⁺) (x y : Ω′) (s : E) → raised S F (numbered (number x)) w (base x) ≡ (base y, s) → number x ≡ number y → d′ w x ≡ (y, s)
         to w x y s h k = let o = N .over w x in λ j. (N .injective ((d′ w x) .0) y (o .is-base ∙ ap (λ s. s .0) h) (o .is-number ∙ k) j, (o .is-exponent ∙ ap (λ s. s .1) h) j)
 
-        inside′ : (w : G⁺) (x : Ω′) → rep′ ((d′ w x) .0) ≡ rep′ x
+        pub inside′ : (w : G⁺) (x : Ω′) → rep′ ((d′ w x) .0) ≡ rep′ x
         inside′ w x =
             let o = N .over w x in
             sym (N .one-rep x ((d′ w x) .0) (sym (o .is-number)) (exponent w) (sym (ap rep (o .is-base) ∙ raised-leads S F (numbered (number x)) w (base x))))
 
-        reached′ : (x y : Ω′) → rep′ x ≡ rep′ y → (w : G⁺) × ((d′ w x) .0 ≡ y)
+        pub reached′ : (x y : Ω′) → rep′ x ≡ rep′ y → (w : G⁺) × ((d′ w x) .0 ≡ y)
         reached′ x y h =
             let (k, (m, r)) = N .one-orbit x y h in
             let 𝓨 = numbered (number x) in
@@ -288,7 +288,7 @@ module _ {G G⁺ : Type 0} {𝓖 : Mul G} {𝓖⁺ : Mul G⁺} {conj : ℕ → G
                 column 𝓔 (raised-hom S F (numbered κ) .on-mul _ _ ∙ ap₂ (_*_) (raised-low S F (numbered κ) w) (raised-top S F (numbered κ))) a
                 ∙ mul-at 𝓔 (d w) (Y S F (numbered κ)) a _ _ (Y-numbered-at κ a) ∙ pair 𝓔 e (group₃ _ _ _ _)
 
-        separated′ : (x y : Ω′) → ¬ (x ≡ y) → Separated 𝓔 Ω′ d′ x y
+        pub separated′ : (x y : Ω′) → ¬ (x ≡ y) → Separated 𝓔 Ω′ d′ x y
         separated′ x y h = go (F .decide (base x) (base y)) (ℕ-discrete (τ (rep (base x))) (rep (base x)))
           where
             go : Dec (base x ≡ base y) → Dec (τ (rep (base x)) ≡ rep (base x)) → Separated 𝓔 Ω′ d′ x y
@@ -296,7 +296,7 @@ module _ {G G⁺ : Type 0} {𝓖 : Mul G} {𝓖⁺ : Mul G⁺} {conj : ℕ → G
             go (yes eb) (yes f) = separated-number x y eb (λ en. h (N .injective x y eb en)) f
             go (yes eb) (no f) = absurd (h (N .injective x y eb (N .plain x f ∙ sym (N .plain y (λ g. f (ap (λ b. τ (rep b)) eb ∙ g ∙ ap rep (sym eb)))))))
 
-        pub next : Family 𝓔 Ω′ 𝓖⁺ conj⁺ (suc i) n
+        abbrev pub next : Family 𝓔 Ω′ 𝓖⁺ conj⁺ (suc i) n
         next = record {
           decide = N .decide;
           d = d′;
