@@ -8,3 +8,4 @@ pub mod Numbering
 pub mod Indices
 pub mod Extensions
 pub mod Next
+pub mod Inductions

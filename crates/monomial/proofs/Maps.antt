@@ -3,10 +3,10 @@
 --   maps-laws                        the product is associative, the identity is one
 --   at-mul, at-one, at-diagonal      a product, the identity and a diagonal at one basis index
 --   pair, column                     equal parts make equal entries; equal maps have equal columns
---   inverse-root, inverse-mul, inverse-diagonal, inverse-injective      inverses
+--   inverse-root, inverse-mul, inverse-power, inverse-diagonal, inverse-injective      inverses
 --   power-fixes                      the powers of a map that fixes a basis index
 --   power-diagonal                   the powers of a map times a diagonal
-use mathlib.Core.Path.{_≡_, refl, sym, _∙_, ap, ap₂, fun-ext}
+use mathlib.Core.Path.{_≡_, refl, sym, _∙_, ap, ap₂, subst, fun-ext}
 use Prim.Native.Nat.{ℕ, zero, suc, _-_, _<_}
 use native.Mathlib.Omega.{arith}
 use Rattle.definitions.specs.Presentation.{Mul, power}
@@ -51,6 +51,10 @@ module _ {M : Type 0} {𝓜 : Mul M} (𝓛 : Laws 𝓜) where
     right = assoc _ _ _ ∙ ap (λ s. z * s) (sym (assoc _ _ _) ∙ ap (λ s. s * Z .to) (Y .right) ∙ idl _) ∙ Z .right;
     left = assoc _ _ _ ∙ ap (λ s. Y .to * s) (sym (assoc _ _ _) ∙ ap (λ s. s * y) (Z .left) ∙ idl _) ∙ Y .left;
   }
+
+  pub inverse-power : (z : M) → Inverse 𝓜 z → (k : ℕ) → Inverse 𝓜 (power 𝓜 z k)
+  inverse-power z Z zero = subst (Inverse 𝓜) (sym (power-zero 𝓜 z)) (record { to = one; right = idl one; left = idl one })
+  inverse-power z Z (suc k) = subst (Inverse 𝓜) (sym (power-suc 𝓜 z k)) (inverse-mul z (power 𝓜 z k) Z (inverse-power z Z k))
 
 -- ---- Maps
 

@@ -3,8 +3,9 @@
 --   getD-map, getD-upto          an entry of a mapped list; entry k of 0, 1, .. is k
 --   getD-table                   an entry of a list given by a function
 --   getD-blocks                  an entry of f 0 ++ f 1 ++ ..: entry κ of stretch s
+--   blocks-suc, blocks-below     one stretch more; equal stretches
 --   length-even, getD-even       the same where all stretches have one length
-use mathlib.Core.Path.{_≡_, refl, sym, _∙_, ap, subst}
+use mathlib.Core.Path.{_≡_, refl, sym, _∙_, ap, ap₂, subst}
 use mathlib.Core.List.{List, [], _∷_, _++_, map}
 use Prim.Native.Nat.{ℕ, zero, suc, _+_, _*_, _<_}
 use native.Mathlib.Omega.{arith}
@@ -51,6 +52,15 @@ getD-blocks {A} d (suc N) f s κ a b = go (λ h. getD-blocks d N f s κ h b) (de
     go r (no h) =
         let e : s ≡ N = omega arith in
         ap (λ z. getD (blocks N f ++ f N) (z + κ) d) (ap (λ s. sum s w) e ∙ sym (length-blocks N f)) ∙ getD-append-add (blocks N f) (f N) κ d ∙ ap (λ z. getD (f z) κ d) (sym e)
+
+pub blocks-suc : {A : Type 0} (n : ℕ) (f : ℕ → List A) → blocks (suc n) f ≡ blocks n f ++ f n
+unfolding blocks
+blocks-suc n f = refl
+
+pub blocks-below : {A : Type 0} (n : ℕ) (f g : ℕ → List A) → ((k : ℕ) → k < n → f k ≡ g k) → blocks n f ≡ blocks n g
+unfolding blocks
+blocks-below zero f g h = refl
+blocks-below (suc n) f g h = ap₂ (_++_) (blocks-below n f g (λ k l. h k (omega arith))) (h n (omega arith))
 
 -- ---- Stretches of one length
 
