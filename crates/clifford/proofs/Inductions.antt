@@ -1,15 +1,14 @@
 -- The matrices of the steps at an orbit of representations that generator i moves: block by block they show the maps
--- of the theory, and the scalars c are its scalars.
+-- of the theory.
 --
 --   Ψ                        the frame of the orbits: an orbit is named by its leader, its columns are wide
 --   fixed-spreads            at a fixed representation both frames agree
+--   Member, member           what is known of a basis index of an orbit that moves
 --   shows-blocks             a matrix made of p blocks, at the columns of an orbit
 --   diagonal-shows           the blocks of a generator below i
 --   along-shows, last-shows  the products of intertwiners, and the last block
 --   cycle-shows              the blocks of generator i
 --   induced-shows            the matrices of the induced representation
---   intertwiner-shows        the blocks of an intertwiner with scalars
---   c-is                     the scalars of the steps are those of the theory
 use mathlib.Core.Path.{_≡_, refl, sym, _∙_, ap, ap₂, subst, fun-ext}
 use mathlib.Core.Bool.{Bool, true, cond}
 use mathlib.Core.List.{List, _++_, map}
@@ -55,15 +54,15 @@ pub lift-col : (o : ℕ) (M : Matrix) (k : ℕ) → k < length M → col (Steps.
 unfolding Steps.lift
 lift-col o M k l = col-map (λ (x : Entry). entry (o + x .row) (x .exp)) M k l
 
-lift-length : (o : ℕ) (M : Matrix) → length (Steps.lift o M) ≡ length M
+pub lift-length : (o : ℕ) (M : Matrix) → length (Steps.lift o M) ≡ length M
 unfolding Steps.lift
 lift-length o M = length-map M _
 
-scale-col : (m s : ℕ) (M : Matrix) (k : ℕ) → k < length M → col (scale m s M) k ≡ entry (col M k .row) ((col M k .exp + s) % m)
+pub scale-col : (m s : ℕ) (M : Matrix) (k : ℕ) → k < length M → col (scale m s M) k ≡ entry (col M k .row) ((col M k .exp + s) % m)
 unfolding scale
 scale-col m s M k l = col-map (λ (x : Entry). entry (x .row) ((x .exp + s) % m)) M k l
 
-scale-length : (m s : ℕ) (M : Matrix) → length (scale m s M) ≡ length M
+pub scale-length : (m s : ℕ) (M : Matrix) → length (scale m s M) ≡ length M
 unfolding scale
 scale-length m s M = length-map M _
 
@@ -129,22 +128,22 @@ module _ (R : Rung) where
   -- ---- An orbit that moves
 
   module _ (r : ℕ) (h : r < N R) (mv : ¬ (τ R r ≡ r)) (own : leader (O R) r ≡ r) where
-    abbrev d : ℕ
+    abbrev pub d : ℕ
     d = deg R r
 
     two : 1 < p R
     two = C .two i
 
     -- what is known of a basis index of the orbit
-    record Member (a : Ω) : Type 0 where
-      moved : ¬ (τ R (rep R a) ≡ rep R a)
-      below : position (O R) (rep R a) < p R
-      back : iter (τ R) (position (O R) (rep R a)) r ≡ rep R a
-      degree : deg R (rep R a) ≡ d
-      wide-is : wide R a ≡ position (O R) (rep R a) * d + column a
-      column-lt : column a < d
+    pub record Member (a : Ω) : Type 0 where
+      pub moved : ¬ (τ R (rep R a) ≡ rep R a)
+      pub below : position (O R) (rep R a) < p R
+      pub back : iter (τ R) (position (O R) (rep R a)) r ≡ rep R a
+      pub degree : deg R (rep R a) ≡ d
+      pub wide-is : wide R a ≡ position (O R) (rep R a) * d + column a
+      pub column-lt : column a < d
 
-    member : (a : Ω) → lead a ≡ r → Member a
+    pub member : (a : Ω) → leader (O R) (rep R a) ≡ r → Member a
     member a e =
         let b : ℕ = position (O R) (rep R a) in
         let back : iter (τ R) b r ≡ rep R a = ap (iter (τ R) b) (sym e) ∙ position-back (O R) (rep R a) (rep-below R a) in
@@ -159,10 +158,10 @@ module _ (R : Rung) where
           column-lt = subst (λ z. column a < z) degree (column-below a);
         }
 
-    position-of : (k : ℕ) → k < p R → position (O R) (iter (τ R) k r) ≡ k
+    pub position-of : (k : ℕ) → k < p R → position (O R) (iter (τ R) k r) ≡ k
     position-of k l = position-is (O R) (iter (τ R) k r) k (iter-below (O R) k r h) (iter-moved (O R) k r h mv) l (ap (iter (τ R) k) (leader-iter (O R) k r h ∙ own))
 
-    position-mod : (k : ℕ) → position (O R) (iter (τ R) k r) ≡ k % p R
+    pub position-mod : (k : ℕ) → position (O R) (iter (τ R) k r) ≡ k % p R
     position-mod k = ap (position (O R)) (sym (iter-mod (O R) k r h)) ∙ position-of (k % p R) (mod-lt k (omega (arith, two)))
 
     -- ---- Blocks
@@ -180,16 +179,16 @@ module _ (R : Rung) where
           ap (col (blocks (p R) f)) (M .wide-is) ∙ getD-even f d (entry 0 0) (p R) (position (O R) (rep R a)) (column a) len (M .below) (M .column-lt) ∙ ent a e;
     }
 
-    abbrev orb : ℕ → ℕ
+    abbrev pub orb : ℕ → ℕ
     orb = Steps.orbit (P R) m i L r
 
-    orb-back : (a : Ω) → lead a ≡ r → orb (position (O R) (rep R a)) ≡ rep R a
+    pub orb-back : (a : Ω) → leader (O R) (rep R a) ≡ r → orb (position (O R) (rep R a)) ≡ rep R a
     orb-back a e = orbit-same R r _ ∙ member a e .back
 
-    orb-below : (b : ℕ) → orb b < N R
+    pub orb-below : (b : ℕ) → orb b < N R
     orb-below b = subst (λ s. s < N R) (sym (orbit-same R r b)) (iter-below (O R) b r h)
 
-    orb-degree : (b : ℕ) → deg R (orb b) ≡ d
+    pub orb-degree : (b : ℕ) → deg R (orb b) ≡ d
     orb-degree b = ap (deg R) (orbit-same R r b) ∙ degree-iter R b r h
 
     -- ---- Generators below i

@@ -9,3 +9,4 @@ pub mod Indices
 pub mod Extensions
 pub mod Next
 pub mod Inductions
+pub mod Intertwiners
