@@ -10,3 +10,4 @@ pub mod Extensions
 pub mod Next
 pub mod Inductions
 pub mod Intertwiners
+pub mod Rise
