@@ -11,3 +11,5 @@ pub mod Next
 pub mod Inductions
 pub mod Intertwiners
 pub mod Rise
+pub mod Squares
+pub mod Climb
