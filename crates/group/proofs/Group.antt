@@ -68,7 +68,7 @@ module _ (C : Context) where
         ∙ ap₂ (_*_) (G .conj-value i (omega arith) x) (G .conj-value i (omega arith) y)
 
     -- f done p times is conjugation by u on the generators, hence everywhere
-    cyclic : Cyclic (level C i) p f u
+    pub cyclic : Cyclic (level C i) (C .P .p i) (conjNf C i i) (uNf C i)
     cyclic = record {
       laws = G .laws;
       positive = omega (arith, two i);

@@ -141,6 +141,11 @@ getD-within [] k d d′ l = absurd (omega arith)
 getD-within (x ∷ xs) zero d d′ l = refl
 getD-within (x ∷ xs) (suc k) d d′ l = getD-within xs k d d′ (omega arith)
 
+pub getD-map : {A B : Type 0} (f : A → B) (xs : List A) (k : ℕ) (d : A) (e : B) → k < length xs → getD (map f xs) k e ≡ f (getD xs k d)
+getD-map f [] k d e l = absurd (omega arith)
+getD-map f (x ∷ xs) zero d e l = refl
+getD-map f (x ∷ xs) (suc k) d e l = getD-map f xs k d e (omega arith)
+
 upto-get : (n k d : ℕ) → k < n → getD (upto n) k d ≡ k
 unfolding upto
 upto-get zero k d l = absurd (omega arith)
@@ -155,3 +160,32 @@ upto-get (suc n) k d l = go (λ h. upto-get n k d h) (decLt k n)
 pub getD-map-upto : {B : Type 0} (n : ℕ) (f : ℕ → B) (k : ℕ) (d : B) → k < n → getD (map f (upto n)) k d ≡ f k
 getD-map-upto n f k d l =
     getD-within (map f (upto n)) k d (f 0) (omega (arith, length-map (upto n) f, length-upto n)) ∙ List·getD-map f (upto n) k 0 ∙ ap f (upto-get n k 0 l)
+
+pub getD-upto : (n k : ℕ) → k < n → getD (upto n) k 0 ≡ k
+getD-upto n k l = upto-get n k 0 l
+
+pub getD-table : {B : Type 0} (f : ℕ → B) (n k : ℕ) (e : B) → k < n → getD (map f (upto n)) k e ≡ f k
+getD-table f n k e l = getD-map-upto n f k e l
+
+pub length-table : {B : Type 0} (f : ℕ → B) (n : ℕ) → length (map f (upto n)) ≡ n
+length-table f n = length-map (upto n) f ∙ length-upto n
+
+pub getD-blocks : {A : Type 0} (d : A) (N : ℕ) (f : ℕ → List A) (s κ : ℕ) → s < N → κ < length (f s)
+    → getD (blocks N f) (sum s (λ k. length (f k)) + κ) d ≡ getD (f s) κ d
+getD-blocks d N f s κ a b = blocks-get d N f s κ a b
+
+pub blocks-below : {A : Type 0} (n : ℕ) (f g : ℕ → List A) → ((k : ℕ) → k < n → f k ≡ g k) → blocks n f ≡ blocks n g
+blocks-below n f g h = blocks-ext n f g h
+
+-- ---- Stretches of one length
+
+module _ {A : Type 0} (f : ℕ → List A) (w : ℕ) where
+  even-start : (s : ℕ) → ((k : ℕ) → k < s → length (f k) ≡ w) → sum s (λ k. length (f k)) ≡ s * w
+  even-start s h = sum-ext-below s (λ k. length (f k)) (λ k. w) h ∙ sum-const w s
+
+  pub length-even : (N : ℕ) → ((k : ℕ) → k < N → length (f k) ≡ w) → length (blocks N f) ≡ N * w
+  length-even N h = length-blocks N f ∙ even-start N h
+
+  pub getD-even : (d : A) (N s κ : ℕ) → ((k : ℕ) → k < N → length (f k) ≡ w) → s < N → κ < w → getD (blocks N f) (s * w + κ) d ≡ getD (f s) κ d
+  getD-even d N s κ h a b =
+      ap (λ z. getD (blocks N f) (z + κ) d) (sym (even-start s (λ k l. h k (omega arith)))) ∙ blocks-get d N f s κ a (subst (λ z. κ < z) (sym (h s a)) b)

@@ -1,4 +1,9 @@
 -- Laws that the kit lacks, about the functions of the definitions that are not of one subject.
 pub mod Bools
 pub mod Lists
+pub mod Iterates
+pub mod Prime
+pub mod Searches
+pub mod Orbits
+pub mod Sums
 pub mod Blocks

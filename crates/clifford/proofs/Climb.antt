@@ -1,0 +1,153 @@
+-- From level 0 up: every level of the steps stands on a family, and is cut into blocks of the level below.
+--
+--   next-stands          the next level stands
+--   next-restricts       its representations are cut into blocks
+--   Standing             a level that stands, with literal targets
+--   standing             every level of the steps does
+use mathlib.Core.Path.{_≡_, refl, sym, _∙_, ap, ap₂, subst}
+use Prim.Native.Nat.{ℕ, zero, suc, _+_, _*_, _-_, _/_, _≤_, _<_}
+use native.Mathlib.Nat.{mul-pos}
+use native.Mathlib.Omega.{arith}
+use native.Mathlib.Decide.{ℕ-discrete}
+use lib.Arith.{digits-div}
+use lib.ListN.{length}
+use Rattle.definitions.specs.declared.Entry.{Entry}
+use Rattle.definitions.specs.Lists.{sum, iter}
+use Rattle.definitions.specs.Presentation.{Presentation, order}
+use Rattle.definitions.specs.Monomial.{Matrix, entry, col, Rep, Level, repOf}
+use Rattle.definitions.specs.Steps
+use Rattle.numbers.proofs.Bools.{cond-lt}
+use Rattle.numbers.proofs.Blocks.{getD-even}
+use Rattle.numbers.proofs.Orbits.{leader, leader-below}
+use Rattle.group.specs.Context.{Context, Nf}
+use Rattle.group.proofs.Level.{level, conjNf, genNf}
+use Rattle.monomial.specs.Frames.{Frame, Complete, Shows}
+use Rattle.monomial.proofs.Residues.{residues}
+use Rattle.clifford.specs.Stands.{frame, Stands, Restricts, Rung}
+use Rattle.clifford.proofs.Numbering.{P, p, N, deg, rep, τ, O, rep-below, orbit-same, made, next, made-of, made-of-fixed, degree-iter}
+use Rattle.clifford.proofs.Indices.{Index, base, number, mk, next-rep, wide, wide-below, next-frame, next-complete, next-find, next-below, degree-fixed, degree-moved, Found}
+use Rattle.clifford.proofs.Extensions.{first}
+use Rattle.clifford.proofs.Next.{target-fixed, target-moved, next-target, next-X, next-X-is, led, family}
+use Rattle.clifford.proofs.Inductions.{lift-col, lift-length, orb, orb-below, orb-degree}
+use Rattle.clifford.proofs.Rise.{Extended, Induced, at-source, extension-low, extension-base, induction-low, induction-base, next-represents, next-intertwines, next-refers}
+use Rattle.clifford.proofs.Squares.{next-squares}
+
+module _ (R : Rung) where
+  open Rung R using (T, m, pos, i, L, Ω, F, stands)
+
+  abbrev C : Context
+  C = T .context
+
+  two : 1 < p R
+  two = C .two i
+
+  -- ---- Degrees
+
+  next-degree-pos : (r′ : ℕ) → r′ < length (next R) → 0 < repOf (next R) r′ .deg
+  unfolding Steps.extension Steps.induction
+  next-degree-pos r′ h = at-source R (0 < repOf (next R) r′ .deg) r′ h
+      (λ e. subst (λ (D : Rep). 0 < D .deg) (sym (e .rep-is)) (stands .degree-pos (e .s) (e .s-below)))
+      (λ e. subst (λ (D : Rep). 0 < D .deg) (sym (e .rep-is)) (mul-pos (omega (arith, two)) (stands .degree-pos (e .s) (e .s-below))))
+
+  some-index : Index R
+  some-index = mk R a 0 (go (ℕ-discrete (τ R (rep R a)) (rep R a)))
+    where
+      a : Ω
+      a = first R 0
+
+      go : Dec (τ R (rep R a) ≡ rep R a) → 0 < made R (leader (O R) (rep R a))
+      go (yes f) = omega (arith, made-of-fixed R (rep R a) (rep-below R a) f, two)
+      go (no f) = omega (arith, made-of R (rep R a) (rep-below R a) f)
+
+  next-nonempty : 0 < length (next R)
+  next-nonempty = omega (arith, next-below R some-index)
+
+  next-degree-target : (j : ℕ) → suc i ≤ j → j < T .n → (r′ : ℕ) → r′ < length (next R) → repOf (next R) (next-target R j r′) .deg ≡ repOf (next R) r′ .deg
+  next-degree-target j ij jn r′ h =
+      let o = next-find R r′ 0 h (next-degree-pos r′ h) in
+      let x : Index R = o .index in
+      ap (λ r. repOf (next R) (next-target R j r) .deg) (sym (o .is-rep)) ∙ ap (λ r. repOf (next R) r .deg) (sym (family R .leads j ij jn x))
+      ∙ go x (next-X R j x .0) (ap (λ f. base R ((f x) .0)) (next-X-is R j ij jn) ∙ led-base x) (ℕ-discrete (τ R (rep R (base R x))) (rep R (base R x))) ∙ ap (λ r. repOf (next R) r .deg) (o .is-rep)
+    where
+      led-base : (x : Index R) → base R ((led R j ij jn x) .0) ≡ (F .X j (base R x)) .0
+      led-base x = unfold led in refl
+
+      go : (x y : Index R) → base R y ≡ (F .X j (base R x)) .0 → Dec (τ R (rep R (base R x)) ≡ rep R (base R x)) → repOf (next R) (next-rep R y) .deg ≡ repOf (next R) (next-rep R x) .deg
+      go x y e d =
+          let r : ℕ = rep R (base R x) in
+          let h : r < N R = rep-below R (base R x) in
+          let ry : rep R (base R y) ≡ F .target j r = ap (rep R) e ∙ F .leads j (omega arith) jn (base R x) in
+          let same : deg R (rep R (base R y)) ≡ deg R r = ap (deg R) ry ∙ stands .degree-target j (omega arith) jn r h in
+          split r h ry same d
+        where
+          split : (r : ℕ) (h : r < N R) → rep R (base R y) ≡ F .target j r → deg R (rep R (base R y)) ≡ deg R (rep R (base R x)) → Dec (τ R (rep R (base R x)) ≡ rep R (base R x))
+              → repOf (next R) (next-rep R y) .deg ≡ repOf (next R) (next-rep R x) .deg
+          split r h ry same (yes f) =
+              degree-fixed R y (subst (λ s. τ R s ≡ s) (sym (ap (rep R) e ∙ F .leads j (omega arith) jn (base R x))) (target-fixed R j ij jn (rep R (base R x)) (rep-below R (base R x)) f)) ∙ same ∙ sym (degree-fixed R x f)
+          split r h ry same (no f) =
+              degree-moved R y (λ g. target-moved R j ij jn (rep R (base R x)) (rep-below R (base R x)) f (subst (λ s. τ R s ≡ s) (ap (rep R) e ∙ F .leads j (omega arith) jn (base R x)) g))
+              ∙ ap (λ d. p R * d) same ∙ sym (degree-moved R x f)
+
+  pub next-stands : Stands (T .context) (T .n) m pos (suc i) (next R) (family R)
+  next-stands = record {
+    column = λ x. wide R (base R x);
+    column-below = wide-below R;
+    complete = next-complete R;
+    represents = next-represents R;
+    intertwines = next-intertwines R;
+    refers = λ j ij jn r h c l. next-refers R j ij jn r h c;
+    nonempty = next-nonempty;
+    degree-pos = next-degree-pos;
+    degree-target = next-degree-target;
+    squares = next-squares R;
+  }
+
+  -- ---- Blocks
+
+  extended-restricts : (s κ : ℕ) → s < N R → Restricts i L (Steps.extension (P R) m i L s κ)
+  extended-restricts s κ h = record {
+    count = 1;
+    width = deg R s;
+    part = λ b. s;
+    width-pos = stands .degree-pos s h;
+    part-below = λ b l. h;
+    part-degree = λ b l. refl;
+    degree = degree-one;
+    refers = λ g l b c a e. extension-base R s κ g l (b * deg R s + c);
+    acts = λ k l b c a e.
+        let z : b * deg R s + c ≡ c = omega (arith, ap (λ x. x * deg R s) (zero-of b a)) in
+        let z′ : (x : ℕ) → b * deg R s + x ≡ x = λ x. omega (arith, ap (λ x. x * deg R s) (zero-of b a)) in
+        ap (λ M. col M (b * deg R s + c)) (extension-low R s κ k (omega arith) ∙ cond-lt k i _ _ l) ∙ ap (col (repOf L s .matrix k)) z
+        ∙ ap (λ x. entry x (col (repOf L s .matrix k) c .exp)) (sym (z′ (col (repOf L s .matrix k) c .row)));
+  }
+    where
+      zero-of : (b : ℕ) → b < 1 → b ≡ 0
+      zero-of b l = omega arith
+
+      degree-one : Steps.extension (P R) m i L s κ .deg ≡ 1 * deg R s
+      degree-one = unfold Steps.extension in (omega arith)
+
+  induced-restricts : (s : ℕ) (h : s < N R) (mv : ¬ (τ R s ≡ s)) (own : leader (O R) s ≡ s) → Restricts i L (Steps.induction (P R) m i L s)
+  unfolding Steps.induction Steps.blockDiagonal col
+  induced-restricts s h mv own = record {
+    count = p R;
+    width = deg R s;
+    part = orb R s h mv own;
+    width-pos = stands .degree-pos s h;
+    part-below = λ b l. orb-below R s h mv own b;
+    part-degree = λ b l. orb-degree R s h mv own b;
+    degree = refl;
+    refers = λ g l b c a e. induction-base R s g l (b * deg R s + c) ∙ ap (orb R s h mv own) (digits-div b e);
+    acts = λ k l b c a e.
+        ap (λ M. col M (b * deg R s + c)) (induction-low R s k (omega arith) ∙ cond-lt k i _ _ l)
+        ∙ getD-even (λ b. Steps.lift (b * deg R s) (repOf L (orb R s h mv own b) .matrix k)) (deg R s) (entry 0 0) (p R) b c (λ b l′. length-block k l b) a e
+        ∙ lift-col (b * deg R s) (repOf L (orb R s h mv own b) .matrix k) c (subst (λ z. c < z) (sym (stands .represents k l (orb R s h mv own b) (orb-below R s h mv own b) .size ∙ orb-degree R s h mv own b)) e);
+  }
+    where
+      length-block : (k : ℕ) → k < i → (b : ℕ) → length (Steps.lift (b * deg R s) (repOf L (orb R s h mv own b) .matrix k)) ≡ deg R s
+      length-block k l b = lift-length (b * deg R s) (repOf L (orb R s h mv own b) .matrix k) ∙ stands .represents k l (orb R s h mv own b) (orb-below R s h mv own b) .size ∙ orb-degree R s h mv own b
+
+  pub next-restricts : (r′ : ℕ) → r′ < length (next R) → Restricts i L (repOf (next R) r′)
+  next-restricts r′ h = at-source R (Restricts i L (repOf (next R) r′)) r′ h
+      (λ e. subst (Restricts i L) (sym (e .rep-is)) (extended-restricts (e .s) (e .κ) (e .s-below)))
+      (λ e. subst (Restricts i L) (sym (e .rep-is)) (induced-restricts (e .s) (e .s-below) (e .moved) (e .own)))

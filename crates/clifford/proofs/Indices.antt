@@ -1,0 +1,214 @@
+-- The basis indices of the next level: a basis index of the level below, and the number of the extension.
+--
+--   Index, base, number, mk            the basis indices
+--   Index-path, Index-discrete         they are known by base and number
+--   next-rep                           the number of its representation
+--   wide                               its column: that below, or behind the blocks before it
+--   wide-fixed, wide-moved             in the two cases
+--   degree-fixed, degree-moved         the degrees of the next level
+--   next-frame, next-complete          every column of the next level is one basis index
+use mathlib.Core.Path.{_≡_, refl, sym, _∙_, ap, ap₂, subst}
+use mathlib.Core.HLevel.{Σ-prop-path}
+use mathlib.Core.Bool.{cond}
+use Prim.Native.Nat.{ℕ, zero, suc, _+_, _*_, _-_, _/_, _%_, _≤_, _<_}
+use native.Mathlib.Nat.{mod-lt, mod-add-div', div-lt-iff-lt-mul}
+use native.Mathlib.Bridge.{le-prop}
+use native.Mathlib.Omega.{arith}
+use native.Mathlib.Decide.{ℕ-discrete}
+use lib.Arith.{digits-lt, digits-div, digits-mod}
+use lib.Dec.{eqb}
+use lib.ListN.{length}
+use Rattle.definitions.specs.Lists.{sum, iter}
+use Rattle.definitions.specs.Monomial.{Rep, Level, repOf}
+use Rattle.definitions.specs.Steps
+use Rattle.numbers.proofs.Bools.{cond-eq, cond-ne}
+use Rattle.numbers.proofs.Sums.{stretch-one, stretch-below}
+use Rattle.numbers.proofs.Orbits.{leader, position, iter-below, iter-moved, leader-below, leader-leader, leader-iter, leader-fixed, leader-moved, position-below, position-back, position-is}
+use Rattle.monomial.specs.Frames.{Frame, Complete}
+use Rattle.clifford.specs.Stands.{frame, Stands, Rung}
+use Rattle.clifford.proofs.Numbering.{p, N, deg, rep, τ, O, rep-below, made, next, next-length, made-fixed, made-leader, given-fixed, given-moved, made-of, made-of-fixed, Source, source, degree-iter, degree-leader}
+
+module _ (R : Rung) where
+  open Rung R using (T, m, pos, i, L, Ω, F, stands)
+  open Stands (R .stands) using (column, column-below, complete)
+
+  abbrev lead : Ω → ℕ
+  lead a = leader (O R) (rep R a)
+
+  abbrev pub Index : Type 0
+  Index = (x : Ω × ℕ) × (x .1 < made R (leader (O R) (rep R (x .0))))
+
+  abbrev pub base : Index → Ω
+  base x = x .0 .0
+
+  abbrev pub number : Index → ℕ
+  number x = x .0 .1
+
+  abbrev pub mk : (a : Ω) (κ : ℕ) → κ < made R (leader (O R) (rep R a)) → Index
+  mk a κ h = ((a, κ), h)
+
+  pub Index-path : (x y : Index) → base x ≡ base y → number x ≡ number y → x ≡ y
+  Index-path x y p q = Σ-prop-path (λ z. le-prop) (λ j. (p j, q j))
+
+  pub Index-discrete : Discrete Index
+  Index-discrete x y = go (F .decide (base x) (base y)) (ℕ-discrete (number x) (number y))
+    where
+      go : Dec (base x ≡ base y) → Dec (number x ≡ number y) → Dec (x ≡ y)
+      go (yes a) (yes b) = yes (Index-path x y a b)
+      go (yes a) (no b) = no (λ q. b (ap number q))
+      go (no a) d = no (λ q. a (ap base q))
+
+  unfoldable pub next-rep : Index → ℕ
+  next-rep x = sum (leader (O R) (rep R (base x))) (made R) + number x
+
+  unfoldable pub wide : Ω → ℕ
+  wide a = cond (eqb (τ R (rep R a)) (rep R a)) (column a) (position (O R) (rep R a) * deg R (rep R a) + column a)
+
+  pub wide-fixed : (a : Ω) → τ R (rep R a) ≡ rep R a → wide a ≡ column a
+  unfolding wide
+  wide-fixed a f = cond-eq _ _ _ _ f
+
+  pub wide-moved : (a : Ω) → ¬ (τ R (rep R a) ≡ rep R a) → wide a ≡ position (O R) (rep R a) * deg R (rep R a) + column a
+  unfolding wide
+  wide-moved a f = cond-ne _ _ _ _ f
+
+  abbrev Fixed : Ω → Type 0
+  Fixed a = τ R (rep R a) ≡ rep R a
+
+  pub number-fixed : (x : Index) → τ R (rep R (base x)) ≡ rep R (base x) → number x < p R
+  number-fixed x f = subst (λ s. number x < s) (made-of-fixed R (rep R (base x)) (rep-below R (base x)) f) (x .1)
+
+  pub number-moved : (x : Index) → ¬ (τ R (rep R (base x)) ≡ rep R (base x)) → number x ≡ 0
+  number-moved x f = let l : number x < 1 = subst (λ s. number x < s) (made-of R (rep R (base x)) (rep-below R (base x)) f) (x .1) in omega arith
+
+  -- ---- The representation of an index
+
+  pub rep-fixed : (x : Index) → τ R (rep R (base x)) ≡ rep R (base x) → repOf (next R) (next-rep x) ≡ Steps.extension (T .context .P) m i L (rep R (base x)) (number x)
+  unfolding next-rep
+  rep-fixed x f =
+      ap (λ s. repOf (next R) (sum s (made R) + number x)) (leader-fixed (O R) (rep R (base x)) (rep-below R (base x)) f)
+      ∙ given-fixed R (rep R (base x)) (number x) (rep-below R (base x)) f (number-fixed x f)
+
+  pub rep-moved : (x : Index) → ¬ (τ R (rep R (base x)) ≡ rep R (base x)) → repOf (next R) (next-rep x) ≡ Steps.induction (T .context .P) m i L (leader (O R) (rep R (base x)))
+  unfolding next-rep
+  rep-moved x f =
+      given-moved R (lead (base x)) (number x) (leader-below (O R) (rep R (base x)) (rep-below R (base x))) (leader-moved (O R) (rep R (base x)) (rep-below R (base x)) f)
+      (leader-leader (O R) (rep R (base x)) (rep-below R (base x))) (number-moved x f)
+
+  pub degree-fixed : (x : Index) → τ R (rep R (base x)) ≡ rep R (base x) → repOf (next R) (next-rep x) .deg ≡ deg R (rep R (base x))
+  unfolding Steps.extension
+  degree-fixed x f = ap (λ (D : Rep). D .deg) (rep-fixed x f)
+
+  pub degree-moved : (x : Index) → ¬ (τ R (rep R (base x)) ≡ rep R (base x)) → repOf (next R) (next-rep x) .deg ≡ p R * deg R (rep R (base x))
+  unfolding Steps.induction
+  degree-moved x f = ap (λ (D : Rep). D .deg) (rep-moved x f) ∙ ap (λ d. p R * d) (degree-leader R (rep R (base x)) (rep-below R (base x)))
+
+  pub wide-below : (x : Index) → wide (base x) < repOf (next R) (next-rep x) .deg
+  wide-below x = go (ℕ-discrete (τ R (rep R (base x))) (rep R (base x)))
+    where
+      go : Dec (Fixed (base x)) → wide (base x) < repOf (next R) (next-rep x) .deg
+      go (yes f) = subst (λ s. s < repOf (next R) (next-rep x) .deg) (sym (wide-fixed (base x) f)) (subst (λ d. column (base x) < d) (sym (degree-fixed x f)) (column-below (base x)))
+      go (no f) = subst (λ s. s < repOf (next R) (next-rep x) .deg) (sym (wide-moved (base x) f))
+          (subst (λ d. position (O R) (rep R (base x)) * deg R (rep R (base x)) + column (base x) < d) (sym (degree-moved x f))
+          (digits-lt (position-below (O R) (rep R (base x)) (rep-below R (base x))) (column-below (base x))))
+
+  pub next-below : (x : Index) → next-rep x < length (next R)
+  unfolding next-rep
+  next-below x = subst (λ s. sum (lead (base x)) (made R) + number x < s) (sym (next-length R)) (stretch-below (made R) (lead (base x)) (number x) (N R) (x .1) (leader-below (O R) (rep R (base x)) (rep-below R (base x))))
+
+  abbrev pub next-frame : Frame Index
+  next-frame = frame (next R) next-rep (λ x. wide (base x)) wide-below
+
+  -- ---- Every column is one index
+
+  pub record Found (r c : ℕ) : Type 0 where
+    pub index : Index
+    pub is-rep : next-rep index ≡ r
+    pub is-column : wide (base index) ≡ c
+
+  pub next-find : (r c : ℕ) → r < length (next R) → c < repOf (next R) r .deg → Found r c
+  unfolding next-rep Steps.extension Steps.induction
+  next-find r c h l = go (source R r h)
+    where
+      go : Source R r → Found r c
+      go o = split (ℕ-discrete (τ R s) s)
+        where
+          s : ℕ
+          s = o .s
+
+          split : Dec (τ R s ≡ s) → Found r c
+          split (yes f) =
+              let κ-below : o .κ < p R = subst (λ z. o .κ < z) (made-fixed R s f) (o .κ-below) in
+              let d : repOf (next R) r .deg ≡ deg R s = ap (λ r. repOf (next R) r .deg) (sym (o .is)) ∙ ap (λ (D : Rep). D .deg) (given-fixed R s (o .κ) (o .s-below) f κ-below) in
+              let c-below : c < deg R s = subst (λ z. c < z) d l in
+              let a : Ω = complete .find s c (o .s-below) c-below in
+              let e : rep R a ≡ s = complete .find-rep s c (o .s-below) c-below in
+              let q : lead a ≡ s = ap (leader (O R)) e ∙ o .leads in
+              record {
+                index = mk a (o .κ) (subst (λ z. o .κ < made R z) (sym q) (o .κ-below));
+                is-rep = ap (λ z. sum z (made R) + o .κ) q ∙ o .is;
+                is-column = wide-fixed a (subst (λ z. τ R z ≡ z) (sym e) f) ∙ complete .find-column s c (o .s-below) c-below;
+              }
+          split (no f) =
+              let zero-κ : o .κ ≡ 0 = let b : o .κ < 1 = subst (λ z. o .κ < z) (made-leader R s f (o .leads)) (o .κ-below) in omega arith in
+              let d : repOf (next R) r .deg ≡ p R * deg R s
+              = ap (λ r. repOf (next R) r .deg) (sym (o .is)) ∙ ap (λ (D : Rep). D .deg) (given-moved R s (o .κ) (o .s-below) f (o .leads) zero-κ) in
+              let d-pos : 0 < deg R s = stands .degree-pos s (o .s-below) in
+              let b : ℕ = c / deg R s in
+              let b-below : b < p R = div-lt-iff-lt-mul d-pos .1 (subst (λ z. c < z) d l) in
+              let t : ℕ = iter (τ R) b s in
+              let t-below : t < N R = iter-below (O R) b s (o .s-below) in
+              let dt : deg R t ≡ deg R s = degree-iter R b s (o .s-below) in
+              let c-below : c % deg R s < deg R t = subst (λ z. c % deg R s < z) (sym dt) (mod-lt c d-pos) in
+              let a : Ω = complete .find t (c % deg R s) t-below c-below in
+              let e : rep R a ≡ t = complete .find-rep t (c % deg R s) t-below c-below in
+              let tl : leader (O R) t ≡ s = leader-iter (O R) b s (o .s-below) ∙ o .leads in
+              let tm : ¬ (τ R t ≡ t) = iter-moved (O R) b s (o .s-below) f in
+              let q : lead a ≡ s = ap (leader (O R)) e ∙ tl in
+              let am : ¬ Fixed a = λ g. tm (subst (λ z. τ R z ≡ z) e g) in
+              let ps : position (O R) (rep R a) ≡ b = ap (position (O R)) e ∙ position-is (O R) t b t-below tm b-below (ap (iter (τ R) b) tl) in
+              record {
+                index = mk a (o .κ) (subst (λ z. o .κ < made R z) (sym q) (o .κ-below));
+                is-rep = ap (λ z. sum z (made R) + o .κ) q ∙ o .is;
+                is-column = wide-moved a am ∙ ap₂ (λ x y. x * y + column a) ps (ap (deg R) e ∙ dt) ∙ ap (λ z. b * deg R s + z) (complete .find-column t (c % deg R s) t-below c-below)
+                    ∙ omega (arith, mod-add-div' c (deg R s));
+              }
+
+  pub next-known : (x y : Index) → next-rep x ≡ next-rep y → wide (base x) ≡ wide (base y) → x ≡ y
+  unfolding next-rep
+  next-known x y q w =
+      let (e, n) = stretch-one (made R) (lead (base x)) (number x) (lead (base y)) (number y) (x .1) (y .1) q in
+      Index-path x y (go e (ℕ-discrete (τ R (rep R (base x))) (rep R (base x))) (ℕ-discrete (τ R (rep R (base y))) (rep R (base y)))) n
+    where
+      a : Ω
+      a = base x
+
+      b : Ω
+      b = base y
+
+      apart : (a b : Ω) → lead a ≡ lead b → Fixed a → ¬ Fixed b → ⊥
+      apart a b e f g = leader-moved (O R) (rep R b) (rep-below R b) g (subst (λ z. τ R z ≡ z) (sym (leader-fixed (O R) (rep R a) (rep-below R a) f) ∙ e) f)
+
+      go : lead a ≡ lead b → Dec (Fixed a) → Dec (Fixed b) → a ≡ b
+      go e (yes f) (yes g) =
+          complete .known a b (sym (leader-fixed (O R) (rep R a) (rep-below R a) f) ∙ e ∙ leader-fixed (O R) (rep R b) (rep-below R b) g) (sym (wide-fixed a f) ∙ w ∙ wide-fixed b g)
+      go e (yes f) (no g) = absurd (apart a b e f g)
+      go e (no f) (yes g) = absurd (apart b a (sym e) g f)
+      go e (no f) (no g) =
+          let d : ℕ = deg R (rep R a) in
+          let same : deg R (rep R b) ≡ d = sym (degree-leader R (rep R b) (rep-below R b)) ∙ ap (deg R) (sym e) ∙ degree-leader R (rep R a) (rep-below R a) in
+          let cb : column b < d = subst (λ z. column b < z) same (column-below b) in
+          let line : position (O R) (rep R a) * d + column a ≡ position (O R) (rep R b) * d + column b
+          = sym (wide-moved a f) ∙ w ∙ wide-moved b g ∙ ap (λ z. position (O R) (rep R b) * z + column b) same in
+          let ps : position (O R) (rep R a) ≡ position (O R) (rep R b) = sym (digits-div (position (O R) (rep R a)) (column-below a)) ∙ ap (λ z. z / d) line ∙ digits-div (position (O R) (rep R b)) cb in
+          let cs : column a ≡ column b = sym (digits-mod (position (O R) (rep R a)) (column-below a)) ∙ ap (λ z. z % d) line ∙ digits-mod (position (O R) (rep R b)) cb in
+          complete .known a b (sym (position-back (O R) (rep R a) (rep-below R a)) ∙ ap₂ (iter (τ R)) ps e ∙ position-back (O R) (rep R b) (rep-below R b)) cs
+
+  pub next-complete : Complete next-frame (length (next R))
+  next-complete = record {
+    rep-below = next-below;
+    find = λ r c h l. next-find r c h l .index;
+    find-rep = λ r c h l. next-find r c h l .is-rep;
+    find-column = λ r c h l. next-find r c h l .is-column;
+    known = next-known;
+  }

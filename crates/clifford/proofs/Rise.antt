@@ -1,0 +1,228 @@
+-- The next level of the steps stands on the family of the next level.
+--
+--   shows-above                 what shows a map of the orbits shows a map of the next level above it
+--   at-source                   the representation of a number, by the one that gives it
+--   next-represents, next-intertwines, next-refers      its matrices and references
+--   next-degree, next-degree-target                     its degrees
+--   next-restricts              its blocks
+use mathlib.Core.Path.{_≡_, refl, sym, _∙_, ap, ap₂, subst}
+use mathlib.Core.Bool.{cond}
+use Prim.Native.Nat.{ℕ, zero, suc, _+_, _*_, _-_, _/_, _≤_, _<_}
+use native.Mathlib.Nat.{mul-pos}
+use native.Mathlib.Omega.{arith}
+use native.Mathlib.Decide.{ℕ-discrete}
+use lib.Arith.{digits-div}
+use lib.Dec.{eqb, leb, ltb}
+use lib.ListN.{length}
+use borrow.Author.Tests.{le-leb, lt-leb}
+use Rattle.definitions.specs.declared.Entry.{Entry}
+use Rattle.definitions.specs.Lists.{sum, iter}
+use Rattle.definitions.specs.Presentation.{Presentation}
+use Rattle.definitions.specs.Monomial.{Matrix, entry, col, Rep, Level, repOf}
+use Rattle.definitions.specs.Steps
+use Rattle.numbers.proofs.Bools.{cond-true, cond-false, cond-lt}
+use Rattle.numbers.proofs.Blocks.{getD-even}
+use Rattle.numbers.proofs.Sums.{stretch-one}
+use Rattle.numbers.proofs.Orbits.{leader, iter-below, leader-below, leader-leader, leader-fixed, leader-moved}
+use Rattle.group.specs.Context.{Context, Nf}
+use Rattle.group.proofs.Level.{level, conjNf, genNf}
+use Rattle.monomial.specs.Exponents.{Exponents, Residue}
+use Rattle.monomial.specs.Maps.{Map, maps}
+use Rattle.monomial.specs.Families.{Family}
+use Rattle.monomial.specs.Frames.{Frame, Complete, Shows}
+use Rattle.monomial.proofs.Exponents.{idr}
+use Rattle.monomial.proofs.Residues.{residues}
+use Rattle.clifford.specs.Stands.{frame, Stands, Restricts, Rung}
+use Rattle.clifford.proofs.Numbering.{P, p, N, deg, rep, τ, S, ready, O, rep-below, orbit-same, made, next, made-fixed, made-leader, given-fixed, given-moved, made-of, made-of-fixed, Source, source, degree-iter}
+use Rattle.clifford.proofs.Indices.{Index, base, number, mk, next-rep, wide, next-frame, next-complete, next-find, next-below, degree-fixed, degree-moved, Found}
+use Rattle.clifford.proofs.Top.{raised}
+use Rattle.clifford.proofs.Step.{numbered, numbered-zero}
+use Rattle.clifford.proofs.Scalars.{c, c-fixed}
+use Rattle.clifford.proofs.Extensions.{E, Φ, 𝓢, ρ, first, first-rep, base-shows}
+use Rattle.clifford.proofs.Next.{target-below, target-fixed, target-moved, next-d, led, next-X, next-X-is, next-target, step, family}
+use Rattle.clifford.proofs.Inductions.{lift-col, lift-length, Ψ, spread, spread-fixed, spread-moved, rep-of-fixed, fixed-spreads, induced-shows, orb-below, orb-degree}
+use Rattle.clifford.proofs.Intertwiners.{led-shows}
+
+module _ (R : Rung) where
+  open Rung R using (T, m, pos, i, L, Ω, F, stands)
+
+  abbrev C : Context
+  C = T .context
+
+  abbrev lead : Index R → ℕ
+  lead x = leader (O R) (rep R (base R x))
+
+  -- ---- From the orbits to the next level
+
+  pub shows-above : (s t κ r′ t′ : ℕ) (M : Matrix) (A : Map (E R) Ω) (A′ : Map (E R) (Index R)) → κ < made R s → sum s (made R) + κ ≡ r′ → Shows m (Ψ R) s t M A → spread R s ≡ repOf (next R) r′ .deg
+      → ((x : Index R) → leader (O R) (rep R (base R x)) ≡ s → number R x ≡ κ → (base R ((A′ x) .0) ≡ (A (base R x)) .0) × ((A′ x) .1 ≡ (A (base R x)) .1))
+      → ((x : Index R) → next-rep R x ≡ r′ → next-rep R ((A′ x) .0) ≡ t′) → Shows m (next-frame R) r′ t′ M A′
+  unfolding next-rep
+  shows-above s t κ r′ t′ M A A′ l is sh dg above ld = record {
+    size = sh .size ∙ dg;
+    leads = ld;
+    shown = λ x e.
+        let (a, b) = stretch-one (made R) (lead x) (number R x) s κ (x .1) l (e ∙ sym is) in
+        let (y, z) = above x a b in
+        sh .shown (base R x) a ∙ ap₂ (λ o w. entry (wide R o) (w .0)) (sym y) (sym z);
+  }
+
+  -- the representation of a number: an extension of a fixed one, or an induction of an orbit
+  pub record Extended (r′ : ℕ) : Type 0 where
+    pub s : ℕ
+    pub κ : ℕ
+    pub s-below : s < N R
+    pub κ-below : κ < made R s
+    pub κ-small : κ < p R
+    pub is : sum s (made R) + κ ≡ r′
+    pub fixed : τ R s ≡ s
+    pub rep-is : repOf (next R) r′ ≡ Steps.extension (P R) m i L s κ
+
+  pub record Induced (r′ : ℕ) : Type 0 where
+    pub s : ℕ
+    pub s-below : s < N R
+    pub κ-below : 0 < made R s
+    pub is : sum s (made R) + 0 ≡ r′
+    pub moved : ¬ (τ R s ≡ s)
+    pub own : leader (O R) s ≡ s
+    pub rep-is : repOf (next R) r′ ≡ Steps.induction (P R) m i L s
+
+  pub at-source : (Q : Type 0) (r′ : ℕ) → r′ < length (next R) → (Extended r′ → Q) → (Induced r′ → Q) → Q
+  at-source Q r′ h ext ind = go (source R r′ h)
+    where
+      go : Source R r′ → Q
+      go o = split (ℕ-discrete (τ R (o .s)) (o .s))
+        where
+          split : Dec (τ R (o .s) ≡ o .s) → Q
+          split (yes f) =
+              let l : o .κ < p R = subst (λ z. o .κ < z) (made-fixed R (o .s) f) (o .κ-below) in
+              ext (record { s = o .s; κ = o .κ; s-below = o .s-below; κ-below = o .κ-below; κ-small = l; is = o .is; fixed = f; rep-is = ap (repOf (next R)) (sym (o .is)) ∙ given-fixed R (o .s) (o .κ) (o .s-below) f l })
+          split (no f) =
+              let l : o .κ < 1 = subst (λ z. o .κ < z) (made-leader R (o .s) f (o .leads)) (o .κ-below) in
+              let z : o .κ ≡ 0 = omega arith in
+              let is : sum (o .s) (made R) + 0 ≡ r′ = ap (λ κ. sum (o .s) (made R) + κ) (sym z) ∙ o .is in
+              ind (record {
+                s = o .s;
+                s-below = o .s-below;
+                κ-below = subst (λ κ. κ < made R (o .s)) z (o .κ-below);
+                is = is;
+                moved = f;
+                own = o .leads;
+                rep-is = ap (repOf (next R)) (sym is) ∙ given-moved R (o .s) 0 (o .s-below) f (o .leads) refl;
+              })
+
+  -- ---- Matrices and references by their generator
+
+  module _ (s κ : ℕ) where
+    pub extension-low : (k : ℕ) → k < suc i → Steps.extension (P R) m i L s κ .matrix k ≡ Steps.extensionBase (P R) m i L s κ .matrix k
+    unfolding Steps.extension
+    extension-low k l = cond-true (leb k i) _ _ (le-leb k i (omega arith))
+
+    pub extension-up : (j : ℕ) → suc i ≤ j → Steps.extension (P R) m i L s κ .matrix j ≡ repOf L s .matrix j
+    unfolding Steps.extension
+    extension-up j l = cond-false (leb j i) _ _ (lt-leb j i l)
+
+    pub extension-refers : (j : ℕ) → suc i ≤ j → (k : ℕ) → Steps.extension (P R) m i L s κ .ref j k ≡ Steps.extension (P R) m i L s κ .ref j 0
+    unfolding Steps.extension
+    extension-refers j l k = refl
+
+    pub extension-base : (g : ℕ) → g < suc i → (k : ℕ) → Steps.extension (P R) m i L s κ .ref g k ≡ s
+    unfolding Steps.extension
+    extension-base g l k = cond-true (leb g i) _ _ (le-leb g i (omega arith))
+
+  module _ (s : ℕ) where
+    pub induction-low : (k : ℕ) → k < suc i → Steps.induction (P R) m i L s .matrix k ≡ Steps.inductionBase (P R) m i L s .matrix k
+    unfolding Steps.induction
+    induction-low k l = cond-true (leb k i) _ _ (le-leb k i (omega arith))
+
+    pub induction-up : (j : ℕ) → suc i ≤ j → Steps.induction (P R) m i L s .matrix j ≡ Steps.blockIntertwiner (P R) m i L j s (Steps.c (P R) m i L j s)
+    unfolding Steps.induction
+    induction-up j l = cond-false (leb j i) _ _ (lt-leb j i l)
+
+    pub induction-refers : (j : ℕ) → suc i ≤ j → (k : ℕ) → Steps.induction (P R) m i L s .ref j k ≡ Steps.induction (P R) m i L s .ref j 0
+    unfolding Steps.induction
+    induction-refers j l k = cond-false (leb j i) _ _ (lt-leb j i l) ∙ sym (cond-false (leb j i) _ _ (lt-leb j i l))
+
+    pub induction-base : (g : ℕ) → g < suc i → (k : ℕ) → Steps.induction (P R) m i L s .ref g k ≡ Steps.orbit (P R) m i L s (k / deg R s)
+    unfolding Steps.induction
+    induction-base g l k = cond-true (leb g i) _ _ (le-leb g i (omega arith))
+
+  module _ (r′ : ℕ) where
+    extended-degree : (e : Extended r′) → spread R (e .s) ≡ repOf (next R) r′ .deg
+    unfolding Steps.extension
+    extended-degree e = spread-fixed R (e .s) (e .fixed) ∙ ap (λ (D : Rep). D .deg) (sym (e .rep-is))
+
+    induced-degree : (e : Induced r′) → spread R (e .s) ≡ repOf (next R) r′ .deg
+    unfolding Steps.induction
+    induced-degree e = spread-moved R (e .s) (e .moved) ∙ ap (λ (D : Rep). D .deg) (sym (e .rep-is))
+
+  -- what the maps of the next level lie above
+  d-above : (g : Nf C (suc i)) (κ : ℕ) (x : Index R) → number R x ≡ κ
+      → (base R ((next-d R g x) .0) ≡ (raised (S R) F (numbered (S R) F (𝓢 R) (ρ R) κ) g (base R x)) .0) × ((next-d R g x) .1 ≡ (raised (S R) F (numbered (S R) F (𝓢 R) (ρ R) κ) g (base R x)) .1)
+  unfolding next-d
+  d-above g κ x b = (ap (λ κ. (raised (S R) F (numbered (S R) F (𝓢 R) (ρ R) κ) g (base R x)) .0) b, ap (λ κ. (raised (S R) F (numbered (S R) F (𝓢 R) (ρ R) κ) g (base R x)) .1) b)
+
+  led-above : (j : ℕ) (ij : suc i ≤ j) (jn : j < T .n) (x : Index R)
+      → (base R ((led R j ij jn x) .0) ≡ (F .X j (base R x)) .0) × ((led R j ij jn x) .1 ≡ E R .add ((F .X j (base R x)) .1) (c (S R) m pos F (ready R) j ij jn (rep R (base R x))))
+  unfolding led
+  led-above j ij jn x = (refl, refl)
+
+  -- ---- Generators of the level
+
+  pub next-represents : (k : ℕ) → k < suc i → (r′ : ℕ) → r′ < length (next R) → Shows m (next-frame R) r′ r′ (repOf (next R) r′ .matrix k) (family R .d (genNf (T .context) (suc i) k))
+  next-represents k l r′ h = at-source (Shows m (next-frame R) r′ r′ (repOf (next R) r′ .matrix k) (family R .d g)) r′ h ext ind
+    where
+      g : Nf C (suc i)
+      g = genNf C (suc i) k
+
+      inside : (x : Index R) → next-rep R x ≡ r′ → next-rep R ((family R .d g x) .0) ≡ r′
+      inside x e = family R .inside g x ∙ e
+
+      ext : Extended r′ → Shows m (next-frame R) r′ r′ (repOf (next R) r′ .matrix k) (family R .d g)
+      ext e =
+          subst (λ (M : Matrix). Shows m (next-frame R) r′ r′ M (family R .d g)) (sym (ap (λ (D : Rep). D .matrix k) (e .rep-is) ∙ extension-low (e .s) (e .κ) k l))
+          (shows-above (e .s) (e .s) (e .κ) r′ r′ _ (raised (S R) F (numbered (S R) F (𝓢 R) (ρ R) (e .κ)) g) (family R .d g) (e .κ-below) (e .is)
+          (fixed-spreads R (e .fixed) (e .s-below) (e .fixed) (base-shows R (e .s) (e .κ) (e .s-below) (e .fixed) k l)) (extended-degree r′ e)
+          (λ x a b. d-above g (e .κ) x b) inside)
+
+      ind : Induced r′ → Shows m (next-frame R) r′ r′ (repOf (next R) r′ .matrix k) (family R .d g)
+      ind e =
+          subst (λ (M : Matrix). Shows m (next-frame R) r′ r′ M (family R .d g)) (sym (ap (λ (D : Rep). D .matrix k) (e .rep-is) ∙ induction-low (e .s) k l))
+          (shows-above (e .s) (e .s) 0 r′ r′ _ (raised (S R) F (𝓢 R) g) (family R .d g) (e .κ-below) (e .is) (induced-shows R (e .s) (e .s-below) (e .moved) (e .own) k l) (induced-degree r′ e)
+          (λ x a b. let (y, z) = d-above g 0 x b in (y ∙ ap (λ f. (f g (base R x)) .0) (numbered-zero (S R) F (𝓢 R) (ρ R)), z ∙ ap (λ f. (f g (base R x)) .1) (numbered-zero (S R) F (𝓢 R) (ρ R)))) inside)
+
+  -- ---- Generators above
+
+  module _ (j : ℕ) (ij : suc i ≤ j) (jn : j < T .n) where
+    scaled : Map (E R) Ω
+    scaled a = ((F .X j a) .0, E R .add ((F .X j a) .1) (c (S R) m pos F (ready R) j ij jn (rep R a)))
+
+    pub next-intertwines : (r′ : ℕ) → r′ < length (next R) → Shows m (next-frame R) r′ (next-target R j r′) (repOf (next R) r′ .matrix j) (next-X R j)
+    unfolding scaled
+    next-intertwines r′ h =
+        subst (λ (f : Map (E R) (Index R)). Shows m (next-frame R) r′ (next-target R j r′) (repOf (next R) r′ .matrix j) f) (sym (next-X-is R j ij jn))
+        (at-source (Shows m (next-frame R) r′ (next-target R j r′) (repOf (next R) r′ .matrix j) (led R j ij jn)) r′ h ext ind)
+      where
+        leads : (x : Index R) → next-rep R x ≡ r′ → next-rep R ((led R j ij jn x) .0) ≡ next-target R j r′
+        leads x e = ap (λ f. next-rep R ((f x) .0)) (sym (next-X-is R j ij jn)) ∙ family R .leads j ij jn x ∙ ap (next-target R j) e
+
+        ext : Extended r′ → Shows m (next-frame R) r′ (next-target R j r′) (repOf (next R) r′ .matrix j) (led R j ij jn)
+        ext e =
+            subst (λ (M : Matrix). Shows m (next-frame R) r′ (next-target R j r′) M (led R j ij jn)) (sym (ap (λ (D : Rep). D .matrix j) (e .rep-is) ∙ extension-up (e .s) (e .κ) j ij))
+            (shows-above (e .s) (F .target j (e .s)) (e .κ) r′ (next-target R j r′) (repOf L (e .s) .matrix j) (F .X j) (led R j ij jn) (e .κ-below) (e .is)
+            (fixed-spreads R (e .fixed) (target-below R j ij jn (e .s) (e .s-below)) (target-fixed R j ij jn (e .s) (e .s-below) (e .fixed)) (stands .intertwines j (omega arith) jn (e .s) (e .s-below))) (extended-degree r′ e)
+            (λ x a b. let (y, z) = led-above j ij jn x in (y, z ∙ ap (E R .add ((F .X j (base R x)) .1)) (c-fixed (S R) m pos F (ready R) j ij jn (rep R (base R x)) (fixed-at e x a)) ∙ idr (E R) _)) leads)
+          where
+            fixed-at : (e : Extended r′) (x : Index R) → lead x ≡ e .s → τ R (rep R (base R x)) ≡ rep R (base R x)
+            fixed-at e x a = subst (λ s. τ R s ≡ s) (sym (rep-of-fixed R (base R x) (e .s) a (e .fixed))) (e .fixed)
+
+        ind : Induced r′ → Shows m (next-frame R) r′ (next-target R j r′) (repOf (next R) r′ .matrix j) (led R j ij jn)
+        ind e =
+            subst (λ (M : Matrix). Shows m (next-frame R) r′ (next-target R j r′) M (led R j ij jn)) (sym (ap (λ (D : Rep). D .matrix j) (e .rep-is) ∙ induction-up (e .s) j ij))
+            (shows-above (e .s) (leader (O R) (F .target j (e .s))) 0 r′ (next-target R j r′) _ scaled (led R j ij jn) (e .κ-below) (e .is)
+            (led-shows R j ij jn (e .s) (e .s-below) (e .moved) (e .own) (λ a q. refl)) (induced-degree r′ e) (λ x a b. led-above j ij jn x) leads)
+
+    pub next-refers : (r′ : ℕ) → r′ < length (next R) → (k : ℕ) → repOf (next R) r′ .ref j k ≡ next-target R j r′
+    next-refers r′ h k = at-source (repOf (next R) r′ .ref j k ≡ next-target R j r′) r′ h
+        (λ e. ap (λ (D : Rep). D .ref j k) (e .rep-is) ∙ extension-refers (e .s) (e .κ) j ij k ∙ ap (λ (D : Rep). D .ref j 0) (sym (e .rep-is)))
+        (λ e. ap (λ (D : Rep). D .ref j k) (e .rep-is) ∙ induction-refers (e .s) j ij k ∙ ap (λ (D : Rep). D .ref j 0) (sym (e .rep-is)))

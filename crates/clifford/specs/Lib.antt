@@ -1,0 +1,3 @@
+-- What one step up the chief series needs.
+pub mod Extension
+pub mod Stands

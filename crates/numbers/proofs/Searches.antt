@@ -1,0 +1,88 @@
+-- Searches of the definitions: the least number that passes a test, and tests of some number.
+--
+--   anyBelow-elim, anyBelow-intro      some number below n passes
+--   least-found, least-least           where one passes, least finds one, and none below it passes
+--   least-is                           it finds the number that passes, if no other does
+use mathlib.Core.Path.{_≡_, refl, sym, _∙_, ap, subst}
+use mathlib.Core.Bool.{Bool, true, false, _||_, cond, false≢true}
+use Prim.Native.Nat.{ℕ, zero, suc, _+_, _≤_, _<_}
+use native.Mathlib.Omega.{arith}
+use native.Mathlib.Decide.{decLt}
+use Rattle.definitions.specs.Lists.{anyBelow, leastFrom, least}
+use Rattle.numbers.proofs.Bools.{OneOf, first, second, or-cases, cond-true, cond-false}
+use Rattle.numbers.proofs.Lists.{below-suc}
+
+or-right : (a b : Bool) → b ≡ true → a || b ≡ true
+or-right true b h = refl
+or-right false b h = h
+
+or-left : (a b : Bool) → a ≡ true → a || b ≡ true
+or-left true b h = refl
+or-left false b h = absurd (false≢true h)
+
+pub anyBelow-intro : (n : ℕ) (q : ℕ → Bool) (k : ℕ) → k < n → q k ≡ true → anyBelow n q ≡ true
+unfolding anyBelow
+anyBelow-intro zero q k l h = absurd (omega arith)
+anyBelow-intro (suc n) q k l h = go (decLt k n) (λ a. anyBelow-intro n q k a h)
+  where
+    go : Dec (k < n) → (k < n → anyBelow n q ≡ true) → anyBelow n q || q n ≡ true
+    go (yes a) r = or-left (anyBelow n q) (q n) (r a)
+    go (no a) r = let e : k ≡ n = omega arith in or-right (anyBelow n q) (q n) (subst (λ s. q s ≡ true) e h)
+
+pub anyBelow-elim : (n : ℕ) (q : ℕ → Bool) → anyBelow n q ≡ true → (k : ℕ) × (k < n) × (q k ≡ true)
+unfolding anyBelow
+anyBelow-elim zero q h = absurd (false≢true h)
+anyBelow-elim (suc n) q h = go (or-cases (anyBelow n q) (q n) h) (anyBelow-elim n q)
+  where
+    go : OneOf (anyBelow n q) (q n) → (anyBelow n q ≡ true → (k : ℕ) × (k < n) × (q k ≡ true)) → (k : ℕ) × (k < suc n) × (q k ≡ true)
+    go (first a) r = let (k, b, c) = r a in (k, omega arith, c)
+    go (second a) r = (n, omega arith, a)
+
+-- what is known of a search in n trials from k: it ends by k + n, nothing before its end passes, and its end passes
+-- unless it is k + n
+record Found (n k : ℕ) (q : ℕ → Bool) : Type 0 where
+  low : k ≤ leastFrom n k q
+  high : leastFrom n k q ≤ k + n
+  before : (j : ℕ) → k ≤ j → j < leastFrom n k q → q j ≡ false
+  passes : leastFrom n k q < k + n → q (leastFrom n k q) ≡ true
+
+found : (n k : ℕ) (q : ℕ → Bool) → Found n k q
+unfolding leastFrom
+found zero k q = record { low = omega arith; high = omega arith; before = λ j a b. absurd (omega arith); passes = λ a. absurd (omega arith) }
+found (suc n) k q = go (q k) refl (found n (suc k) q)
+  where
+    go : (b : Bool) → q k ≡ b → Found n (suc k) q → Found (suc n) k q
+    go true e F =
+        let z : leastFrom (suc n) k q ≡ k = cond-true (q k) k (leastFrom n (suc k) q) e in
+        record { low = omega arith; high = omega arith; before = λ j a b. absurd (omega arith); passes = λ a. ap q z ∙ e }
+    go false e F =
+        let z : leastFrom (suc n) k q ≡ leastFrom n (suc k) q = cond-false (q k) k (leastFrom n (suc k) q) e in
+        record {
+          low = omega (arith, F .low);
+          high = omega (arith, F .high);
+          before = λ j a b. early j a (subst (λ s. j < s) z b) (decLt k j);
+          passes = λ a. ap q z ∙ F .passes (omega arith);
+        }
+      where
+        early : (j : ℕ) → k ≤ j → j < leastFrom n (suc k) q → Dec (k < j) → q j ≡ false
+        early j a b (yes c) = F .before j c b
+        early j a b (no c) = let s : k ≡ j = omega arith in ap q (sym s) ∙ e
+
+module _ (n : ℕ) (q : ℕ → Bool) where
+  abbrev F : Found n 0 q
+  F = found n 0 q
+
+  pub least-least : (j : ℕ) → q j ≡ true → least n q ≤ j
+  unfolding least
+  least-least j h = go (decLt j (leastFrom n 0 q))
+    where
+      go : Dec (j < leastFrom n 0 q) → leastFrom n 0 q ≤ j
+      go (yes a) = absurd (false≢true (sym (F .before j (omega arith) a) ∙ h))
+      go (no a) = omega arith
+
+  pub least-found : (k : ℕ) → k < n → q k ≡ true → (least n q < n) × (q (least n q) ≡ true)
+  unfolding least
+  least-found k l h = let a : leastFrom n 0 q ≤ k = least-least k h in (omega arith, F .passes (omega arith))
+
+  pub least-is : (k : ℕ) → k < n → q k ≡ true → ((j : ℕ) → j < n → q j ≡ true → j ≡ k) → least n q ≡ k
+  least-is k l h one = let (a, b) = least-found k l h in one (least n q) a b
