@@ -3,8 +3,8 @@ use mathlib.Core.Path.{_≡_, sym, _∙_, subst}
 use Prim.Native.Nat.{ℕ, suc, _+_, _-_, _≤_, _<_}
 use native.Mathlib.Omega.{arith}
 use lib.ListN.{getD, length}
-use Rattle.collector.specs.Rows.{Small}
-use Rattle.collector.proofs.Steps.{small-below, ready-below, small-generator, Turning, turning-start, turning-more, product-low-at, product-high-at, product-zero, Powering, powering-start, powering-more, conjugate-zero, conjugate-keeps-at, conjugate-moves-at, lower-small}
+use Rattle.collector.specs.Rows.{Small, Power}
+use Rattle.collector.proofs.Steps.{small-below, ready-below, small-generator, Turning, turning-start, turning-more, product-low-at, product-high-at, product-zero, powering-start, powering-more, conjugate-zero, conjugate-keeps-at, conjugate-moves-at, lower-small}
 use denote.Ref.{now}
 use borrow.Fn.Kinds.{In}
 use borrow.Fn.PlainCycle.{Measures, is, falls, and}
@@ -41,7 +41,7 @@ abbrev product-below : ℕ → In 2 product-kinds.ps
 product-below t = and 2 product-kinds.ps (falls 2 product-kinds.ps _<_ μ-product t) product.Pre
 
 abbrev conjugate-Inv-loop : conjugate-lts.InvT-loop
-conjugate-Inv-loop primes words k j l e z h r₀ n₀ r n = (n ≤ e) × Powering k primes words h r n
+conjugate-Inv-loop primes words k j l e z h r₀ n₀ r n = (n ≤ e) × Power k primes words h r n
 
 abbrev conjugate-μ-loop : conjugate-lts.MeasureT-loop
 conjugate-μ-loop primes words k j l e z h r₀ n₀ r n = e - n
@@ -452,7 +452,7 @@ conjugate-returns-3 t c =
     let e : l .n ≡ getD x (k - 1) 0 = omega (arith, l .inv .0) in
     conjugate-moves-at k (z .args .j) ps ws x (q .result) (w .result) (omega (arith, c .before .before .before .before .before .before .before .before .before .if1 .left)) (z .pre .1 .1) (omega (arith, z .pre .1 .1, z .pre .1 .0 .few)) (z .pre .1 .2) (q .ensures) (w .ensures)
     (c .before .before .before .before .generator .result) (c .before .before .before .product .result) (l .r) (c .product3 .result) (c .before .before .before .before .generator .ensures) (c .before .before .before .product .ensures)
-    (subst (Powering k ps ws (c .before .before .before .product .result) (l .r)) e (l .inv .1)) (c .product3 .ensures)
+    (subst (Power k ps ws (c .before .before .before .product .result) (l .r)) e (l .inv .1)) (c .product3 .ensures)
 
 abbrev product-Inv-loop : product-lts.InvT-loop
 product-Inv-loop primes words i x y k b c₀ n₀ left₀ c n left = Turning k b primes words x c n left

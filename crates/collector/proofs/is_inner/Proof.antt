@@ -1,0 +1,84 @@
+use mathlib.Core.Path.{_≡_, refl, sym, _∙_, ap, subst}
+use mathlib.Core.Bool.{Bool, true, false, not}
+use mathlib.Core.List.{[]}
+use Prim.Native.Nat.{ℕ, suc, _+_, _-_, _≤_, _<_}
+use native.Mathlib.Omega.{arith}
+use lib.ListN.{getD, length}
+use denote.Ref.{now}
+use borrow.Author.Tests.{not-true, not-false}
+use Rattle.definitions.specs.Lists.{allBelow}
+use Rattle.definitions.specs.Consistency.{levelTest}
+use Rattle.collector.specs.Rows.{Small, Ready, Images}
+use Rattle.collector.specs.Answers.{Answer, powerKept, commutatorKept, innerAt}
+use Rattle.collector.proofs.Steps.{small-below, ready-below, small-generator}
+use Rattle.collector.proofs.Answers.{answer-none, answer-more, answer-fails, word-small, power-kept, commutator-kept, power-fixed, inner-at, powers-all, commutators-all, inner-all, level-first, level-second, level-third, level-last}
+use borrow.Author.Needs.{needs}
+use Rattle.collector.proofs.is_inner.Statement.{statement}
+use Rattle.collector.proofs.is_inner.Tie as tie
+use Rattle.collector.proofs.is_inner.Reads as reads
+use Rattle.collector.proofs.is_inner.Lts as lts
+use Rattle.collector.proofs.is_inner_at.Reads as is-inner-at-reads
+
+abbrev Inv-loop : tie.InvT-loop
+Inv-loop primes words i k₀ k = (k ≤ i) × Answer (suc i) primes words (λ P. allBelow k (innerAt P i)) true
+
+abbrev μ-loop : tie.MeasureT-loop
+μ-loop primes words i k₀ k = i - k
+
+-- src/lib.rt:324:5
+loop-holds : tie.Need-loop-holds Inv-loop μ-loop
+loop-holds c = (search needs, answer-none _ _ _ _)
+
+-- src/lib.rt:325:13
+is-inner-at-requires : tie.Need-is-inner-at-requires Inv-loop μ-loop
+is-inner-at-requires c κs = search needs
+
+-- src/lib.rt:326:13
+returns : tie.Need-returns Inv-loop μ-loop
+returns c =
+    let z = c .before .before .before .before in
+    let ps = now (z .args .primes) in
+    let ws = now (z .args .words) in
+    let l = c .before .before .before .loop in
+    inner-all (z .args .i) ps ws false (answer-fails (suc (z .args .i)) ps ws (λ P. innerAt P (z .args .i)) (l .k) (z .args .i) (c .before .is-inner-at .result) (search needs) (not-true _ (c .if1 .taken)) (c .before .is-inner-at .ensures))
+
+-- src/lib.rt:324:9
+add-k : tie.Need-add-k Inv-loop μ-loop
+add-k c = search needs
+
+-- src/lib.rt:324:5
+loop-less : tie.Need-loop-less Inv-loop μ-loop
+loop-less c = search needs
+
+-- src/lib.rt:324:5
+loop-again : tie.Need-loop-again Inv-loop μ-loop
+loop-again c =
+    let z = c .before .before .before .before in
+    let ps = now (z .args .primes) in
+    let ws = now (z .args .words) in
+    let l = c .before .before .before .loop in
+    (search needs, answer-more (suc (z .args .i)) ps ws (λ P. innerAt P (z .args .i)) (l .k) (c .before .is-inner-at .result) (not-false _ (c .if1 .left)) (l .inv .1) (c .before .is-inner-at .ensures))
+
+-- src/lib.rt:320:1
+returns-2 : tie.Need-returns-2 Inv-loop μ-loop
+returns-2 c =
+    let z = c .before .before in
+    let ps = now (z .args .primes) in
+    let ws = now (z .args .words) in
+    let l = c .before .loop in
+    let e : l .k ≡ z .args .i = omega arith in
+    inner-all (z .args .i) ps ws true (subst (λ k. Answer (suc (z .args .i)) ps ws (λ P. allBelow k (innerAt P (z .args .i))) true) e (l .inv .1))
+
+pub is-inner-spec : {M : Type 1} → statement M
+is-inner-spec =
+    tie.close
+    (tie.spec
+    Inv-loop
+    μ-loop
+    loop-holds
+    is-inner-at-requires
+    returns
+    add-k
+    loop-less
+    loop-again
+    returns-2)
