@@ -8,13 +8,13 @@
 use mathlib.Core.Path.{_≡_, refl, sym, _∙_, ap, ap₂, subst}
 use mathlib.Core.Bool.{Bool, true, false, _&&_}
 use mathlib.Core.List.{List, []}
-use Prim.Native.Nat.{ℕ, zero, suc, _+_, _≤_, _<_}
+use Prim.Native.Nat.{ℕ, suc, _+_, _≤_, _<_}
 use native.Mathlib.Numerals.{add-one}
 use native.Mathlib.Omega.{arith}
 use lib.ListN.{getD}
 use Rattle.definitions.specs.Lists.{allBelow, iter}
 use Rattle.definitions.specs.Presentation.{toNF, Presentation, power, value, pairNumber}
-use Rattle.definitions.specs.Consistency.{mul, conj, forms, image, generator, sameForm, keepsPowers, keepsCommutators, fixesPower, powerIsInner, levelTest}
+use Rattle.definitions.specs.Consistency.{mul, conj, forms, image, sameForm, keepsPowers, keepsCommutators, fixesPower, powerIsInner, levelTest}
 use Rattle.numbers.proofs.Bools.{and-intro}
 use Rattle.numbers.proofs.Lists.{allBelow-fails}
 use Rattle.group.specs.Context.{Context}

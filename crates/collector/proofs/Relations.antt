@@ -4,17 +4,16 @@
 --   holds-reads       primes and words that hold the relations say their presentation
 --   holds-ready       and are in range, where refusals 11 to 14 let the relations pass
 --   decides           the answer for every level is the answer for the relations
-use mathlib.Core.Path.{_≡_, refl, sym, _∙_, ap, subst}
-use mathlib.Core.Bool.{Bool, true, false, _||_}
-use mathlib.Core.List.{List, []}
-use Prim.Native.Nat.{ℕ, zero, suc, _+_, _*_, _≤_, _<_}
+use mathlib.Core.Path.{_≡_, sym, _∙_, ap, subst}
+use mathlib.Core.Bool.{Bool, true, false}
+use mathlib.Core.List.{List}
+use Prim.Native.Nat.{ℕ, zero, suc, _*_, _≤_, _<_}
 use native.Mathlib.Nat.{mul-le-mul-left, mul-le-mul-right}
 use native.Mathlib.Omega.{arith}
 use lib.Dec.{ltb}
-use lib.ListN.{getD}
 use borrow.Author.Tests.{ltb-false}
 use Rattle.definitions.specs.Lists.{allBelow}
-use Rattle.definitions.specs.Presentation.{maxGenerators, maxOrder, toNF, order, Relations, pairNumber, rowOf, wellFormed, someNotPrime, tooLarge, misused, presentation}
+use Rattle.definitions.specs.Presentation.{maxGenerators, maxOrder, order, Relations, wellFormed, someNotPrime, tooLarge, misused, presentation}
 use Rattle.definitions.specs.Consistency.{levelTest, test}
 use Rattle.numbers.proofs.Bools.{or-false-left, or-false-right}
 use Rattle.numbers.proofs.Lists.{below-suc}
@@ -22,7 +21,7 @@ use Rattle.group.specs.Context.{Context}
 use Rattle.group.proofs.Order.{order-positive}
 use Rattle.group.proofs.Rows.{toNF-ext}
 use Rattle.group.proofs.Context.{prime-two, exponent-below, context}
-use Rattle.collector.specs.Rows.{Small, Ready, Reads}
+use Rattle.collector.specs.Rows.{Ready, Reads}
 use Rattle.collector.specs.Answers.{Answer, Holds, Decides}
 
 pub prime-order : (C : Context) (i k : ℕ) → k < i → C .P .p k ≤ order (C .P) i

@@ -4,7 +4,7 @@
 --   Turning, turning-start, turning-more       the loop of product: conjugates of the lower part, turn after turn
 --   product-zero, product-low, product-high    level 0; no carry; a carry
 --   powering-start, powering-more    the loop of conjugation: powers of the image of a generator
---   conjugate-zero, conjugate-keeps, conjugate-moves    level 0; the exponent stays; the general step
+--   conjugate-zero, conjugate-stays, conjugate-moves    level 0; the exponent stays; the general step
 use mathlib.Core.Path.{_≡_, refl, sym, _∙_, ap, ap₂, subst}
 use mathlib.Core.Bool.{true, _||_}
 use mathlib.Core.List.{List, []}
@@ -142,8 +142,8 @@ module _ (l j : ℕ) (ps : List ℕ) (ws : List (List ℕ)) (x z w : List ℕ) (
   word-is : (C : Context) → Reads C (suc j) ps ws → toNF (suc l) w ≡ C .P .w l j
   word-is C R = ap (toNF (suc l)) we ∙ R .w-is l j lj (omega arith)
 
-  pub conjugate-keeps : (eqb (getD x l 0) 0 || sameForm (suc l) (toNF (suc l) w) (trivial (suc l))) ≡ true → Conjugate (suc l) j ps ws x (set z l (getD x l 0))
-  conjugate-keeps h = record { small = small-set l ps z _ long (q .small) (sx .below l (omega arith)); is = λ C R. equal C R (or-cases _ _ h) }
+  pub conjugate-stays : (eqb (getD x l 0) 0 || sameForm (suc l) (toNF (suc l) w) (trivial (suc l))) ≡ true → Conjugate (suc l) j ps ws x (set z l (getD x l 0))
+  conjugate-stays h = record { small = small-set l ps z _ long (q .small) (sx .below l (omega arith)); is = λ C R. equal C R (or-cases _ _ h) }
     where
       equal : (C : Context) → Reads C (suc j) ps ws → OneOf (eqb (getD x l 0) 0) (sameForm (suc l) (toNF (suc l) w) (trivial (suc l)))
           → toNF (suc l) (set z l (getD x l 0)) ≡ conj (C .P) (suc l) j (toNF (suc l) x)
@@ -189,9 +189,9 @@ module _ (k j : ℕ) (ps : List ℕ) (ws : List (List ℕ)) (x z w : List ℕ) (
   level′ : suc (k - 1) ≡ k
   level′ = omega arith
 
-  pub conjugate-keeps-at : (eqb (getD x (k - 1) 0) 0 || sameForm k (toNF k w) (trivial k)) ≡ true → Conjugate k j ps ws x (set z (k - 1) (getD x (k - 1) 0))
-  conjugate-keeps-at h = subst (λ m. Conjugate m j ps ws x (set z (k - 1) (getD x (k - 1) 0))) level′
-      (conjugate-keeps (k - 1) j ps ws x z w (omega arith) (omega arith) (subst (λ m. Small m ps x) (sym level′) sx) q we
+  pub conjugate-stays-at : (eqb (getD x (k - 1) 0) 0 || sameForm k (toNF k w) (trivial k)) ≡ true → Conjugate k j ps ws x (set z (k - 1) (getD x (k - 1) 0))
+  conjugate-stays-at h = subst (λ m. Conjugate m j ps ws x (set z (k - 1) (getD x (k - 1) 0))) level′
+      (conjugate-stays (k - 1) j ps ws x z w (omega arith) (omega arith) (subst (λ m. Small m ps x) (sym level′) sx) q we
       (subst (λ m. (eqb (getD x (k - 1) 0) 0 || sameForm m (toNF m w) (trivial m)) ≡ true) (sym level′) h))
 
   pub conjugate-moves-at : (g h r s : List ℕ) → Generator (k - 1) g → Product k ps ws g w h → Power k ps ws h r (getD x (k - 1) 0) → Product k ps ws r (set z (k - 1) 0) s

@@ -4,22 +4,21 @@
 --   turned-done                   repeated conjugation when no turn is left
 --   images-none, images-more      the table of images, one more
 --   value-none, value-more        the value over the images, one exponent more
-use mathlib.Core.Path.{_≡_, refl, sym, _∙_, ap, ap₂, subst}
+use mathlib.Core.Path.{_≡_, sym, _∙_, ap, ap₂, subst}
 use mathlib.Core.List.{List, []}
-use Prim.Native.Nat.{ℕ, zero, suc, _+_, _-_, _≤_, _<_}
+use Prim.Native.Nat.{ℕ, suc, _+_, _<_}
 use native.Mathlib.Numerals.{add-one}
 use native.Mathlib.Omega.{arith}
 use lib.ListN.{length, getD, set, replicate}
 use lib.Seq.{getD-set-same, getD-set-other}
 use Rattle.definitions.specs.Lists.{iter}
-use Rattle.definitions.specs.Presentation.{toNF, trivial, power, value}
-use Rattle.definitions.specs.Consistency.{mul, conj, forms, image, generator}
+use Rattle.definitions.specs.Presentation.{toNF, power, value}
+use Rattle.definitions.specs.Consistency.{mul, conj, forms, image}
 use Rattle.numbers.proofs.Lists.{below-suc, iter-zero}
-use Rattle.group.specs.Context.{Context}
 use Rattle.group.proofs.Values.{power-zero, value-zero, value-suc}
 use Rattle.group.proofs.Units.{mul-trivial-left}
 use Rattle.group.proofs.Rows.{toNF-suc, toNF-trivial}
-use Rattle.collector.specs.Rows.{Small, Ready, Reads, Generator, Product, Conjugate, Power, Scaled, Turned, Images, Value}
+use Rattle.collector.specs.Rows.{Small, Ready, Generator, Product, Conjugate, Power, Scaled, Turned, Images, Value}
 use Rattle.collector.proofs.Laws.{zeros, generator-is}
 use Rattle.collector.proofs.Steps.{reads-below, small-valid, small-zeros, Turning}
 
