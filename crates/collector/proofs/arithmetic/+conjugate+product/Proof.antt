@@ -44,82 +44,34 @@ product-at t = and 2 product-kinds.ps (is 2 product-kinds.ps μ-product t) produ
 abbrev product-below : ℕ → In 2 product-kinds.ps
 product-below t = and 2 product-kinds.ps (falls 2 product-kinds.ps _<_ μ-product t) product.Pre
 
+-- what the calls of each ask and tell
+abbrev conjugate-claims : ℕ → conjugate-lts.Claims
+conjugate-claims t = (conjugate-below t, conjugate.Post, word-reads.Asked, word-reads.Learnt, stays-reads.Asked, stays-reads.Learnt, generator-reads.Asked, generator-reads.Learnt, product-below t, product.Post)
+
+abbrev product-claims : ℕ → product-lts.Claims
+product-claims t = (conjugate-below t, conjugate.Post, remaining-reads.Asked, remaining-reads.Learnt, product-below t, product.Post, word-reads.Asked, word-reads.Learnt)
+
 abbrev conjugate-Inv-loop : conjugate-lts.InvT-loop
 conjugate-Inv-loop primes words k j l e z h r₀ n₀ r n = (n ≤ e) × Power k primes words h r n
 
 abbrev conjugate-μ-loop : conjugate-lts.MeasureT-loop
 conjugate-μ-loop primes words k j l e z h r₀ n₀ r n = e - n
 
-conjugate-returns : (t : ℕ) → conjugate-lts.Need-returns (
-  conjugate-below t,
-  conjugate.Post,
-  word-reads.Asked,
-  word-reads.Learnt,
-  stays-reads.Asked,
-  stays-reads.Learnt,
-  generator-reads.Asked,
-  generator-reads.Learnt,
-  product-below t,
-  product.Post,
-) (conjugate-at t) conjugate.Post conjugate-Inv-loop conjugate-μ-loop
+conjugate-returns : (t : ℕ) → conjugate-lts.Need-returns (conjugate-claims t) (conjugate-at t) conjugate.Post conjugate-Inv-loop conjugate-μ-loop
 conjugate-returns t c =
     let z = c .before in
     conjugate-zero (z .args .k) (z .args .j) (now (z .args .primes)) (now (z .args .words)) (z .args .t5) (c .if1 .taken)
 
-conjugate-sub-l : (t : ℕ) → conjugate-lts.Need-sub-l (
-  conjugate-below t,
-  conjugate.Post,
-  word-reads.Asked,
-  word-reads.Learnt,
-  stays-reads.Asked,
-  stays-reads.Learnt,
-  generator-reads.Asked,
-  generator-reads.Learnt,
-  product-below t,
-  product.Post,
-) (conjugate-at t) conjugate.Post conjugate-Inv-loop conjugate-μ-loop
+conjugate-sub-l : (t : ℕ) → conjugate-lts.Need-sub-l (conjugate-claims t) (conjugate-at t) conjugate.Post conjugate-Inv-loop conjugate-μ-loop
 conjugate-sub-l t c = search needs
 
-conjugate-mul-e : (t : ℕ) → conjugate-lts.Need-mul-e (
-  conjugate-below t,
-  conjugate.Post,
-  word-reads.Asked,
-  word-reads.Learnt,
-  stays-reads.Asked,
-  stays-reads.Learnt,
-  generator-reads.Asked,
-  generator-reads.Learnt,
-  product-below t,
-  product.Post,
-) (conjugate-at t) conjugate.Post conjugate-Inv-loop conjugate-μ-loop
+conjugate-mul-e : (t : ℕ) → conjugate-lts.Need-mul-e (conjugate-claims t) (conjugate-at t) conjugate.Post conjugate-Inv-loop conjugate-μ-loop
 conjugate-mul-e t c = search needs
 
-conjugate-array-read-e : (t : ℕ) → conjugate-lts.Need-array-read-e (
-  conjugate-below t,
-  conjugate.Post,
-  word-reads.Asked,
-  word-reads.Learnt,
-  stays-reads.Asked,
-  stays-reads.Learnt,
-  generator-reads.Asked,
-  generator-reads.Learnt,
-  product-below t,
-  product.Post,
-) (conjugate-at t) conjugate.Post conjugate-Inv-loop conjugate-μ-loop
+conjugate-array-read-e : (t : ℕ) → conjugate-lts.Need-array-read-e (conjugate-claims t) (conjugate-at t) conjugate.Post conjugate-Inv-loop conjugate-μ-loop
 conjugate-array-read-e t c = search needs
 
-conjugate-conjugate-requires : (t : ℕ) → conjugate-lts.Need-conjugate-requires (
-  conjugate-below t,
-  conjugate.Post,
-  word-reads.Asked,
-  word-reads.Learnt,
-  stays-reads.Asked,
-  stays-reads.Learnt,
-  generator-reads.Asked,
-  generator-reads.Learnt,
-  product-below t,
-  product.Post,
-) (conjugate-at t) conjugate.Post conjugate-Inv-loop conjugate-μ-loop
+conjugate-conjugate-requires : (t : ℕ) → conjugate-lts.Need-conjugate-requires (conjugate-claims t) (conjugate-at t) conjugate.Post conjugate-Inv-loop conjugate-μ-loop
 conjugate-conjugate-requires t c κs =
     let z = c .before in
     let ps = now (z .args .primes) in
@@ -128,78 +80,23 @@ conjugate-conjugate-requires t c κs =
     let x = z .args .t5 in
     (omega (arith, z .pre .0), (z .pre .1 .0, omega (arith, z .pre .1 .1), small-below (k - 1) k ps x (omega arith) (z .pre .1 .2)))
 
-conjugate-word-requires : (t : ℕ) → conjugate-lts.Need-word-requires (
-  conjugate-below t,
-  conjugate.Post,
-  word-reads.Asked,
-  word-reads.Learnt,
-  stays-reads.Asked,
-  stays-reads.Learnt,
-  generator-reads.Asked,
-  generator-reads.Learnt,
-  product-below t,
-  product.Post,
-) (conjugate-at t) conjugate.Post conjugate-Inv-loop conjugate-μ-loop
+conjugate-word-requires : (t : ℕ) → conjugate-lts.Need-word-requires (conjugate-claims t) (conjugate-at t) conjugate.Post conjugate-Inv-loop conjugate-μ-loop
 conjugate-word-requires t c κs =
     let z = c .before .before in
     (omega (arith, z .pre .1 .1), omega (arith, z .pre .1 .0 .few))
 
-conjugate-stays-requires : (t : ℕ) → conjugate-lts.Need-stays-requires (
-  conjugate-below t,
-  conjugate.Post,
-  word-reads.Asked,
-  word-reads.Learnt,
-  stays-reads.Asked,
-  stays-reads.Learnt,
-  generator-reads.Asked,
-  generator-reads.Learnt,
-  product-below t,
-  product.Post,
-) (conjugate-at t) conjugate.Post conjugate-Inv-loop conjugate-μ-loop
+conjugate-stays-requires : (t : ℕ) → conjugate-lts.Need-stays-requires (conjugate-claims t) (conjugate-at t) conjugate.Post conjugate-Inv-loop conjugate-μ-loop
 conjugate-stays-requires t c κs =
     let z = c .before .before .before in
     omega (arith, z .pre .1 .0 .few, z .pre .1 .1)
 
-conjugate-mul-z : (t : ℕ) → conjugate-lts.Need-mul-z (
-  conjugate-below t,
-  conjugate.Post,
-  word-reads.Asked,
-  word-reads.Learnt,
-  stays-reads.Asked,
-  stays-reads.Learnt,
-  generator-reads.Asked,
-  generator-reads.Learnt,
-  product-below t,
-  product.Post,
-) (conjugate-at t) conjugate.Post conjugate-Inv-loop conjugate-μ-loop
+conjugate-mul-z : (t : ℕ) → conjugate-lts.Need-mul-z (conjugate-claims t) (conjugate-at t) conjugate.Post conjugate-Inv-loop conjugate-μ-loop
 conjugate-mul-z t c = search needs
 
-conjugate-array-write-z : (t : ℕ) → conjugate-lts.Need-array-write-z (
-  conjugate-below t,
-  conjugate.Post,
-  word-reads.Asked,
-  word-reads.Learnt,
-  stays-reads.Asked,
-  stays-reads.Learnt,
-  generator-reads.Asked,
-  generator-reads.Learnt,
-  product-below t,
-  product.Post,
-) (conjugate-at t) conjugate.Post conjugate-Inv-loop conjugate-μ-loop
+conjugate-array-write-z : (t : ℕ) → conjugate-lts.Need-array-write-z (conjugate-claims t) (conjugate-at t) conjugate.Post conjugate-Inv-loop conjugate-μ-loop
 conjugate-array-write-z t c = search needs
 
-conjugate-returns-2 : (t : ℕ) → conjugate-lts.Need-returns-2 (
-  conjugate-below t,
-  conjugate.Post,
-  word-reads.Asked,
-  word-reads.Learnt,
-  stays-reads.Asked,
-  stays-reads.Learnt,
-  generator-reads.Asked,
-  generator-reads.Learnt,
-  product-below t,
-  product.Post,
-) (conjugate-at t) conjugate.Post conjugate-Inv-loop conjugate-μ-loop
+conjugate-returns-2 : (t : ℕ) → conjugate-lts.Need-returns-2 (conjugate-claims t) (conjugate-at t) conjugate.Post conjugate-Inv-loop conjugate-μ-loop
 conjugate-returns-2 t c =
     let z = c .before .before .before .before .before in
     let ps = now (z .args .primes) in
@@ -212,62 +109,18 @@ conjugate-returns-2 t c =
     conjugate-stays-at k (z .args .j) ps ws x (q .result) (w .result) (omega arith) (z .pre .1 .1) (omega (arith, z .pre .1 .1, z .pre .1 .0 .few)) (z .pre .1 .2) (q .ensures) (w .ensures)
     (sym (c .before .stays .ensures) ∙ c .if2 .taken)
 
-conjugate-mul-z-2 : (t : ℕ) → conjugate-lts.Need-mul-z-2 (
-  conjugate-below t,
-  conjugate.Post,
-  word-reads.Asked,
-  word-reads.Learnt,
-  stays-reads.Asked,
-  stays-reads.Learnt,
-  generator-reads.Asked,
-  generator-reads.Learnt,
-  product-below t,
-  product.Post,
-) (conjugate-at t) conjugate.Post conjugate-Inv-loop conjugate-μ-loop
+conjugate-mul-z-2 : (t : ℕ) → conjugate-lts.Need-mul-z-2 (conjugate-claims t) (conjugate-at t) conjugate.Post conjugate-Inv-loop conjugate-μ-loop
 conjugate-mul-z-2 t c = search needs
 
-conjugate-array-write-z-2 : (t : ℕ) → conjugate-lts.Need-array-write-z-2 (
-  conjugate-below t,
-  conjugate.Post,
-  word-reads.Asked,
-  word-reads.Learnt,
-  stays-reads.Asked,
-  stays-reads.Learnt,
-  generator-reads.Asked,
-  generator-reads.Learnt,
-  product-below t,
-  product.Post,
-) (conjugate-at t) conjugate.Post conjugate-Inv-loop conjugate-μ-loop
+conjugate-array-write-z-2 : (t : ℕ) → conjugate-lts.Need-array-write-z-2 (conjugate-claims t) (conjugate-at t) conjugate.Post conjugate-Inv-loop conjugate-μ-loop
 conjugate-array-write-z-2 t c = search needs
 
-conjugate-generator-requires : (t : ℕ) → conjugate-lts.Need-generator-requires (
-  conjugate-below t,
-  conjugate.Post,
-  word-reads.Asked,
-  word-reads.Learnt,
-  stays-reads.Asked,
-  stays-reads.Learnt,
-  generator-reads.Asked,
-  generator-reads.Learnt,
-  product-below t,
-  product.Post,
-) (conjugate-at t) conjugate.Post conjugate-Inv-loop conjugate-μ-loop
+conjugate-generator-requires : (t : ℕ) → conjugate-lts.Need-generator-requires (conjugate-claims t) (conjugate-at t) conjugate.Post conjugate-Inv-loop conjugate-μ-loop
 conjugate-generator-requires t c κs =
     let z = c .before .before .before .before .before in
     omega (arith, z .pre .1 .0 .few, z .pre .1 .1)
 
-conjugate-product-requires : (t : ℕ) → conjugate-lts.Need-product-requires (
-  conjugate-below t,
-  conjugate.Post,
-  word-reads.Asked,
-  word-reads.Learnt,
-  stays-reads.Asked,
-  stays-reads.Learnt,
-  generator-reads.Asked,
-  generator-reads.Learnt,
-  product-below t,
-  product.Post,
-) (conjugate-at t) conjugate.Post conjugate-Inv-loop conjugate-μ-loop
+conjugate-product-requires : (t : ℕ) → conjugate-lts.Need-product-requires (conjugate-claims t) (conjugate-at t) conjugate.Post conjugate-Inv-loop conjugate-μ-loop
 conjugate-product-requires t c κs =
     let z = c .before .before .before .before .before .before in
     let ps = now (z .args .primes) in
@@ -284,18 +137,7 @@ conjugate-product-requires t c κs =
       ),
     )
 
-conjugate-loop-holds : (t : ℕ) → conjugate-lts.Need-loop-holds (
-  conjugate-below t,
-  conjugate.Post,
-  word-reads.Asked,
-  word-reads.Learnt,
-  stays-reads.Asked,
-  stays-reads.Learnt,
-  generator-reads.Asked,
-  generator-reads.Learnt,
-  product-below t,
-  product.Post,
-) (conjugate-at t) conjugate.Post conjugate-Inv-loop conjugate-μ-loop
+conjugate-loop-holds : (t : ℕ) → conjugate-lts.Need-loop-holds (conjugate-claims t) (conjugate-at t) conjugate.Post conjugate-Inv-loop conjugate-μ-loop
 conjugate-loop-holds t c =
     let z = c .before .before .before .before .before .before .before in
     let ps = now (z .args .primes) in
@@ -305,18 +147,7 @@ conjugate-loop-holds t c =
     let r = ready-below k (suc (z .args .j)) ps ws (omega (arith, z .pre .1 .1)) (z .pre .1 .0) in
     (search needs, powering-start k ps ws (c .product .result) r)
 
-conjugate-product-requires-2 : (t : ℕ) → conjugate-lts.Need-product-requires-2 (
-  conjugate-below t,
-  conjugate.Post,
-  word-reads.Asked,
-  word-reads.Learnt,
-  stays-reads.Asked,
-  stays-reads.Learnt,
-  generator-reads.Asked,
-  generator-reads.Learnt,
-  product-below t,
-  product.Post,
-) (conjugate-at t) conjugate.Post conjugate-Inv-loop conjugate-μ-loop
+conjugate-product-requires-2 : (t : ℕ) → conjugate-lts.Need-product-requires-2 (conjugate-claims t) (conjugate-at t) conjugate.Post conjugate-Inv-loop conjugate-μ-loop
 conjugate-product-requires-2 t c κs =
     let z = c .before .before .before .before .before .before .before .before .before in
     let ps = now (z .args .primes) in
@@ -326,18 +157,7 @@ conjugate-product-requires-2 t c κs =
     let r = ready-below k (suc (z .args .j)) ps ws (omega (arith, z .pre .1 .1)) (z .pre .1 .0) in
     (omega (arith, z .pre .0), (r, c .before .before .product .ensures .small, c .before .loop .inv .1 .small))
 
-conjugate-add-n : (t : ℕ) → conjugate-lts.Need-add-n (
-  conjugate-below t,
-  conjugate.Post,
-  word-reads.Asked,
-  word-reads.Learnt,
-  stays-reads.Asked,
-  stays-reads.Learnt,
-  generator-reads.Asked,
-  generator-reads.Learnt,
-  product-below t,
-  product.Post,
-) (conjugate-at t) conjugate.Post conjugate-Inv-loop conjugate-μ-loop
+conjugate-add-n : (t : ℕ) → conjugate-lts.Need-add-n (conjugate-claims t) (conjugate-at t) conjugate.Post conjugate-Inv-loop conjugate-μ-loop
 conjugate-add-n t c =
     let z = c .before .before .before .before .before .before .before .before .before .before in
     let ps = now (z .args .primes) in
@@ -346,32 +166,10 @@ conjugate-add-n t c =
     let x = z .args .t5 in
     omega (arith, z .pre .1 .2 .below (k - 1) (omega arith), z .pre .1 .0 .bounded (k - 1) (omega (arith, z .pre .1 .1)))
 
-conjugate-loop-less : (t : ℕ) → conjugate-lts.Need-loop-less (
-  conjugate-below t,
-  conjugate.Post,
-  word-reads.Asked,
-  word-reads.Learnt,
-  stays-reads.Asked,
-  stays-reads.Learnt,
-  generator-reads.Asked,
-  generator-reads.Learnt,
-  product-below t,
-  product.Post,
-) (conjugate-at t) conjugate.Post conjugate-Inv-loop conjugate-μ-loop
+conjugate-loop-less : (t : ℕ) → conjugate-lts.Need-loop-less (conjugate-claims t) (conjugate-at t) conjugate.Post conjugate-Inv-loop conjugate-μ-loop
 conjugate-loop-less t c = search needs
 
-conjugate-loop-again : (t : ℕ) → conjugate-lts.Need-loop-again (
-  conjugate-below t,
-  conjugate.Post,
-  word-reads.Asked,
-  word-reads.Learnt,
-  stays-reads.Asked,
-  stays-reads.Learnt,
-  generator-reads.Asked,
-  generator-reads.Learnt,
-  product-below t,
-  product.Post,
-) (conjugate-at t) conjugate.Post conjugate-Inv-loop conjugate-μ-loop
+conjugate-loop-again : (t : ℕ) → conjugate-lts.Need-loop-again (conjugate-claims t) (conjugate-at t) conjugate.Post conjugate-Inv-loop conjugate-μ-loop
 conjugate-loop-again t c =
     let z = c .before .before .before .before .before .before .before .before .before .before in
     let ps = now (z .args .primes) in
@@ -380,18 +178,7 @@ conjugate-loop-again t c =
     let x = z .args .t5 in
     (search needs, powering-more k ps ws (c .before .before .before .product .result) (c .before .before .loop .r) (c .product2 .result) (c .before .before .loop .n) (c .before .before .loop .inv .1) (c .product2 .ensures))
 
-conjugate-product-requires-3 : (t : ℕ) → conjugate-lts.Need-product-requires-3 (
-  conjugate-below t,
-  conjugate.Post,
-  word-reads.Asked,
-  word-reads.Learnt,
-  stays-reads.Asked,
-  stays-reads.Learnt,
-  generator-reads.Asked,
-  generator-reads.Learnt,
-  product-below t,
-  product.Post,
-) (conjugate-at t) conjugate.Post conjugate-Inv-loop conjugate-μ-loop
+conjugate-product-requires-3 : (t : ℕ) → conjugate-lts.Need-product-requires-3 (conjugate-claims t) (conjugate-at t) conjugate.Post conjugate-Inv-loop conjugate-μ-loop
 conjugate-product-requires-3 t c κs =
     let z = c .before .before .before .before .before .before .before .before .before in
     let ps = now (z .args .primes) in
@@ -410,18 +197,7 @@ conjugate-product-requires-3 t c κs =
       ),
     )
 
-conjugate-returns-3 : (t : ℕ) → conjugate-lts.Need-returns-3 (
-  conjugate-below t,
-  conjugate.Post,
-  word-reads.Asked,
-  word-reads.Learnt,
-  stays-reads.Asked,
-  stays-reads.Learnt,
-  generator-reads.Asked,
-  generator-reads.Learnt,
-  product-below t,
-  product.Post,
-) (conjugate-at t) conjugate.Post conjugate-Inv-loop conjugate-μ-loop
+conjugate-returns-3 : (t : ℕ) → conjugate-lts.Need-returns-3 (conjugate-claims t) (conjugate-at t) conjugate.Post conjugate-Inv-loop conjugate-μ-loop
 conjugate-returns-3 t c =
     let z = c .before .before .before .before .before .before .before .before .before .before in
     let ps = now (z .args .primes) in
@@ -443,66 +219,21 @@ product-Inv-loop primes words i x y k b c₀ n₀ left₀ c n left = Turning k b
 abbrev product-μ-loop : product-lts.MeasureT-loop
 product-μ-loop primes words i x y k b c₀ n₀ left₀ c n left = left
 
-product-returns : (t : ℕ) → product-lts.Need-returns (
-  conjugate-below t,
-  conjugate.Post,
-  remaining-reads.Asked,
-  remaining-reads.Learnt,
-  product-below t,
-  product.Post,
-  word-reads.Asked,
-  word-reads.Learnt,
-) (product-at t) product.Post product-Inv-loop product-μ-loop
+product-returns : (t : ℕ) → product-lts.Need-returns (product-claims t) (product-at t) product.Post product-Inv-loop product-μ-loop
 product-returns t c =
     let z = c .before in
     product-zero (z .args .i) (now (z .args .primes)) (now (z .args .words)) (z .args .t4) (z .args .t5) (c .if1 .taken)
 
-product-sub-k : (t : ℕ) → product-lts.Need-sub-k (
-  conjugate-below t,
-  conjugate.Post,
-  remaining-reads.Asked,
-  remaining-reads.Learnt,
-  product-below t,
-  product.Post,
-  word-reads.Asked,
-  word-reads.Learnt,
-) (product-at t) product.Post product-Inv-loop product-μ-loop
+product-sub-k : (t : ℕ) → product-lts.Need-sub-k (product-claims t) (product-at t) product.Post product-Inv-loop product-μ-loop
 product-sub-k t c = search needs
 
-product-mul-b : (t : ℕ) → product-lts.Need-mul-b (
-  conjugate-below t,
-  conjugate.Post,
-  remaining-reads.Asked,
-  remaining-reads.Learnt,
-  product-below t,
-  product.Post,
-  word-reads.Asked,
-  word-reads.Learnt,
-) (product-at t) product.Post product-Inv-loop product-μ-loop
+product-mul-b : (t : ℕ) → product-lts.Need-mul-b (product-claims t) (product-at t) product.Post product-Inv-loop product-μ-loop
 product-mul-b t c = search needs
 
-product-array-read-b : (t : ℕ) → product-lts.Need-array-read-b (
-  conjugate-below t,
-  conjugate.Post,
-  remaining-reads.Asked,
-  remaining-reads.Learnt,
-  product-below t,
-  product.Post,
-  word-reads.Asked,
-  word-reads.Learnt,
-) (product-at t) product.Post product-Inv-loop product-μ-loop
+product-array-read-b : (t : ℕ) → product-lts.Need-array-read-b (product-claims t) (product-at t) product.Post product-Inv-loop product-μ-loop
 product-array-read-b t c = search needs
 
-product-loop-holds : (t : ℕ) → product-lts.Need-loop-holds (
-  conjugate-below t,
-  conjugate.Post,
-  remaining-reads.Asked,
-  remaining-reads.Learnt,
-  product-below t,
-  product.Post,
-  word-reads.Asked,
-  word-reads.Learnt,
-) (product-at t) product.Post product-Inv-loop product-μ-loop
+product-loop-holds : (t : ℕ) → product-lts.Need-loop-holds (product-claims t) (product-at t) product.Post product-Inv-loop product-μ-loop
 product-loop-holds t c =
     let z = c .before in
     let ps = now (z .args .primes) in
@@ -512,16 +243,7 @@ product-loop-holds t c =
     let y = z .args .t5 in
     turning-start (i - 1) (getD y (i - 1) 0) ps ws x (small-below (i - 1) i ps x (omega arith) (z .pre .1 .1))
 
-product-conjugate-requires : (t : ℕ) → product-lts.Need-conjugate-requires (
-  conjugate-below t,
-  conjugate.Post,
-  remaining-reads.Asked,
-  remaining-reads.Learnt,
-  product-below t,
-  product.Post,
-  word-reads.Asked,
-  word-reads.Learnt,
-) (product-at t) product.Post product-Inv-loop product-μ-loop
+product-conjugate-requires : (t : ℕ) → product-lts.Need-conjugate-requires (product-claims t) (product-at t) product.Post product-Inv-loop product-μ-loop
 product-conjugate-requires t c κs =
     let z = c .before .before .before in
     let ps = now (z .args .primes) in
@@ -531,69 +253,24 @@ product-conjugate-requires t c κs =
     let y = z .args .t5 in
     (omega (arith, z .pre .0), (ready-below (suc (i - 1)) i ps ws (omega arith) (z .pre .1 .0), omega arith, c .before .loop .inv .small))
 
-product-add-n : (t : ℕ) → product-lts.Need-add-n (
-  conjugate-below t,
-  conjugate.Post,
-  remaining-reads.Asked,
-  remaining-reads.Learnt,
-  product-below t,
-  product.Post,
-  word-reads.Asked,
-  word-reads.Learnt,
-) (product-at t) product.Post product-Inv-loop product-μ-loop
+product-add-n : (t : ℕ) → product-lts.Need-add-n (product-claims t) (product-at t) product.Post product-Inv-loop product-μ-loop
 product-add-n t c =
     let z = c .before .before .before .before in
     let i = z .args .i in
     omega (arith, c .before .before .loop .inv .total, z .pre .1 .2 .below (i - 1) (omega arith), z .pre .1 .0 .bounded (i - 1) (omega arith))
 
-product-sub-remaining : (t : ℕ) → product-lts.Need-sub-remaining (
-  conjugate-below t,
-  conjugate.Post,
-  remaining-reads.Asked,
-  remaining-reads.Learnt,
-  product-below t,
-  product.Post,
-  word-reads.Asked,
-  word-reads.Learnt,
-) (product-at t) product.Post product-Inv-loop product-μ-loop
+product-sub-remaining : (t : ℕ) → product-lts.Need-sub-remaining (product-claims t) (product-at t) product.Post product-Inv-loop product-μ-loop
 product-sub-remaining t c = search needs
 
-product-remaining-requires : (t : ℕ) → product-lts.Need-remaining-requires (
-  conjugate-below t,
-  conjugate.Post,
-  remaining-reads.Asked,
-  remaining-reads.Learnt,
-  product-below t,
-  product.Post,
-  word-reads.Asked,
-  word-reads.Learnt,
-) (product-at t) product.Post product-Inv-loop product-μ-loop
+product-remaining-requires : (t : ℕ) → product-lts.Need-remaining-requires (product-claims t) (product-at t) product.Post product-Inv-loop product-μ-loop
 product-remaining-requires t c κs =
     let z = c .before .before .before .before in
     (omega (arith, z .pre .1 .0 .few), omega arith)
 
-product-loop-less : (t : ℕ) → product-lts.Need-loop-less (
-  conjugate-below t,
-  conjugate.Post,
-  remaining-reads.Asked,
-  remaining-reads.Learnt,
-  product-below t,
-  product.Post,
-  word-reads.Asked,
-  word-reads.Learnt,
-) (product-at t) product.Post product-Inv-loop product-μ-loop
+product-loop-less : (t : ℕ) → product-lts.Need-loop-less (product-claims t) (product-at t) product.Post product-Inv-loop product-μ-loop
 product-loop-less t c = search needs
 
-product-loop-again : (t : ℕ) → product-lts.Need-loop-again (
-  conjugate-below t,
-  conjugate.Post,
-  remaining-reads.Asked,
-  remaining-reads.Learnt,
-  product-below t,
-  product.Post,
-  word-reads.Asked,
-  word-reads.Learnt,
-) (product-at t) product.Post product-Inv-loop product-μ-loop
+product-loop-again : (t : ℕ) → product-lts.Need-loop-again (product-claims t) (product-at t) product.Post product-Inv-loop product-μ-loop
 product-loop-again t c =
     let z = c .before .before .before .before .before in
     let ps = now (z .args .primes) in
@@ -604,16 +281,7 @@ product-loop-again t c =
     let l = c .before .before .before .loop in
     turning-more (i - 1) (getD y (i - 1) 0) ps ws x (l .c) (c .before .conjugate .result) (l .n) (l .left) (c .remaining .result) (search needs) (l .inv) (c .before .conjugate .ensures) (c .remaining .ensures)
 
-product-product-requires : (t : ℕ) → product-lts.Need-product-requires (
-  conjugate-below t,
-  conjugate.Post,
-  remaining-reads.Asked,
-  remaining-reads.Learnt,
-  product-below t,
-  product.Post,
-  word-reads.Asked,
-  word-reads.Learnt,
-) (product-at t) product.Post product-Inv-loop product-μ-loop
+product-product-requires : (t : ℕ) → product-lts.Need-product-requires (product-claims t) (product-at t) product.Post product-Inv-loop product-μ-loop
 product-product-requires t c κs =
     let z = c .before .before .before in
     let ps = now (z .args .primes) in
@@ -623,103 +291,31 @@ product-product-requires t c κs =
     let y = z .args .t5 in
     (omega (arith, z .pre .0), (ready-below (i - 1) i ps ws (omega arith) (z .pre .1 .0), c .before .loop .inv .small, small-below (i - 1) i ps y (omega arith) (z .pre .1 .2)))
 
-product-mul-s : (t : ℕ) → product-lts.Need-mul-s (
-  conjugate-below t,
-  conjugate.Post,
-  remaining-reads.Asked,
-  remaining-reads.Learnt,
-  product-below t,
-  product.Post,
-  word-reads.Asked,
-  word-reads.Learnt,
-) (product-at t) product.Post product-Inv-loop product-μ-loop
+product-mul-s : (t : ℕ) → product-lts.Need-mul-s (product-claims t) (product-at t) product.Post product-Inv-loop product-μ-loop
 product-mul-s t c = search needs
 
-product-array-read-s : (t : ℕ) → product-lts.Need-array-read-s (
-  conjugate-below t,
-  conjugate.Post,
-  remaining-reads.Asked,
-  remaining-reads.Learnt,
-  product-below t,
-  product.Post,
-  word-reads.Asked,
-  word-reads.Learnt,
-) (product-at t) product.Post product-Inv-loop product-μ-loop
+product-array-read-s : (t : ℕ) → product-lts.Need-array-read-s (product-claims t) (product-at t) product.Post product-Inv-loop product-μ-loop
 product-array-read-s t c = search needs
 
-product-add-s : (t : ℕ) → product-lts.Need-add-s (
-  conjugate-below t,
-  conjugate.Post,
-  remaining-reads.Asked,
-  remaining-reads.Learnt,
-  product-below t,
-  product.Post,
-  word-reads.Asked,
-  word-reads.Learnt,
-) (product-at t) product.Post product-Inv-loop product-μ-loop
+product-add-s : (t : ℕ) → product-lts.Need-add-s (product-claims t) (product-at t) product.Post product-Inv-loop product-μ-loop
 product-add-s t c =
     let z = c .before .before .before .before in
     let i = z .args .i in
     omega (arith, z .pre .1 .1 .below (i - 1) (omega arith), z .pre .1 .2 .below (i - 1) (omega arith), z .pre .1 .0 .bounded (i - 1) (omega arith))
 
-product-mul-p : (t : ℕ) → product-lts.Need-mul-p (
-  conjugate-below t,
-  conjugate.Post,
-  remaining-reads.Asked,
-  remaining-reads.Learnt,
-  product-below t,
-  product.Post,
-  word-reads.Asked,
-  word-reads.Learnt,
-) (product-at t) product.Post product-Inv-loop product-μ-loop
+product-mul-p : (t : ℕ) → product-lts.Need-mul-p (product-claims t) (product-at t) product.Post product-Inv-loop product-μ-loop
 product-mul-p t c = search needs
 
-product-element-copy-out-p : (t : ℕ) → product-lts.Need-element-copy-out-p (
-  conjugate-below t,
-  conjugate.Post,
-  remaining-reads.Asked,
-  remaining-reads.Learnt,
-  product-below t,
-  product.Post,
-  word-reads.Asked,
-  word-reads.Learnt,
-) (product-at t) product.Post product-Inv-loop product-μ-loop
+product-element-copy-out-p : (t : ℕ) → product-lts.Need-element-copy-out-p (product-claims t) (product-at t) product.Post product-Inv-loop product-μ-loop
 product-element-copy-out-p t c = search needs
 
-product-mul-z : (t : ℕ) → product-lts.Need-mul-z (
-  conjugate-below t,
-  conjugate.Post,
-  remaining-reads.Asked,
-  remaining-reads.Learnt,
-  product-below t,
-  product.Post,
-  word-reads.Asked,
-  word-reads.Learnt,
-) (product-at t) product.Post product-Inv-loop product-μ-loop
+product-mul-z : (t : ℕ) → product-lts.Need-mul-z (product-claims t) (product-at t) product.Post product-Inv-loop product-μ-loop
 product-mul-z t c = search needs
 
-product-array-write-z : (t : ℕ) → product-lts.Need-array-write-z (
-  conjugate-below t,
-  conjugate.Post,
-  remaining-reads.Asked,
-  remaining-reads.Learnt,
-  product-below t,
-  product.Post,
-  word-reads.Asked,
-  word-reads.Learnt,
-) (product-at t) product.Post product-Inv-loop product-μ-loop
+product-array-write-z : (t : ℕ) → product-lts.Need-array-write-z (product-claims t) (product-at t) product.Post product-Inv-loop product-μ-loop
 product-array-write-z t c = search needs
 
-product-returns-2 : (t : ℕ) → product-lts.Need-returns-2 (
-  conjugate-below t,
-  conjugate.Post,
-  remaining-reads.Asked,
-  remaining-reads.Learnt,
-  product-below t,
-  product.Post,
-  word-reads.Asked,
-  word-reads.Learnt,
-) (product-at t) product.Post product-Inv-loop product-μ-loop
+product-returns-2 : (t : ℕ) → product-lts.Need-returns-2 (product-claims t) (product-at t) product.Post product-Inv-loop product-μ-loop
 product-returns-2 t c =
     let z = c .before .before .before .before .before .before in
     let ps = now (z .args .primes) in
@@ -733,30 +329,12 @@ product-returns-2 t c =
     let long : length (q .result) ≡ 12 = search needs in
     product-low-at i ps ws x y (l .c) (q .result) (l .n) (l .left) (omega arith) over (l .inv) (q .ensures) (omega (arith, z .pre .1 .0 .few)) (search needs)
 
-product-word-requires : (t : ℕ) → product-lts.Need-word-requires (
-  conjugate-below t,
-  conjugate.Post,
-  remaining-reads.Asked,
-  remaining-reads.Learnt,
-  product-below t,
-  product.Post,
-  word-reads.Asked,
-  word-reads.Learnt,
-) (product-at t) product.Post product-Inv-loop product-μ-loop
+product-word-requires : (t : ℕ) → product-lts.Need-word-requires (product-claims t) (product-at t) product.Post product-Inv-loop product-μ-loop
 product-word-requires t c κs =
     let z = c .before .before .before .before .before .before in
     (omega arith, omega (arith, z .pre .1 .0 .few))
 
-product-product-requires-2 : (t : ℕ) → product-lts.Need-product-requires-2 (
-  conjugate-below t,
-  conjugate.Post,
-  remaining-reads.Asked,
-  remaining-reads.Learnt,
-  product-below t,
-  product.Post,
-  word-reads.Asked,
-  word-reads.Learnt,
-) (product-at t) product.Post product-Inv-loop product-μ-loop
+product-product-requires-2 : (t : ℕ) → product-lts.Need-product-requires-2 (product-claims t) (product-at t) product.Post product-Inv-loop product-μ-loop
 product-product-requires-2 t c κs =
     let z = c .before .before .before .before .before .before .before in
     let ps = now (z .args .primes) in
@@ -772,40 +350,13 @@ product-product-requires-2 t c κs =
       ),
     )
 
-product-mul-v : (t : ℕ) → product-lts.Need-mul-v (
-  conjugate-below t,
-  conjugate.Post,
-  remaining-reads.Asked,
-  remaining-reads.Learnt,
-  product-below t,
-  product.Post,
-  word-reads.Asked,
-  word-reads.Learnt,
-) (product-at t) product.Post product-Inv-loop product-μ-loop
+product-mul-v : (t : ℕ) → product-lts.Need-mul-v (product-claims t) (product-at t) product.Post product-Inv-loop product-μ-loop
 product-mul-v t c = search needs
 
-product-array-write-v : (t : ℕ) → product-lts.Need-array-write-v (
-  conjugate-below t,
-  conjugate.Post,
-  remaining-reads.Asked,
-  remaining-reads.Learnt,
-  product-below t,
-  product.Post,
-  word-reads.Asked,
-  word-reads.Learnt,
-) (product-at t) product.Post product-Inv-loop product-μ-loop
+product-array-write-v : (t : ℕ) → product-lts.Need-array-write-v (product-claims t) (product-at t) product.Post product-Inv-loop product-μ-loop
 product-array-write-v t c = search needs
 
-product-returns-3 : (t : ℕ) → product-lts.Need-returns-3 (
-  conjugate-below t,
-  conjugate.Post,
-  remaining-reads.Asked,
-  remaining-reads.Learnt,
-  product-below t,
-  product.Post,
-  word-reads.Asked,
-  word-reads.Learnt,
-) (product-at t) product.Post product-Inv-loop product-μ-loop
+product-returns-3 : (t : ℕ) → product-lts.Need-returns-3 (product-claims t) (product-at t) product.Post product-Inv-loop product-μ-loop
 product-returns-3 t c =
     let z = c .before .before .before .before .before .before .before .before in
     let ps = now (z .args .primes) in
@@ -822,18 +373,7 @@ product-returns-3 t c =
     (omega (arith, z .pre .1 .0 .few)) (search needs) (z .pre .1 .1) (z .pre .1 .2)
 
 pub +conjugate+product-spec : {M : Type 1} → statement M
-+conjugate+product-spec = close μ-conjugate μ-product (λ t. conjugate-lts.spec (
-  conjugate-below t,
-  conjugate.Post,
-  word-reads.Asked,
-  word-reads.Learnt,
-  stays-reads.Asked,
-  stays-reads.Learnt,
-  generator-reads.Asked,
-  generator-reads.Learnt,
-  product-below t,
-  product.Post,
-)
++conjugate+product-spec = close μ-conjugate μ-product (λ t. conjugate-lts.spec (conjugate-claims t)
     (conjugate-at t)
     conjugate.Post
     conjugate-Inv-loop
