@@ -5,7 +5,7 @@
 --   same-none, same-more, same-differs    the comparison of two rows from the top down
 --   generator-row, generator-is    the row of a generator, and the normal form that it says
 --   remaining-all, remaining-period    the turns that are left
---   keeps-zero, keeps-word         an exponent that stays
+--   stays-zero, stays-word         an exponent that stays
 use mathlib.Core.Path.{_≡_, refl, sym, _∙_, ap, ap₂, subst}
 use mathlib.Core.Logic.{_≢_}
 use mathlib.Core.Bool.{Bool, true, false, _&&_, _||_, cond}
@@ -100,8 +100,8 @@ remaining-period k x c n left l s = record {
 
 -- ---- Exponents that stay
 
-pub keeps-zero : (k e : ℕ) (w : List ℕ) → e ≡ 0 → true ≡ (eqb e 0 || sameForm k (toNF k w) (trivial k))
-keeps-zero k e w q = ap (λ t. t || sameForm k (toNF k w) (trivial k)) (sym (eq-eqb e 0 q))
+pub stays-zero : (k e : ℕ) (w : List ℕ) → e ≡ 0 → true ≡ (eqb e 0 || sameForm k (toNF k w) (trivial k))
+stays-zero k e w q = ap (λ t. t || sameForm k (toNF k w) (trivial k)) (sym (eq-eqb e 0 q))
 
-pub keeps-word : (k e : ℕ) (w : List ℕ) → e ≢ 0 → sameForm k (toNF k w) (toNF k (replicate 12 0)) ≡ (eqb e 0 || sameForm k (toNF k w) (trivial k))
-keeps-word k e w q = ap (sameForm k (toNF k w)) (toNF-trivial k (replicate 12 0) (λ m l. zeros m)) ∙ ap (λ t. t || sameForm k (toNF k w) (trivial k)) (sym (ne-eqb e 0 q))
+pub stays-word : (k e : ℕ) (w : List ℕ) → e ≢ 0 → sameForm k (toNF k w) (toNF k (replicate 12 0)) ≡ (eqb e 0 || sameForm k (toNF k w) (trivial k))
+stays-word k e w q = ap (sameForm k (toNF k w)) (toNF-trivial k (replicate 12 0) (λ m l. zeros m)) ∙ ap (λ t. t || sameForm k (toNF k w) (trivial k)) (sym (ne-eqb e 0 q))

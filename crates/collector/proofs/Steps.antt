@@ -3,8 +3,8 @@
 --   small-below, ready-below, reads-below      what holds of m generators holds of fewer
 --   Turning, turning-start, turning-more       the loop of product: conjugates of the lower part, turn after turn
 --   product-zero, product-low, product-high    level 0; no carry; a carry
---   Powering, powering-start, powering-more    the loop of conjugation: powers of the image of a generator
---   conjugate-zero, conjugate-keeps, conjugate-moves    level 0; the exponent stays; the general step
+--   powering-start, powering-more    the loop of conjugation: powers of the image of a generator
+--   conjugate-zero, conjugate-stays, conjugate-moves    level 0; the exponent stays; the general step
 use mathlib.Core.Path.{_≡_, refl, sym, _∙_, ap, ap₂, subst}
 use mathlib.Core.Bool.{true, _||_}
 use mathlib.Core.List.{List, []}
@@ -26,7 +26,7 @@ use Rattle.group.proofs.Values.{power-zero, power-suc}
 use Rattle.group.proofs.Clauses.{mulStep-below, mulStep-over, mul-suc, conj-suc, generator-top, sameForm-eq}
 use Rattle.group.proofs.Units.{conj-empty, conj-zero}
 use Rattle.group.proofs.Rows.{toNF-suc, toNF-set-top, toNF-trivial, toNF-valid}
-use Rattle.collector.specs.Rows.{Small, Ready, Reads, Generator, Product, Conjugate, Remaining}
+use Rattle.collector.specs.Rows.{Small, Ready, Reads, Generator, Product, Conjugate, Remaining, Power}
 use Rattle.collector.proofs.Laws.{zeros, generator-is}
 
 -- ---- Fewer generators
@@ -124,16 +124,11 @@ product-zero i ps ws x y e = subst (λ i. Product i ps ws x y x) (sym e) (record
 
 -- ---- Conjugation
 
--- r is h to the power n
-pub record Powering (k : ℕ) (ps : List ℕ) (ws : List (List ℕ)) (h r : List ℕ) (n : ℕ) : Type 0 where
-  pub small : Small k ps r
-  pub is : (C : Context) → Reads C k ps ws → toNF k r ≡ power (forms (C .P) k) (toNF k h) n
-
 module _ (k : ℕ) (ps : List ℕ) (ws : List (List ℕ)) (h : List ℕ) where
-  pub powering-start : Ready k ps ws → Powering k ps ws h (replicate 12 0) 0
+  pub powering-start : Ready k ps ws → Power k ps ws h (replicate 12 0) 0
   powering-start r = record { small = small-zeros k ps ws r; is = λ C R. toNF-trivial k (replicate 12 0) (λ m l. zeros m) ∙ sym (power-zero (forms (C .P) k) (toNF k h)) }
 
-  pub powering-more : (r s : List ℕ) (n : ℕ) → Powering k ps ws h r n → Product k ps ws h r s → Powering k ps ws h s (n + 1)
+  pub powering-more : (r s : List ℕ) (n : ℕ) → Power k ps ws h r n → Product k ps ws h r s → Power k ps ws h s (n + 1)
   powering-more r s n t q = record {
     small = q .small;
     is = λ C R. q .is C R ∙ ap (mul (C .P) k (toNF k h)) (t .is C R) ∙ sym (power-suc (forms (C .P) k) (toNF k h) n) ∙ ap (power (forms (C .P) k) (toNF k h)) (sym (add-one n));
@@ -147,8 +142,8 @@ module _ (l j : ℕ) (ps : List ℕ) (ws : List (List ℕ)) (x z w : List ℕ) (
   word-is : (C : Context) → Reads C (suc j) ps ws → toNF (suc l) w ≡ C .P .w l j
   word-is C R = ap (toNF (suc l)) we ∙ R .w-is l j lj (omega arith)
 
-  pub conjugate-keeps : (eqb (getD x l 0) 0 || sameForm (suc l) (toNF (suc l) w) (trivial (suc l))) ≡ true → Conjugate (suc l) j ps ws x (set z l (getD x l 0))
-  conjugate-keeps h = record { small = small-set l ps z _ long (q .small) (sx .below l (omega arith)); is = λ C R. equal C R (or-cases _ _ h) }
+  pub conjugate-stays : (eqb (getD x l 0) 0 || sameForm (suc l) (toNF (suc l) w) (trivial (suc l))) ≡ true → Conjugate (suc l) j ps ws x (set z l (getD x l 0))
+  conjugate-stays h = record { small = small-set l ps z _ long (q .small) (sx .below l (omega arith)); is = λ C R. equal C R (or-cases _ _ h) }
     where
       equal : (C : Context) → Reads C (suc j) ps ws → OneOf (eqb (getD x l 0) 0) (sameForm (suc l) (toNF (suc l) w) (trivial (suc l)))
           → toNF (suc l) (set z l (getD x l 0)) ≡ conj (C .P) (suc l) j (toNF (suc l) x)
@@ -161,7 +156,7 @@ module _ (l j : ℕ) (ps : List ℕ) (ws : List (List ℕ)) (x z w : List ℕ) (
           go (first a) = let e = eqb-true (getD x l 0) 0 a in subst (λ t. conj (C .P) (suc l) j (t, toNF l x) ≡ (t, conj (C .P) l j (toNF l x))) (sym e) (conj-zero C l j (toNF l x) (valid .1))
           go (second a) = conj-empty C l j (getD x l 0, toNF l x) valid (sym (word-is C R) ∙ sameForm-eq (suc l) _ _ a)
 
-  pub conjugate-moves : (g h r s : List ℕ) → Generator l g → Product (suc l) ps ws g w h → Powering (suc l) ps ws h r (getD x l 0) → Product (suc l) ps ws r (set z l 0) s
+  pub conjugate-moves : (g h r s : List ℕ) → Generator l g → Product (suc l) ps ws g w h → Power (suc l) ps ws h r (getD x l 0) → Product (suc l) ps ws r (set z l 0) s
       → Conjugate (suc l) j ps ws x s
   conjugate-moves g h r s gg qh t qs = record { small = qs .small; is = equal }
     where
@@ -194,16 +189,16 @@ module _ (k j : ℕ) (ps : List ℕ) (ws : List (List ℕ)) (x z w : List ℕ) (
   level′ : suc (k - 1) ≡ k
   level′ = omega arith
 
-  pub conjugate-keeps-at : (eqb (getD x (k - 1) 0) 0 || sameForm k (toNF k w) (trivial k)) ≡ true → Conjugate k j ps ws x (set z (k - 1) (getD x (k - 1) 0))
-  conjugate-keeps-at h = subst (λ m. Conjugate m j ps ws x (set z (k - 1) (getD x (k - 1) 0))) level′
-      (conjugate-keeps (k - 1) j ps ws x z w (omega arith) (omega arith) (subst (λ m. Small m ps x) (sym level′) sx) q we
+  pub conjugate-stays-at : (eqb (getD x (k - 1) 0) 0 || sameForm k (toNF k w) (trivial k)) ≡ true → Conjugate k j ps ws x (set z (k - 1) (getD x (k - 1) 0))
+  conjugate-stays-at h = subst (λ m. Conjugate m j ps ws x (set z (k - 1) (getD x (k - 1) 0))) level′
+      (conjugate-stays (k - 1) j ps ws x z w (omega arith) (omega arith) (subst (λ m. Small m ps x) (sym level′) sx) q we
       (subst (λ m. (eqb (getD x (k - 1) 0) 0 || sameForm m (toNF m w) (trivial m)) ≡ true) (sym level′) h))
 
-  pub conjugate-moves-at : (g h r s : List ℕ) → Generator (k - 1) g → Product k ps ws g w h → Powering k ps ws h r (getD x (k - 1) 0) → Product k ps ws r (set z (k - 1) 0) s
+  pub conjugate-moves-at : (g h r s : List ℕ) → Generator (k - 1) g → Product k ps ws g w h → Power k ps ws h r (getD x (k - 1) 0) → Product k ps ws r (set z (k - 1) 0) s
       → Conjugate k j ps ws x s
   conjugate-moves-at g h r s gg qh t qs = subst (λ m. Conjugate m j ps ws x s) level′
       (conjugate-moves (k - 1) j ps ws x z w (omega arith) (omega arith) (subst (λ m. Small m ps x) (sym level′) sx) q we g h r s gg
-      (subst (λ m. Product m ps ws g w h) (sym level′) qh) (subst (λ m. Powering m ps ws h r (getD x (k - 1) 0)) (sym level′) t)
+      (subst (λ m. Product m ps ws g w h) (sym level′) qh) (subst (λ m. Power m ps ws h r (getD x (k - 1) 0)) (sym level′) t)
       (subst (λ m. Product m ps ws r (set z (k - 1) 0) s) (sym level′) qs))
 
   pub lower-small : Ready k ps ws → Small k ps (set z (k - 1) 0)

@@ -6,6 +6,8 @@
 --   Generator k r                 r is the row of generator k
 --   Product, Conjugate            what product and conjugation return
 --   Remaining                     how many turns are left, once a period is known
+--   Power, Turned                 powers, and conjugates turn after turn
+--   Images, Value                 the images of the generators under conjugation by the next; values over them
 use mathlib.Core.Path.{_≡_}
 use mathlib.Core.Bool.{cond}
 use mathlib.Core.List.{List, []}
@@ -13,8 +15,8 @@ use Prim.Native.Nat.{ℕ, suc, _≤_, _<_}
 use lib.ListN.{getD}
 use lib.Dec.{eqb}
 use Rattle.definitions.specs.Lists.{iter}
-use Rattle.definitions.specs.Presentation.{NF, toNF, pairNumber}
-use Rattle.definitions.specs.Consistency.{mul, conj}
+use Rattle.definitions.specs.Presentation.{NF, toNF, power, value, pairNumber}
+use Rattle.definitions.specs.Consistency.{mul, conj, forms, image}
 use Rattle.group.specs.Context.{Context}
 
 pub record Small (i : ℕ) (primes x : List ℕ) : Type 0 where
@@ -46,3 +48,28 @@ pub record Conjugate (k j : ℕ) (primes : List ℕ) (words : List (List ℕ)) (
 pub record Remaining (k : ℕ) (x c : List ℕ) (n left r : ℕ) : Type 0 where
   pub less : r ≤ left
   pub leads : (f : NF k → NF k) → iter f n (toNF k x) ≡ toNF k c → iter f r (toNF k c) ≡ iter f left (toNF k c)
+
+-- r is x to the power e
+pub record Power (i : ℕ) (primes : List ℕ) (words : List (List ℕ)) (x r : List ℕ) (e : ℕ) : Type 0 where
+  pub small : Small i primes r
+  pub is : (C : Context) → Reads C i primes words → toNF i r ≡ power (forms (C .P) i) (toNF i x) e
+
+-- r is x to the power e, times v
+pub record Scaled (i : ℕ) (primes : List ℕ) (words : List (List ℕ)) (x : List ℕ) (e : ℕ) (v r : List ℕ) : Type 0 where
+  pub small : Small i primes r
+  pub is : (C : Context) → Reads C i primes words → toNF i r ≡ mul (C .P) i (power (forms (C .P) i) (toNF i x) e) (toNF i v)
+
+-- r is x after b conjugations by generator i
+pub record Turned (i b : ℕ) (primes : List ℕ) (words : List (List ℕ)) (x r : List ℕ) : Type 0 where
+  pub small : Small i primes r
+  pub is : (C : Context) → Reads C (suc i) primes words → toNF i r ≡ iter (conj (C .P) i i) b (toNF i x)
+
+-- the first m rows of h are the images of the generators under conjugation of level i by generator i
+pub record Images (i : ℕ) (primes : List ℕ) (words h : List (List ℕ)) (m : ℕ) : Type 0 where
+  pub small : (k : ℕ) → k < m → Small i primes (getD h k [])
+  pub is : (C : Context) → Reads C (suc i) primes words → (k : ℕ) → k < m → toNF i (getD h k []) ≡ image (C .P) i k
+
+-- r is the value over the images of the first k exponents of x
+pub record Value (i : ℕ) (primes : List ℕ) (words : List (List ℕ)) (k : ℕ) (x r : List ℕ) : Type 0 where
+  pub small : Small i primes r
+  pub is : (C : Context) → Reads C (suc i) primes words → toNF i r ≡ value (forms (C .P) i) (image (C .P) i) k (toNF k x)

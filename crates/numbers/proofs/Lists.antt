@@ -2,6 +2,7 @@
 --
 --   below-suc                         a number below suc i is below i, or i
 --   allBelow-elim, allBelow-intro     a test of every number below n, and what it says
+--   allBelow-fails                    a test that fails at one number
 --   all-getD                          a test of every element, at an index
 --   iter-zero, iter-suc, iter-add     iterates, their clauses and their sum
 --   iter-map, iter-op, iter-fix       iterates under a map, of a product, at a fixed point
@@ -10,7 +11,7 @@
 --   sum-ext, sum-mono                 equal terms; a longer sum is at least as large
 --   triangle                          1 + 2 + .. + n
 use mathlib.Core.Path.{_≡_, refl, sym, _∙_, ap, ap₂, subst}
-use mathlib.Core.Bool.{Bool, true}
+use mathlib.Core.Bool.{Bool, true, false, _&&_, and-false}
 use mathlib.Core.List.{List, [], _∷_}
 use Prim.Native.Nat.{ℕ, zero, suc, _+_, _*_, _/_, _%_, _≤_, _<_}
 use native.Mathlib.Nat.{zero-add, suc-add, zero-mul, div-add-mod', div-eq-of-eq-mul-left}
@@ -38,6 +39,12 @@ pub allBelow-intro : (n : ℕ) (q : ℕ → Bool) → ((k : ℕ) → k < n → q
 unfolding allBelow
 allBelow-intro zero q h = refl
 allBelow-intro (suc n) q h = and-intro _ _ (allBelow-intro n q (λ k l. h k (omega arith))) (h n (omega arith))
+
+pub allBelow-fails : (n : ℕ) (q : ℕ → Bool) (k : ℕ) → k < n → q k ≡ false → allBelow n q ≡ false
+unfolding allBelow
+allBelow-fails zero q k l h = absurd (omega arith)
+allBelow-fails (suc n) q k l h = below-suc n (λ k. q k ≡ false → allBelow n q && q n ≡ false)
+    (λ k a e. ap (λ t. t && q n) (allBelow-fails n q k a e)) (λ e. ap (λ t. allBelow n q && t) e ∙ and-false (allBelow n q)) k l h
 
 pub all-getD : {A : Type 0} (q : A → Bool) (xs : List A) (d : A) → all q xs ≡ true → (k : ℕ) → k < length xs → q (getD xs k d) ≡ true
 unfolding all

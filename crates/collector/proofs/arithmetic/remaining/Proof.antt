@@ -1,27 +1,21 @@
+-- `arithmetic::remaining` meets its contract: where c is x again, n turns lead nowhere.
 use mathlib.Core.Path.{sym, _∙_}
 use Rattle.collector.proofs.Laws.{remaining-all, remaining-period}
 use borrow.Author.Needs.{needs}
-use Rattle.collector.proofs.remaining.Statement.{statement}
-use Rattle.collector.proofs.remaining.Tie as tie
-use Rattle.collector.proofs.remaining.Reads as reads
-use Rattle.collector.proofs.remaining.Lts as lts
-use Rattle.collector.proofs.same.Reads as same-reads
+use Rattle.collector.proofs.arithmetic.remaining.Statement.{statement}
+use Rattle.collector.proofs.arithmetic.remaining.Tie as tie
 
--- src/lib.rt:63:8
 same-requires : tie.Need-same-requires
 same-requires c κs = search needs
 
--- src/lib.rt:63:24
 rem-result : tie.Need-rem-result
 rem-result c = search needs
 
--- src/lib.rt:59:1
 returns : tie.Need-returns
 returns c =
     let z = c .before .before in
     remaining-period (z .args .k) (z .args .x) (z .args .c) (z .args .n) (z .args .left) (search needs) (sym (c .before .same .ensures) ∙ c .if1 .taken)
 
--- src/lib.rt:59:1
 returns-2 : tie.Need-returns-2
 returns-2 c = let z = c .before .before in remaining-all (z .args .k) (z .args .x) (z .args .c) (z .args .n) (z .args .left)
 

@@ -1,37 +1,30 @@
+-- `rows::pair` meets its contract: the pairs of generators below j come first, j (j + 1) / 2 of them.
 use mathlib.Core.Path.{sym, _∙_, ap}
 use Rattle.definitions.specs.Presentation.{pairNumber}
 use native.Mathlib.Omega.{arith}
 use Rattle.collector.proofs.Laws.{pair-small, pair-below, pair-power, pair-commutator}
 use borrow.Author.Needs.{needs}
-use Rattle.collector.proofs.pair.Statement.{statement}
-use Rattle.collector.proofs.pair.Tie as tie
-use Rattle.collector.proofs.pair.Reads as reads
-use Rattle.collector.proofs.pair.Lts as lts
+use Rattle.collector.proofs.rows.pair.Statement.{statement}
+use Rattle.collector.proofs.rows.pair.Tie as tie
 
--- src/lib.rt:17:22
 add-first : tie.Need-add-first
 add-first c = search needs
 
--- src/lib.rt:17:17
 mul-first : tie.Need-mul-first
 mul-first c = omega (arith, pair-small (c .args .j) (search needs))
 
--- src/lib.rt:18:32
 add-result : tie.Need-add-result
 add-result c = let z = c .before in omega (arith, pair-commutator (z .args .j) (z .args .i) (search needs) (search needs), pair-below (z .args .j) (z .args .i) (search needs) (search needs))
 
--- src/lib.rt:18:32
 add-result-2 : tie.Need-add-result-2
 add-result-2 c = let z = c .before in omega (arith, pair-commutator (z .args .j) (z .args .i) (search needs) (search needs), pair-below (z .args .j) (z .args .i) (search needs) (search needs))
 
--- src/lib.rt:13:1
 returns : tie.Need-returns
 returns c =
     let z = c .before in
     let e = pair-power (z .args .j) ∙ ap (pairNumber (z .args .j)) (sym (c .if1 .taken)) in
     (e, omega (arith, e, pair-below (z .args .j) (z .args .i) (search needs) (search needs)))
 
--- src/lib.rt:13:1
 returns-2 : tie.Need-returns-2
 returns-2 c =
     let z = c .before in

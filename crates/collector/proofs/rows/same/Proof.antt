@@ -1,14 +1,13 @@
+-- `rows::same` meets its contract: the forms agree above k, so they agree on level i exactly if they agree on level k.
 use mathlib.Core.Path.{_≡_, refl, sym, _∙_, ap}
-use Prim.Native.Nat.{ℕ, _≤_}
+use Prim.Native.Nat.{_≤_}
 use native.Mathlib.Omega.{arith}
 use Rattle.definitions.specs.Presentation.{toNF}
 use Rattle.definitions.specs.Consistency.{sameForm}
 use Rattle.collector.proofs.Laws.{same-none, same-more, same-differs}
 use borrow.Author.Needs.{needs}
-use Rattle.collector.proofs.same.Statement.{statement}
-use Rattle.collector.proofs.same.Tie as tie
-use Rattle.collector.proofs.same.Reads as reads
-use Rattle.collector.proofs.same.Lts as lts
+use Rattle.collector.proofs.rows.same.Statement.{statement}
+use Rattle.collector.proofs.rows.same.Tie as tie
 
 abbrev Inv-loop : tie.InvT-loop
 Inv-loop i x y k₀ k = (k ≤ i) × (i ≤ 12) × (sameForm i (toNF i x) (toNF i y) ≡ sameForm k (toNF k x) (toNF k y))
@@ -16,49 +15,39 @@ Inv-loop i x y k₀ k = (k ≤ i) × (i ≤ 12) × (sameForm i (toNF i x) (toNF 
 abbrev μ-loop : tie.MeasureT-loop
 μ-loop i x y k₀ k = k
 
--- src/lib.rt:46:5
 loop-holds : tie.Need-loop-holds Inv-loop μ-loop
 loop-holds c = (search needs, search needs, refl)
 
--- src/lib.rt:47:9
 sub-k : tie.Need-sub-k Inv-loop μ-loop
 sub-k c = search needs
 
--- src/lib.rt:48:12
 mul-if1 : tie.Need-mul-if1 Inv-loop μ-loop
 mul-if1 c = search needs
 
--- src/lib.rt:48:12
 array-read-if1 : tie.Need-array-read-if1 Inv-loop μ-loop
 array-read-if1 c = search needs
 
--- src/lib.rt:48:20
 mul-if1-2 : tie.Need-mul-if1-2 Inv-loop μ-loop
 mul-if1-2 c = search needs
 
--- src/lib.rt:48:20
 array-read-if1-2 : tie.Need-array-read-if1-2 Inv-loop μ-loop
 array-read-if1-2 c = search needs
 
--- src/lib.rt:49:13
 returns : tie.Need-returns Inv-loop μ-loop
 returns c =
     let z = c .before .before .before in
     let l = c .before .before .loop in
     sym (l .inv .2 ∙ same-differs (l .k) (z .args .t2) (z .args .t3) (search needs) (c .if1 .taken))
 
--- src/lib.rt:46:5
 loop-less : tie.Need-loop-less Inv-loop μ-loop
 loop-less c = search needs
 
--- src/lib.rt:46:5
 loop-again : tie.Need-loop-again Inv-loop μ-loop
 loop-again c =
     let z = c .before .before .before in
     let l = c .before .before .loop in
     (search needs, search needs, l .inv .2 ∙ same-more (l .k) (z .args .t2) (z .args .t3) (search needs) (c .if1 .left))
 
--- src/lib.rt:41:1
 returns-2 : tie.Need-returns-2 Inv-loop μ-loop
 returns-2 c =
     let z = c .before .before in

@@ -1,0 +1,51 @@
+// Rows of exponents: the words of pairs of generators, the rows of generators, and whether two rows say one form.
+ghost use mathlib.Core.Path.{_≡_};
+ghost use mathlib.Core.List.{[]};
+ghost use Prim.Native.Nat.{_≤_, _<_};
+ghost use lib.ListN.{getD};
+ghost use Rattle.definitions.specs.Presentation.{toNF, pairNumber};
+ghost use Rattle.definitions.specs.Consistency.{sameForm};
+ghost use Rattle.collector.specs.Rows.{Generator};
+
+// The number of the pair (j, i), i ≤ j, in the order of the lines.
+pub fn pair(j: usize, i: usize) -> usize
+    requires { ⌜ (i ≤ j) × (j < 12) ⌝ }
+    ensures { λ r. ⌜ (r ≡ pairNumber j i) × (r < 78) ⌝ }
+{
+    let first = j * (j + 1) / 2;
+    if i == j { first } else { first + i + 1 }
+}
+
+// The word of the pair (j, i).
+pub fn word(words: &[[u32; 12]; 78], j: usize, i: usize) -> [u32; 12]
+    requires { ⌜ (i ≤ j) × (j < 12) ⌝ }
+    ensures { λ r. ⌜ r ≡ getD (now (words .entry)) (pairNumber j i) [] ⌝ }
+{
+    let at = pair(j, i);
+    words[at]
+}
+
+// The row of generator k.
+pub fn generator(k: usize) -> [u32; 12]
+    requires { ⌜ k < 12 ⌝ }
+    ensures { λ r. ⌜ Generator k r ⌝ }
+{
+    let mut r = [0u32; 12];
+    r[k] = 1;
+    r
+}
+
+// Two rows say the same normal form of level i.
+pub fn same(i: usize, x: [u32; 12], y: [u32; 12]) -> bool
+    requires { ⌜ i ≤ 12 ⌝ }
+    ensures { λ r. ⌜ r ≡ sameForm i (toNF i x) (toNF i y) ⌝ }
+{
+    let mut k = i;
+    while k > 0 {
+        k -= 1;
+        if x[k] != y[k] {
+            return false;
+        }
+    }
+    true
+}
