@@ -4,3 +4,5 @@ pub mod Pairs
 pub mod Heads
 pub mod Words
 pub mod Names
+pub mod Rows
+pub mod Reading
