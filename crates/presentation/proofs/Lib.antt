@@ -6,3 +6,4 @@ pub mod Words
 pub mod Names
 pub mod Rows
 pub mod Reading
+pub mod Conditions

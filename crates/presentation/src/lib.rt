@@ -2,10 +2,12 @@
 //
 //   Presentation          n, the primes, and the words in rows of rows
 //   make, words_of        the two functions that touch the rows as a field
+//   judge                 refusals 13 and 14
 //   lines                 the lines of a text
 //   prime                 primality of a value
 ghost use mathlib.Core.Path.{_≡_};
 
+pub mod judge;
 pub mod lines;
 pub mod prime;
 
