@@ -1,7 +1,7 @@
 -- The conditions of refusals 13 and 14 over kept words and primes.
 --
 --   product                   the product of the first n primes
---   entryWell, rowWells, pairWell     an exponent, a word, and a line as 14 wants them
+--   entryWell, rowWells, pairWell, allWell     an exponent, a word, a line and all lines as 14 wants them
 --   Primes                    the primes among the list of every p
 use mathlib.Core.Path.{_≡_}
 use mathlib.Core.Bool.{Bool, _&&_, _||_}
@@ -26,6 +26,9 @@ rowWells row primes n j i = allBelow n (λ k. entryWell (getD row k 0) (getD pri
 unfoldable pub pairWell : (words : List (List ℕ)) (ps primes : List ℕ) (n j i : ℕ) → Bool
 pairWell words ps primes n j i =
     (eqb i j || eqb (getD ps (pairNumber j i) 0) 0) && rowWells (getD words (pairNumber j i) []) primes n j i
+
+abbrev pub allWell : (words : List (List ℕ)) (ps primes : List ℕ) (n : ℕ) → Bool
+allWell words ps primes n = allBelow n (λ j. allBelow (suc j) (λ i. pairWell words ps primes n j i))
 
 pub record Primes (ps : List ℕ) (n : ℕ) (primes : List ℕ) : Type 0 where
   pub each : (j : ℕ) → j < n → getD primes j 0 ≡ getD ps (pairNumber j j) 0

@@ -2,3 +2,4 @@
 pub mod Lines
 pub mod Rows
 pub mod Conditions
+pub mod Outcome

@@ -12,7 +12,7 @@ ghost use lib.ListN.{getD};
 ghost use lib.Dec.{ltb, leb, eqb};
 ghost use Rattle.definitions.specs.Lists.{allBelow};
 ghost use Rattle.definitions.specs.Presentation.{pairNumber, allowed, maxOrder};
-ghost use Rattle.presentation.specs.Conditions.{product, entryWell, rowWells, pairWell, Primes};
+ghost use Rattle.presentation.specs.Conditions.{product, entryWell, rowWells, pairWell, allWell, Primes};
 
 // The number of the pair (j, i).
 pub fn pair_number(j: usize, i: usize) -> usize
@@ -148,7 +148,7 @@ fn generator_well(
 // Whether all lines are as they should be.
 pub fn well(words: &[[u32; 12]; 78], ps: &[u32; 78], primes: &[u32; 12], n: usize) -> bool
     requires { ⌜ n ≤ 12 ⌝ }
-    ensures { λ r. ⌜ r ≡ allBelow n (λ j. allBelow (suc j) (λ i. pairWell (now (words .entry)) (now (ps .entry)) (now (primes .entry)) n j i)) ⌝ }
+    ensures { λ r. ⌜ r ≡ allWell (now (words .entry)) (now (ps .entry)) (now (primes .entry)) n ⌝ }
 {
     let mut j: usize = 0;
     while j < n {
