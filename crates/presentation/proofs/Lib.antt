@@ -4,3 +4,7 @@ pub mod Pairs
 pub mod Heads
 pub mod Words
 pub mod Names
+pub mod Rows
+pub mod Reading
+pub mod Conditions
+pub mod Judged

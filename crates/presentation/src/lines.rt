@@ -4,8 +4,13 @@
 //   head           j, i and p of a line
 //   exponents      the n exponents of a line, and its end
 //   next_pair      the pair of the next line
+//   keep           keeps a line
+//   still_prime    the primes so far, with one more
+//   read_lines     all lines of values
+use crate::prime::is_prime;
 use text::Read;
 ghost use mathlib.Core.Path.{_≡_};
+ghost use mathlib.Core.Bool.{_&&_};
 ghost use mathlib.Core.List.{[], _∷_};
 ghost use Prim.Native.Nat.{ℕ, _+_, _<_, _≤_};
 ghost use lib.ListN.{length, drop};
@@ -13,6 +18,7 @@ ghost use Rattle.definitions.specs.Text.{largest};
 ghost use Rattle.definitions.specs.Presentation.{pairNumber};
 ghost use Rattle.text.specs.Reading.{Ends, ReadAt};
 ghost use Rattle.presentation.specs.Lines.{NamesAt, HeadAt, WordAt};
+ghost use Rattle.presentation.specs.Rows.{passes, Kept, LinesAt};
 
 // The number in the exponent's name at a position.
 fn next_name(text: &[u8], at: usize) -> Read
@@ -136,4 +142,74 @@ pub fn next_pair(j: u32, i: u32) -> Pair
         return Pair { j: 1, i: 1 };
     }
     Pair { j, i: 0 }
+}
+
+// Keeps a line, if it is one of the first 78.
+fn keep(words: &mut [[u32; 12]; 78], ps: &mut [u32; 78], k: usize, p: u32, e: [u32; 12])
+    ensures { λ r. ⌜ Kept (now (words .entry)) (now (ps .entry)) k p e (now (words .exit)) (now (ps .exit)) ⌝ }
+{
+    if k < 78 {
+        words[k] = e;
+        ps[k] = p;
+    }
+}
+
+// Whether every p of a line i = j has been prime.
+fn still_prime(primes: bool, j: u32, i: u32, p: u32) -> bool
+    requires { ⌜ p ≤ largest ⌝ }
+    ensures { λ r. ⌜ r ≡ (primes && passes j i p) ⌝ }
+{
+    if !primes {
+        return false;
+    }
+    if i != j {
+        return true;
+    }
+    is_prime(p)
+}
+
+// Whether the lines stand, and whether every p of a line i = j is prime.
+pub struct Lines {
+    pub ok: bool,
+    pub primes: bool,
+}
+
+// The lines of values of a text, from the end of its names line to its own. The first 78 are kept.
+pub fn read_lines(
+    text: &[u8],
+    start: usize,
+    n: u32,
+    words: &mut [[u32; 12]; 78],
+    ps: &mut [u32; 78],
+) -> Lines
+    requires { ⌜ (start ≤ length (now text)) × (n ≤ largest) × (length (now words) ≡ 78) × (length (now ps) ≡ 78) ⌝ }
+    ensures { λ r. ⌜ LinesAt (now (text .entry)) start n (now (words .exit)) (now (ps .exit)) r ⌝ }
+{
+    let mut at = start;
+    let mut j: u32 = 0;
+    let mut i: u32 = 0;
+    let mut k: usize = 0;
+    let mut primes = true;
+    while j < n {
+        let Read::Value(p, behind) = head(text, at, j, i) else {
+            return Lines { ok: false, primes };
+        };
+        let w = exponents(text, behind, n);
+        let ok = w.ok;
+        if !ok {
+            return Lines { ok: false, primes };
+        }
+        let e = w.kept;
+        primes = still_prime(primes, j, i, p);
+        keep(words, ps, k, p, e);
+        at = w.next;
+        k += 1;
+        let q = next_pair(j, i);
+        j = q.j;
+        i = q.i;
+    }
+    Lines {
+        ok: at == text.len(),
+        primes,
+    }
 }
