@@ -1,0 +1,2 @@
+-- Laws of a level that stands in words.
+pub mod Level

@@ -1,0 +1,72 @@
+-- A level that stands in words, and what is known of it before the next level is written.
+--
+--   firstOf, degOf, matrixOf, targetOf      where representation r begins, its degree, the line of a generator, where an
+--                              intertwiner leads
+--   levelIn                    the level, as representations
+--   Stands f W                 the lines of a level stand in W as a build leaves them: bounds, valid matrices, targets of one
+--                              degree, and orbits of the generator on top that close after p steps
+--   Lines, Marks, Numbers, Shifts      arrays that hold where representations begin, leaders and positions, numbers, and the
+--                              constants of the orbits
+use mathlib.Core.Path.{_≡_}
+use Prim.Native.Nat.{ℕ, zero, suc, _+_, _*_, _≤_, _<_}
+use mathlib.Core.List.{List, map}
+use lib.ListN.{length, getD}
+use Rattle.definitions.specs.Lists.{upto, iter}
+use Rattle.definitions.specs.Presentation.{Presentation}
+use Rattle.definitions.specs.Monomial.{Rep, Level}
+use Rattle.definitions.specs.Table.{wordAt, repAt}
+use Rattle.definitions.specs.Steps.{leader, position, start}
+use Rattle.formulas.specs.Formulas.{shift}
+use Rattle.lines.specs.Lines.{Holds}
+use Rattle.survey.specs.declared.Frame.{Frame}
+
+module _ (f : Frame) (W : List ℕ) where
+  unfoldable pub firstOf : ℕ → ℕ
+  firstOf zero = f .base
+  firstOf (suc r) = firstOf r + f .gens * wordAt W (firstOf r) 2
+
+  abbrev pub degOf : ℕ → ℕ
+  degOf r = wordAt W (firstOf r) 2
+
+  -- the line of column 0 of generator g
+  abbrev pub matrixOf : ℕ → ℕ → ℕ
+  matrixOf g r = firstOf r + g * degOf r
+
+  abbrev pub targetOf : ℕ → ℕ → ℕ
+  targetOf j r = wordAt W (matrixOf j r) 4
+
+  abbrev pub repIn : ℕ → Rep
+  repIn r = repAt W (firstOf r) (degOf r)
+
+  unfoldable pub levelIn : Level
+  levelIn = map repIn (upto (f .reps))
+
+  pub record Stands : Type 0 where
+    pub few : f .reps ≤ 4096
+    pub gens : (f .top < f .gens) × (f .gens ≤ 12)
+    pub prime : (1 < f .p) × (f .p ≤ 65536)
+    pub modulus : (0 < f .m) × (f .m ≤ 65536)
+    pub short : (8 * f .end ≤ length W) × (f .end ≤ 16777216)
+    pub inside : (r : ℕ) → r < f .reps → firstOf (suc r) ≤ f .end
+    pub wide : (r : ℕ) → r < f .reps → (0 < degOf r) × (f .p * degOf r ≤ 65536)
+    pub valid : (r : ℕ) → r < f .reps → (g : ℕ) → g < f .gens → Holds (f .m) W (matrixOf g r) (degOf r)
+    pub target : (r : ℕ) → r < f .reps → (j : ℕ) → f .top ≤ j → j < f .gens → (targetOf j r < f .reps) × (degOf (targetOf j r) ≡ degOf r)
+    pub cycle : (r : ℕ) → r < f .reps → iter (targetOf (f .top)) (f .p) r ≡ r
+
+  -- an array that holds a function below the number of representations
+  pub record Array (a : List ℕ) (g : ℕ → ℕ) : Type 0 where
+    pub long : f .reps ≤ length a
+    pub at : (r : ℕ) → r < f .reps → getD a r 0 ≡ g r
+
+  abbrev pub Lines : List ℕ → Type 0
+  Lines first = Array first firstOf
+
+  pub record Marks (P : Presentation) (leaders places : List ℕ) : Type 0 where
+    pub leader-is : Array leaders (leader P (f .m) (f .top) levelIn)
+    pub place-is : Array places (position P (f .m) (f .top) levelIn)
+
+  abbrev pub Numbers : Presentation → List ℕ → Type 0
+  Numbers P numbers = Array numbers (start P (f .m) (f .top) levelIn)
+
+  abbrev pub Shifts : Presentation → List ℕ → Type 0
+  Shifts P shifts = Array shifts (shift P (f .m) (f .top) levelIn)
