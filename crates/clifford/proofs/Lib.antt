@@ -13,3 +13,4 @@ pub mod Intertwiners
 pub mod Rise
 pub mod Squares
 pub mod Climb
+pub mod Standing
