@@ -14,3 +14,4 @@ pub mod Rise
 pub mod Squares
 pub mod Climb
 pub mod Standing
+pub mod Lines

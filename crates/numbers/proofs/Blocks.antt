@@ -3,10 +3,12 @@
 --   getD-map, getD-upto          an entry of a mapped list; entry k of 0, 1, .. is k
 --   getD-table                   an entry of a list given by a function
 --   getD-blocks                  an entry of f 0 ++ f 1 ++ ..: entry κ of stretch s
---   blocks-suc, blocks-below     one stretch more; equal stretches
+--   blocks-suc, blocks-below, blocks-split     one stretch more; equal stretches; two parts
+--   blocks-stretches             a list made in stretches
+--   blocks-none, blocks-single   at most one stretch holds something
 --   length-even, getD-even       the same where all stretches have one length
 use mathlib.Core.Path.{_≡_, refl, sym, _∙_, ap, ap₂, subst}
-use mathlib.Core.List.{List, [], _∷_, _++_, map}
+use mathlib.Core.List.{List, [], _∷_, _++_, map, append-nil, append-assoc}
 use Prim.Native.Nat.{ℕ, zero, suc, _+_, _*_, _<_}
 use native.Mathlib.Omega.{arith}
 use native.Mathlib.Decide.{decLt}
@@ -61,6 +63,36 @@ pub blocks-below : {A : Type 0} (n : ℕ) (f g : ℕ → List A) → ((k : ℕ) 
 unfolding blocks
 blocks-below zero f g h = refl
 blocks-below (suc n) f g h = ap₂ (_++_) (blocks-below n f g (λ k l. h k (omega arith))) (h n (omega arith))
+
+pub blocks-zero : {A : Type 0} (f : ℕ → List A) → blocks zero f ≡ []
+unfolding blocks
+blocks-zero f = refl
+
+pub blocks-split : {A : Type 0} (a b : ℕ) (f : ℕ → List A) → blocks (a + b) f ≡ blocks a f ++ blocks b (λ k. f (a + k))
+blocks-split a zero f = let q : a + 0 ≡ a = omega arith in ap (λ n. blocks n f) q ∙ sym (ap (λ s. blocks a f ++ s) (blocks-zero _) ∙ append-nil (blocks a f))
+blocks-split a (suc b) f =
+    let q : a + suc b ≡ suc (a + b) = omega arith in
+    ap (λ n. blocks n f) q ∙ blocks-suc (a + b) f ∙ ap (λ s. s ++ f (a + b)) (blocks-split a b f) ∙ append-assoc (blocks a f) (blocks b (λ k. f (a + k))) (f (a + b))
+    ∙ ap (λ s. blocks a f ++ s) (sym (blocks-suc b (λ k. f (a + k))))
+
+-- a list made in stretches
+pub blocks-stretches : {A : Type 0} (w : ℕ → ℕ) (N : ℕ) (f : ℕ → List A) → blocks (sum N w) f ≡ blocks N (λ s. blocks (w s) (λ κ. f (sum s w + κ)))
+blocks-stretches w zero f = ap (λ n. blocks n f) (sum-zero w) ∙ blocks-zero f ∙ sym (blocks-zero _)
+blocks-stretches w (suc N) f =
+    ap (λ n. blocks n f) (sum-suc N w) ∙ blocks-split (sum N w) (w N) f ∙ ap (λ s. s ++ blocks (w N) (λ κ. f (sum N w + κ))) (blocks-stretches w N f) ∙ sym (blocks-suc N _)
+
+-- only one stretch holds something
+pub blocks-none : {A : Type 0} (n : ℕ) (f : ℕ → List A) → ((k : ℕ) → k < n → f k ≡ []) → blocks n f ≡ []
+blocks-none zero f h = blocks-zero f
+blocks-none (suc n) f h = blocks-suc n f ∙ ap₂ (_++_) (blocks-none n f (λ k l. h k (omega arith))) (h n (omega arith))
+
+pub blocks-single : {A : Type 0} (n : ℕ) (f : ℕ → List A) (k : ℕ) → k < n → ((j : ℕ) → j < n → ¬ (j ≡ k) → f j ≡ []) → blocks n f ≡ f k
+blocks-single zero f k l h = absurd (omega arith)
+blocks-single {A} (suc n) f k l h = blocks-suc n f ∙ go (λ a. blocks-single n f k a (λ j b c. h j (omega arith) c)) (decLt k n)
+  where
+    go : (k < n → blocks n f ≡ f k) → Dec (k < n) → blocks n f ++ f n ≡ f k
+    go r (yes a) = ap₂ (_++_) (r a) (h n (omega arith) (λ e. omega arith)) ∙ append-nil (f k)
+    go r (no a) = let e : n ≡ k = omega arith in ap (λ s. s ++ f n) (blocks-none n f (λ j b. h j (omega arith) (λ c. omega arith))) ∙ ap f e
 
 -- ---- Stretches of one length
 
