@@ -15,3 +15,6 @@ pub mod Squares
 pub mod Climb
 pub mod Standing
 pub mod Lines
+pub mod Agreement
+pub mod Judged
+pub mod Cuts
