@@ -18,3 +18,4 @@ pub mod Lines
 pub mod Agreement
 pub mod Judged
 pub mod Cuts
+pub mod Theorem
