@@ -6,13 +6,16 @@ ghost use lib.Dec.{eqb};
 ghost use Rattle.definitions.specs.Presentation.{toNF, trivial};
 ghost use Rattle.definitions.specs.Consistency.{sameForm};
 ghost use Rattle.collector.specs.Rows.{Small, Ready, Product, Conjugate, Remaining, Power, Scaled, Turned};
+use super::rows::GENERATORS;
+use super::rows::Row;
+use super::rows::Words;
 use super::rows::generator;
 use super::rows::same;
 use super::rows::word;
 
 // How many of `left` more turns of a map are needed after the n that led from x to c: where c is x again, whole periods
 // are left out.
-pub fn remaining(k: usize, x: [u32; 12], c: [u32; 12], n: u32, left: u32) -> u32
+pub fn remaining(k: usize, x: Row, c: Row, n: u32, left: u32) -> u32
     requires { ⌜ (k ≤ 12) × (0 < n) ⌝ }
     ensures { λ r. ⌜ Remaining k x c n left r ⌝ }
 {
@@ -20,21 +23,19 @@ pub fn remaining(k: usize, x: [u32; 12], c: [u32; 12], n: u32, left: u32) -> u32
 }
 
 // Conjugation by a generator keeps an exponent e where e is 0 or the word w of the two generators is empty.
-pub fn stays(k: usize, e: u32, w: [u32; 12]) -> bool
+pub fn stays(k: usize, e: u32, w: Row) -> bool
     requires { ⌜ k ≤ 12 ⌝ }
     ensures { λ r. ⌜ r ≡ (eqb e 0 || sameForm k (toNF k w) (trivial k)) ⌝ }
 {
-    if e == 0 { true } else { same(k, w, [0; 12]) }
+    if e == 0 {
+        true
+    } else {
+        same(k, w, [0; GENERATORS])
+    }
 }
 
 // The product of x and y on level i. The conjugates that it needs are of the level below.
-pub fn product(
-    primes: &[u32; 12],
-    words: &[[u32; 12]; 78],
-    i: usize,
-    x: [u32; 12],
-    y: [u32; 12],
-) -> [u32; 12]
+pub fn product(primes: &Row, words: &Words, i: usize, x: Row, y: Row) -> Row
     requires { ⌜ Ready i (now primes) (now words) × Small i (now primes) x × Small i (now primes) y ⌝ }
     ensures { λ r. ⌜ Product i (now (primes .entry)) (now (words .entry)) x y r ⌝ }
 {
@@ -66,13 +67,7 @@ pub fn product(
 }
 
 // The conjugate of x by generator j on level k, k ≤ j. It is a product on level k.
-pub fn conjugate(
-    primes: &[u32; 12],
-    words: &[[u32; 12]; 78],
-    k: usize,
-    j: usize,
-    x: [u32; 12],
-) -> [u32; 12]
+pub fn conjugate(primes: &Row, words: &Words, k: usize, j: usize, x: Row) -> Row
     requires { ⌜ Ready (suc j) (now primes) (now words) × (k ≤ j) × Small k (now primes) x ⌝ }
     ensures { λ r. ⌜ Conjugate k j (now (primes .entry)) (now (words .entry)) x r ⌝ }
 {
@@ -90,7 +85,7 @@ pub fn conjugate(
     z[l] = 0;
     let g = generator(l);
     let h = product(primes, words, k, g, w);
-    let mut r = [0u32; 12];
+    let mut r = [0u32; GENERATORS];
     let mut n: u32 = 0;
     while n < e {
         let s = product(primes, words, k, h, r);
@@ -101,17 +96,11 @@ pub fn conjugate(
 }
 
 // x to the power e on level i.
-pub fn power(
-    primes: &[u32; 12],
-    words: &[[u32; 12]; 78],
-    i: usize,
-    x: [u32; 12],
-    e: u32,
-) -> [u32; 12]
+pub fn power(primes: &Row, words: &Words, i: usize, x: Row, e: u32) -> Row
     requires { ⌜ Ready i (now primes) (now words) × Small i (now primes) x ⌝ }
     ensures { λ r. ⌜ Power i (now (primes .entry)) (now (words .entry)) x r e ⌝ }
 {
-    let mut r = [0u32; 12];
+    let mut r = [0u32; GENERATORS];
     let mut n: u32 = 0;
     while n < e {
         let s = product(primes, words, i, x, r);
@@ -122,14 +111,7 @@ pub fn power(
 }
 
 // x to the power e, times v, on level i.
-pub fn scaled(
-    primes: &[u32; 12],
-    words: &[[u32; 12]; 78],
-    i: usize,
-    x: [u32; 12],
-    e: u32,
-    v: [u32; 12],
-) -> [u32; 12]
+pub fn scaled(primes: &Row, words: &Words, i: usize, x: Row, e: u32, v: Row) -> Row
     requires { ⌜ Ready i (now primes) (now words) × Small i (now primes) x × Small i (now primes) v ⌝ }
     ensures { λ r. ⌜ Scaled i (now (primes .entry)) (now (words .entry)) x e v r ⌝ }
 {
@@ -141,13 +123,7 @@ pub fn scaled(
 }
 
 // x after b conjugations by generator i, on level i.
-pub fn turned(
-    primes: &[u32; 12],
-    words: &[[u32; 12]; 78],
-    i: usize,
-    x: [u32; 12],
-    b: u32,
-) -> [u32; 12]
+pub fn turned(primes: &Row, words: &Words, i: usize, x: Row, b: u32) -> Row
     requires { ⌜ Ready (suc i) (now primes) (now words) × Small i (now primes) x ⌝ }
     ensures { λ r. ⌜ Turned i b (now (primes .entry)) (now (words .entry)) x r ⌝ }
 {
