@@ -2,13 +2,16 @@
 ghost use mathlib.Core.Path.{_≡_};
 ghost use mathlib.Core.Bool.{_||_};
 ghost use Prim.Native.Nat.{suc, _≤_, _<_};
+ghost use mathlib.Core.List.{[]};
+ghost use lib.ListN.{getD};
 ghost use lib.Dec.{eqb};
-ghost use Rattle.definitions.specs.Presentation.{toNF, trivial};
+ghost use Rattle.definitions.specs.Presentation.{toNF, trivial, pairNumber};
 ghost use Rattle.definitions.specs.Consistency.{sameForm};
 ghost use Rattle.collector.specs.Rows.{Small, Ready, Product, Conjugate, Remaining, Power, Scaled, Turned};
 use super::rows::GENERATORS;
 use super::rows::Row;
 use super::rows::Words;
+use super::rows::empty;
 use super::rows::generator;
 use super::rows::same;
 use super::rows::word;
@@ -22,16 +25,16 @@ pub fn remaining(k: usize, x: Row, c: Row, n: u32, left: u32) -> u32
     if same(k, x, c) { left % n } else { left }
 }
 
-// Conjugation by a generator keeps an exponent e where e is 0 or the word w of the two generators is empty.
-pub fn stays(k: usize, e: u32, w: Row) -> bool
-    requires { ⌜ k ≤ 12 ⌝ }
-    ensures { λ r. ⌜ r ≡ (eqb e 0 || sameForm k (toNF k w) (trivial k)) ⌝ }
+// Conjugation by generator j keeps an exponent e of generator l where e is 0 or the word of the two generators is empty.
+pub fn stays(words: &Words, j: usize, l: usize, e: u32) -> bool
+    requires { ⌜ (l < j) × (j < 12) ⌝ }
+    ensures { λ r. ⌜ r ≡ (eqb e 0 || sameForm (suc l) (toNF (suc l) (getD (now (words .entry)) (pairNumber j l) [])) (trivial (suc l))) ⌝ }
 {
     if e == 0 {
-        true
-    } else {
-        same(k, w, [0; GENERATORS])
+        return true;
     }
+    let w = word(words, j, l);
+    empty(l + 1, w)
 }
 
 // The product of x and y on level i. The conjugates that it needs are of the level below.
@@ -40,6 +43,12 @@ pub fn product(primes: &Row, words: &Words, i: usize, x: Row, y: Row) -> Row
     ensures { λ r. ⌜ Product i (now (primes .entry)) (now (words .entry)) x y r ⌝ }
 {
     if i == 0 {
+        return x;
+    }
+    if empty(i, x) {
+        return y;
+    }
+    if empty(i, y) {
         return x;
     }
     let k = i - 1;
@@ -77,13 +86,13 @@ pub fn conjugate(primes: &Row, words: &Words, k: usize, j: usize, x: Row) -> Row
     let l = k - 1;
     let e = x[l];
     let mut z = conjugate(primes, words, l, j, x);
-    let w = word(words, j, l);
-    if stays(k, e, w) {
+    if stays(words, j, l, e) {
         z[l] = e;
         return z;
     }
     z[l] = 0;
     let g = generator(l);
+    let w = word(words, j, l);
     let h = product(primes, words, k, g, w);
     let mut r = [0u32; GENERATORS];
     let mut n: u32 = 0;

@@ -3,7 +3,7 @@ ghost use mathlib.Core.Path.{_≡_};
 ghost use mathlib.Core.List.{[]};
 ghost use Prim.Native.Nat.{_≤_, _<_};
 ghost use lib.ListN.{getD};
-ghost use Rattle.definitions.specs.Presentation.{toNF, pairNumber};
+ghost use Rattle.definitions.specs.Presentation.{toNF, trivial, pairNumber};
 ghost use Rattle.definitions.specs.Consistency.{sameForm};
 ghost use Rattle.collector.specs.Rows.{Generator};
 
@@ -58,4 +58,12 @@ pub fn same(i: usize, x: Row, y: Row) -> bool
         }
     }
     true
+}
+
+// The row says the trivial form of level i.
+pub fn empty(i: usize, x: Row) -> bool
+    requires { ⌜ i ≤ 12 ⌝ }
+    ensures { λ r. ⌜ r ≡ sameForm i (toNF i x) (trivial i) ⌝ }
+{
+    same(i, x, [0; GENERATORS])
 }
