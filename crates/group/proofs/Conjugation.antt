@@ -6,11 +6,13 @@
 --   embed-past                generator j carries a form to its conjugate
 --   conj-hom                  conjugation of level i by generator j is an endomorphism
 --   conj-period               done as often as the order of level suc j, it is the identity
+--   conj-injective, conj-onto it is an automorphism
 use mathlib.Core.Path.{_≡_, sym, _∙_, ap, subst}
-use Prim.Native.Nat.{ℕ, zero, suc, _-_, _≤_, _<_}
+use Prim.Native.Nat.{ℕ, zero, suc, _+_, _-_, _≤_, _<_}
 use native.Mathlib.Omega.{arith}
 use native.Mathlib.Decide.{decLe}
 use Rattle.definitions.specs.Lists.{iter}
+use Rattle.numbers.proofs.Lists.{iter-zero, iter-suc, iter-add}
 use Rattle.definitions.specs.Presentation.{order, Mul, value}
 use Rattle.group.specs.Models.{Laws, Hom}
 use Rattle.group.specs.Context.{Context, Nf}
@@ -18,7 +20,7 @@ use Rattle.group.proofs.Values.{iter-past, value-trivial}
 use Rattle.group.proofs.Sound.{sound}
 use Rattle.group.proofs.Level.{level, conjNf, genNf, low, low-inj, gen-low, low-value}
 use Rattle.group.proofs.Group.{Tested, group, model}
-use Rattle.group.proofs.Order.{order-one, cancel-left}
+use Rattle.group.proofs.Order.{order-positive, order-one, cancel-left}
 
 unfoldable pub embed : (C : Context) (i m : ℕ) → Nf C i → Nf C m
 embed C i m x = value (level C m) (genNf C m) i (x .0)
@@ -95,3 +97,20 @@ module _ (T : Tested) where
     pub conj-period : (x : Nf (T .context) i) → iter (conjNf (T .context) i j) (order (T .context .P) (suc j)) x ≡ x
     conj-period x = injective _ _ (sym (𝓛 .idl _) ∙ ap (λ s. s * e (iter f (order (C .P) (suc j)) x)) (sym (order-one T (suc j) b g))
         ∙ iter-past 𝓛 e g f embed-past (order (C .P) (suc j)) x ∙ ap (λ s. e x * s) (order-one T (suc j) b g) ∙ 𝓛 .idr _)
+
+    -- so many conjugations more than one are the inverse
+    abbrev back : ℕ
+    back = order (C .P) (suc j) - 1
+
+    whole : suc back ≡ order (C .P) (suc j)
+    whole = omega (arith, order-positive C (suc j))
+
+    pub conj-injective : (x y : Nf (T .context) i) → conjNf (T .context) i j x ≡ conjNf (T .context) i j y → x ≡ y
+    conj-injective x y q = sym (undo x) ∙ ap (iter f back) q ∙ undo y
+      where
+        undo : (x : Nf C i) → iter f back (f x) ≡ x
+        undo x = sym (iter-suc f back x) ∙ ap (λ k. iter f k x) whole ∙ conj-period x
+
+    pub conj-onto : (x : Nf (T .context) i) → conjNf (T .context) i j (iter (conjNf (T .context) i j) (order (T .context .P) (suc j) - 1) x) ≡ x
+    conj-onto x = let e : back + 1 ≡ order (C .P) (suc j) = omega (arith, order-positive C (suc j)) in
+        sym (iter-suc f 0 (iter f back x) ∙ iter-zero f _) ∙ iter-add f back 1 x ∙ ap (λ k. iter f k x) e ∙ conj-period x

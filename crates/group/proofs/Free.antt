@@ -11,7 +11,7 @@ use mathlib.Core.Path.{_≡_, refl, sym, _∙_, ap, ap₂, subst₂}
 use mathlib.Core.Logic.{∥∥₁-prop, ∥∥₁-map, ∥∥₁-map₂}
 use mathlib.Core.List.{[], _∷_, _++_, append-assoc, append-nil}
 use mathlib.Core.Quot.{Setoid, Quotient, Quotient·mk, Quotient·sound, Quotient-set, Quotient·exact, Quotient·lift₂, Quotient·inductionOn, Quotient·inductionOn₃}
-use Prim.Native.Nat.{ℕ, zero, suc, _+_, _<_}
+use Prim.Native.Nat.{ℕ, zero, suc, _<_}
 use native.Mathlib.Omega.{arith}
 use lib.ListN.{replicate}
 use Rattle.definitions.specs.Presentation.{NF, Presentation, Mul, power, value}

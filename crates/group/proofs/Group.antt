@@ -13,16 +13,17 @@ use mathlib.Core.Path.{_≡_, refl, sym, _∙_, ap, ap₂, subst}
 use Prim.Native.Nat.{ℕ, zero, suc, _+_, _-_, _≤_, _<_}
 use native.Mathlib.Omega.{arith}
 use Rattle.definitions.specs.Lists.{iter}
-use Rattle.definitions.specs.Presentation.{NF, trivial, Valid, Mul, power, value}
+use Rattle.definitions.specs.Presentation.{NF, trivial, Mul, power, value}
 use Rattle.definitions.specs.Consistency.{mul, conj}
 use Rattle.numbers.proofs.Lists.{below-suc, iter-zero, iter-suc, iter-op, iter-fix}
 use Rattle.group.specs.Models.{Laws, Satisfies, Model}
 use Rattle.group.specs.Context.{Context, Nf}
-use Rattle.group.proofs.Values.{trivial-suc, power-zero, power-suc, power-one, power-hom, value-suc, value-trivial, value-ind}
-use Rattle.group.proofs.Clauses.{mulStep-below, mulStep-over, mul-suc}
+use Rattle.group.proofs.Values.{power-zero, power-suc, power-one, power-hom, value-suc, value-ind}
+use Rattle.group.proofs.Clauses.{mulStep-below, mul-suc}
 use Rattle.group.proofs.Sound.{sound}
 use Rattle.group.proofs.Cyclic.{Cyclic}
-use Rattle.group.proofs.Level.{Nf-path, trivial-valid, level, conjNf, uNf, wNf, genNf, low, top, low-hom, gen-low, gen-top, low-value, conj-clause, laws-suc}
+use Rattle.group.proofs.Units.{conj-trivial, mul-top-below, mul-top-over, power-generator}
+use Rattle.group.proofs.Level.{forget, Nf-path, trivial-valid, level, conjNf, uNf, wNf, genNf, low, top, low-hom, gen-low, gen-top, low-value, conj-clause, laws-suc}
 
 module _ (C : Context) where
   open Context C using (P, two)
@@ -42,9 +43,9 @@ module _ (C : Context) where
     pub conj-gen : (j : ℕ) → i ≤ j → (k : ℕ) → k < i → imageNf i j k ≡ level C i .mul (genNf C i k) (value (level C i) (genNf C i) (suc k) (C .P .w k j))
     pub satisfies : Satisfies (C .P) (level C i) (genNf C i) i
 
-  pub conj-one : (i : ℕ) → Group i → (j : ℕ) → i ≤ j → conjNf C i j (level C i .one) ≡ level C i .one
-  unfolding level
-  conj-one i G j l = sym (G .conj-value j l (level C i .one)) ∙ value-trivial (G .laws) (imageNf i j) i
+  pub conj-one : (i j : ℕ) → conjNf C i j (level C i .one) ≡ level C i .one
+  unfolding level conjNf
+  conj-one i j = Nf-path C i _ _ (conj-trivial C i j)
 
   module _ (i : ℕ) (G : Group i) (T : Test i) where
     infixl 70 _*_
@@ -72,7 +73,7 @@ module _ (C : Context) where
     cyclic = record {
       laws = G .laws;
       positive = omega (arith, two i);
-      f-one = conj-one i G i (omega arith);
+      f-one = conj-one i i;
       f-mul = conj-mul;
       f-u = T .fixes;
       inner = λ x. subst Q (G .gen-value x) (value-ind (level C i) Q q-one q-mul (genNf C i) i (T .inner) (x .0));
@@ -82,7 +83,7 @@ module _ (C : Context) where
         Q x = u * iter f p x ≡ x * u
 
         q-one : Q one
-        q-one = simp (iter-fix f one (conj-one i G i (omega arith)), G .laws .idl, G .laws .idr)
+        q-one = simp (iter-fix f one (conj-one i i), G .laws .idl, G .laws .idr)
 
         q-mul : (x y : Nf C i) → Q x → Q y → Q (x * y)
         q-mul x y a b = simp (iter-op f (_*_) conj-mul, G .laws .assoc)
@@ -99,34 +100,14 @@ module _ (C : Context) where
 
     -- ---- Powers of the generator on top
 
-    conj-trivial : conj P i i (trivial i) ≡ trivial i
-    unfolding level conjNf
-    conj-trivial = ap (λ t. t .0) (conj-one i G i (omega arith))
-
-    -- (a, 1) (b, y) below the carry, and at the carry
-    top-below : (a b : ℕ) (y : NF i) → Valid P i y → a + b < p → mul P (suc i) (a, trivial i) (b, y) ≡ (a + b, y)
-    unfolding level
-    top-below a b y v l = mul-suc P i _ _ ∙ mulStep-below p (mul P i) (conj P i i) (P .u i) (a, trivial i) (b, y) l
-        ∙ ap (λ t. (a + b, mul P i t y)) (iter-fix (conj P i i) (trivial i) conj-trivial b) ∙ ap (λ t. (a + b, t .0)) (G .laws .idl (y, v))
-
-    top-over : (a b : ℕ) (y : NF i) → Valid P i y → p ≤ a + b → mul P (suc i) (a, trivial i) (b, y) ≡ (a + b - p, mul P i (P .u i) y)
-    unfolding level
-    top-over a b y v l = mul-suc P i _ _ ∙ mulStep-over p (mul P i) (conj P i i) (P .u i) (a, trivial i) (b, y) l
-        ∙ ap (λ t. (a + b - p, mul P i (P .u i) (mul P i t y))) (iter-fix (conj P i i) (trivial i) conj-trivial b)
-        ∙ ap (λ t. (a + b - p, mul P i (P .u i) (t .0))) (G .laws .idl (y, v))
-
     power-top : (a : ℕ) → a < p → power (level C (suc i)) (top C i) a .0 ≡ (a, trivial i)
-    unfolding level top
-    power-top zero l = ap (λ t. t .0) (power-zero (level C (suc i)) (top C i)) ∙ trivial-suc i
-    power-top (suc a) l =
-        let q : 1 + a ≡ suc a = omega arith in
-        ap (λ t. t .0) (power-suc (level C (suc i)) (top C i) a) ∙ ap (mul P (suc i) (1, trivial i)) (power-top a (omega arith))
-        ∙ top-below 1 a (trivial i) (trivial-valid C i) (omega arith) ∙ ap (λ t. (t, trivial i)) q
+    unfolding top
+    power-top a l = power-hom (forget C (suc i)) (top C i) a ∙ power-generator C i a l
 
     power-top-p : power (level C (suc i)) (top C i) p ≡ low C i u
     unfolding level top low uNf
     power-top-p = Nf-path C (suc i) _ _ (ap (λ n. power (level C (suc i)) (top C i) n .0) q ∙ ap (λ t. t .0) (power-suc (level C (suc i)) (top C i) (p - 1))
-        ∙ ap (mul P (suc i) (1, trivial i)) (power-top (p - 1) (omega (arith, two i))) ∙ top-over 1 (p - 1) (trivial i) (trivial-valid C i) (omega (arith, two i))
+        ∙ ap (mul P (suc i) (1, trivial i)) (power-top (p - 1) (omega (arith, two i))) ∙ mul-top-over C i 1 (p - 1) (trivial i) (trivial-valid C i) (omega (arith, two i))
         ∙ ap₂ (λ s t. (s, t .0)) z (G .laws .idr u))
       where
         q : p ≡ suc (p - 1)
@@ -150,7 +131,7 @@ module _ (C : Context) where
         z = omega arith
 
         raw : (power (level C (suc i)) (top C i) (x .0 .0) ⊛ low C i (rest x)) .0 ≡ x .0
-        raw = ap (λ t. mul P (suc i) t (0, x .0 .1)) (power-top (x .0 .0) (x .1 .0)) ∙ top-below (x .0 .0) 0 (x .0 .1) (x .1 .1) (omega (arith, x .1 .0)) ∙ ap (λ t. (t, x .0 .1)) z
+        raw = ap (λ t. mul P (suc i) t (0, x .0 .1)) (power-top (x .0 .0) (x .1 .0)) ∙ mul-top-below C i (x .0 .0) 0 (x .0 .1) (x .1 .1) (omega (arith, x .1 .0)) ∙ ap (λ t. (t, x .0 .1)) z
 
     pub conj-low : (j : ℕ) → suc i ≤ j → (x : Nf C i) → conjNf C (suc i) j (low C i x) ≡ low C i (conjNf C i j x)
     unfolding low
@@ -158,7 +139,7 @@ module _ (C : Context) where
 
     conj-top : (j : ℕ) → suc i ≤ j → conjNf C (suc i) j (top C i) ≡ top C i ⊛ wNf C i j
     unfolding top level
-    conj-top j l = conj-clause C i j (top C i) ∙ ap₂ (_⊛_) (power-one next _) (ap (low C i) (conj-one i G j (omega arith)) ∙ low-hom C i .on-one) ∙ next .idr _
+    conj-top j l = conj-clause C i j (top C i) ∙ ap₂ (_⊛_) (power-one next _) (ap (low C i) (conj-one i j) ∙ low-hom C i .on-one) ∙ next .idr _
 
     image-low : (j : ℕ) → suc i ≤ j → (m : ℕ) → m < i → imageNf (suc i) j m ≡ low C i (imageNf i j m)
     image-low j l m h = ap (conjNf C (suc i) j) (gen-low C i m h) ∙ conj-low j l (genNf C i m)
@@ -189,7 +170,7 @@ module _ (C : Context) where
     unfolding level low top conjNf
     low-top x = Nf-path C (suc i) _ _ (mul-suc P i _ _ ∙ mulStep-below p (mul P i) (conj P i i) (P .u i) (0, x .0) (1, trivial i) (two i)
         ∙ ap (λ t. (1, mul P i t (trivial i))) (iter-suc (conj P i i) 0 (x .0) ∙ iter-zero (conj P i i) _) ∙ ap (λ t. (1, t .0)) (G .laws .idr (f x))
-        ∙ sym (top-below 1 0 (f x .0) (f x .1) (omega (arith, two i))))
+        ∙ sym (mul-top-below C i 1 0 (f x .0) (f x .1) (omega (arith, two i))))
 
     satisfies-suc : Satisfies P (level C (suc i)) (genNf C (suc i)) (suc i)
     unfolding uNf

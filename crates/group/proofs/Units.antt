@@ -3,18 +3,18 @@
 --
 --   mul-trivial-left, mul-trivial-right    the unit laws of valid forms
 --   conj-trivial                           a conjugate of the trivial form
+--   mul-top-below, mul-top-over            a power of the generator on top times a form
 --   power-generator                        the powers of the generator on top, below its prime
 --   conj-empty, conj-zero                  conjugation where the word on top is empty, or the exponent 0
-use mathlib.Core.Path.{_≡_, refl, sym, _∙_, ap, ap₂, subst}
-use Prim.Native.Nat.{ℕ, zero, suc, _+_, _<_}
+use mathlib.Core.Path.{_≡_, refl, sym, _∙_, ap, ap₂}
+use Prim.Native.Nat.{ℕ, zero, suc, _+_, _-_, _≤_, _<_}
 use native.Mathlib.Omega.{arith}
-use Rattle.definitions.specs.Lists.{iter}
 use Rattle.definitions.specs.Presentation.{NF, trivial, Valid, power}
 use Rattle.definitions.specs.Consistency.{mul, conj, forms}
 use Rattle.numbers.proofs.Lists.{iter-zero, iter-fix}
 use Rattle.group.specs.Context.{Context}
 use Rattle.group.proofs.Values.{trivial-suc, power-zero, power-suc}
-use Rattle.group.proofs.Clauses.{mulStep-below, mul-suc, conj-suc}
+use Rattle.group.proofs.Clauses.{mulStep-below, mulStep-over, mul-suc, conj-suc}
 use Rattle.group.proofs.Level.{trivial-valid, conj-valid}
 
 module _ (C : Context) where
@@ -59,11 +59,20 @@ module _ (C : Context) where
   pub conj-trivial : (i j : ℕ) → conj (C .P) i j (trivial i) ≡ trivial i
   conj-trivial i = units i .conj-one
 
+  -- (a, 1) (b, y) below the carry, and at the carry
+  pub mul-top-below : (i a b : ℕ) (y : NF i) → Valid (C .P) i y → a + b < C .P .p i → mul (C .P) (suc i) (a, trivial i) (b, y) ≡ (a + b, y)
+  mul-top-below i = top-below i (units i)
+
+  pub mul-top-over : (i a b : ℕ) (y : NF i) → Valid (C .P) i y → C .P .p i ≤ a + b → mul (C .P) (suc i) (a, trivial i) (b, y) ≡ (a + b - C .P .p i, mul (C .P) i (C .P .u i) y)
+  mul-top-over i a b y v l = mul-suc P i _ _ ∙ mulStep-over (P .p i) (mul P i) (conj P i i) (P .u i) (a, trivial i) (b, y) l
+      ∙ ap (λ t. (a + b - P .p i, mul P i (P .u i) (mul P i t y))) (iter-fix (conj P i i) (trivial i) (conj-trivial i i) b)
+      ∙ ap (λ t. (a + b - P .p i, mul P i (P .u i) t)) (mul-trivial-left i y v)
+
   pub power-generator : (i a : ℕ) → a < C .P .p i → power (forms (C .P) (suc i)) (1, trivial i) a ≡ (a, trivial i)
   power-generator i zero l = power-zero (forms P (suc i)) _ ∙ trivial-suc i
   power-generator i (suc a) l = let q : 1 + a ≡ suc a = omega arith in
       power-suc (forms P (suc i)) _ a ∙ ap (mul P (suc i) (1, trivial i)) (power-generator i a (omega arith))
-      ∙ top-below i (units i) 1 a (trivial i) (trivial-valid C i) (omega arith) ∙ ap (λ t. (t, trivial i)) q
+      ∙ mul-top-below i 1 a (trivial i) (trivial-valid C i) (omega arith) ∙ ap (λ t. (t, trivial i)) q
 
   -- the word is empty, or the exponent 0
   pub conj-empty : (i j : ℕ) (x : NF (suc i)) → Valid (C .P) (suc i) x → C .P .w i j ≡ trivial (suc i) → conj (C .P) (suc i) j x ≡ (x .0, conj (C .P) i j (x .1))
@@ -71,7 +80,7 @@ module _ (C : Context) where
       conj-suc P i j x ∙ ap (λ t. mul P (suc i) (power (forms P (suc i)) t (x .0)) (0, conj P i j (x .1)))
       (ap (mul P (suc i) (1, trivial i)) e ∙ mul-trivial-right (suc i) (1, trivial i) (two i, trivial-valid C i))
       ∙ ap (λ t. mul P (suc i) t (0, conj P i j (x .1))) (power-generator i (x .0) (v .0))
-      ∙ top-below i (units i) (x .0) 0 (conj P i j (x .1)) (conj-valid C i j (x .1) (v .1)) (omega (arith, v .0)) ∙ ap (λ t. (t, conj P i j (x .1))) z
+      ∙ mul-top-below i (x .0) 0 (conj P i j (x .1)) (conj-valid C i j (x .1) (v .1)) (omega (arith, v .0)) ∙ ap (λ t. (t, conj P i j (x .1))) z
 
   pub conj-zero : (i j : ℕ) (x : NF i) → Valid (C .P) i x → conj (C .P) (suc i) j (0, x) ≡ (0, conj (C .P) i j x)
   conj-zero i j x v =

@@ -2,10 +2,11 @@
 --
 --   and-left, and-right, and-intro      a && b is true exactly if both are
 --   or-cases                            a || b is true: one of the two is
+--   or-false-left, or-false-right       a || b is false: both are
 --   cond-true, cond-false               a choice by a test that is known
 --   cond-lt, cond-ge, cond-eq, cond-ne  a choice by a comparison of numbers
 use mathlib.Core.Path.{_≡_, refl, ap}
-use mathlib.Core.Bool.{Bool, true, false, _&&_, _||_, cond, false≢true}
+use mathlib.Core.Bool.{Bool, true, false, _&&_, _||_, cond, true≢false, false≢true}
 use mathlib.Core.Logic.{_≢_}
 use Prim.Native.Nat.{ℕ, _≤_, _<_}
 use lib.Dec.{ltb, eqb}
@@ -30,6 +31,14 @@ pub data OneOf (a b : Bool) : Type 0 where
 pub or-cases : (a b : Bool) → a || b ≡ true → OneOf a b
 or-cases true b h = first refl
 or-cases false b h = second h
+
+pub or-false-left : (a b : Bool) → a || b ≡ false → a ≡ false
+or-false-left true b h = h
+or-false-left false b h = refl
+
+pub or-false-right : (a b : Bool) → a || b ≡ false → b ≡ false
+or-false-right true b h = absurd (true≢false h)
+or-false-right false b h = h
 
 pub cond-true : {A : Type 0} (b : Bool) (x y : A) → b ≡ true → cond b x y ≡ x
 cond-true b x y h = ap (λ t. cond t x y) h

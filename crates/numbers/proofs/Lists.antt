@@ -2,16 +2,19 @@
 --
 --   below-suc                         a number below suc i is below i, or i
 --   allBelow-elim, allBelow-intro     a test of every number below n, and what it says
+--   allBelow-fails                    a test that fails at one number
 --   all-getD                          a test of every element, at an index
 --   iter-zero, iter-suc, iter-add     iterates, their clauses and their sum
 --   iter-map, iter-op, iter-fix       iterates under a map, of a product, at a fixed point
+--   iter-period                       iterates of a point that comes back
 --   length-upto, length-blocks        lengths
 --   sum-ext, sum-mono                 equal terms; a longer sum is at least as large
+--   triangle                          1 + 2 + .. + n
 use mathlib.Core.Path.{_≡_, refl, sym, _∙_, ap, ap₂, subst}
-use mathlib.Core.Bool.{Bool, true}
+use mathlib.Core.Bool.{Bool, true, false, _&&_, and-false}
 use mathlib.Core.List.{List, [], _∷_}
-use Prim.Native.Nat.{ℕ, zero, suc, _+_, _≤_, _<_}
-use native.Mathlib.Nat.{zero-add, suc-add}
+use Prim.Native.Nat.{ℕ, zero, suc, _+_, _*_, _/_, _%_, _≤_, _<_}
+use native.Mathlib.Nat.{zero-add, suc-add, zero-mul, div-add-mod', div-eq-of-eq-mul-left}
 use native.Mathlib.Omega.{arith}
 use native.Mathlib.Decide.{decLt}
 use lib.ListN.{length, getD, length-append}
@@ -36,6 +39,12 @@ pub allBelow-intro : (n : ℕ) (q : ℕ → Bool) → ((k : ℕ) → k < n → q
 unfolding allBelow
 allBelow-intro zero q h = refl
 allBelow-intro (suc n) q h = and-intro _ _ (allBelow-intro n q (λ k l. h k (omega arith))) (h n (omega arith))
+
+pub allBelow-fails : (n : ℕ) (q : ℕ → Bool) (k : ℕ) → k < n → q k ≡ false → allBelow n q ≡ false
+unfolding allBelow
+allBelow-fails zero q k l h = absurd (omega arith)
+allBelow-fails (suc n) q k l h = below-suc n (λ k. q k ≡ false → allBelow n q && q n ≡ false)
+    (λ k a e. ap (λ t. t && q n) (allBelow-fails n q k a e)) (λ e. ap (λ t. allBelow n q && t) e ∙ and-false (allBelow n q)) k l h
 
 pub all-getD : {A : Type 0} (q : A → Bool) (xs : List A) (d : A) → all q xs ≡ true → (k : ℕ) → k < length xs → q (getD xs k d) ≡ true
 unfolding all
@@ -69,6 +78,14 @@ pub iter-fix : {A : Type 0} (f : A → A) (x : A) → f x ≡ x → (k : ℕ) �
 iter-fix f x h zero = simp iter-zero
 iter-fix f x h (suc k) = simp (iter-suc, h, iter-fix f x h k)
 
+iter-times : {A : Type 0} (f : A → A) (k : ℕ) (x : A) → iter f k x ≡ x → (q : ℕ) → iter f (q * k) x ≡ x
+iter-times f k x h zero = simp (zero-mul, iter-zero)
+iter-times f k x h (suc q) = let e : suc q * k ≡ k + q * k = omega arith in ap (λ m. iter f m x) e ∙ sym (iter-add f k (q * k) x) ∙ ap (iter f (q * k)) h ∙ iter-times f k x h q
+
+-- whole periods lead nowhere
+pub iter-period : {A : Type 0} (f : A → A) (k : ℕ) (x : A) → iter f k x ≡ x → (m : ℕ) → iter f (m % k) x ≡ iter f m x
+iter-period f k x h m = ap (iter f (m % k)) (sym (iter-times f k x h (m / k))) ∙ iter-add f (m / k * k) (m % k) x ∙ ap (λ t. iter f t x) (div-add-mod' m k)
+
 -- ---- Lengths and sums
 
 pub length-upto : (n : ℕ) → length (upto n) ≡ n
@@ -94,3 +111,12 @@ sum-mono n (suc m) f l = go (λ h. sum-mono n m f h) (decLt n (suc m))
     go : (n ≤ m → sum n f ≤ sum m f) → Dec (n < suc m) → sum n f ≤ sum (suc m) f
     go r (yes h) = omega (arith, r (omega arith))
     go r (no h) = let q : suc m ≡ n = omega arith in subst (λ k. sum k f ≤ sum (suc m) f) q (omega arith)
+
+double-triangle : (n : ℕ) → n * (n + 1) ≡ sum n suc * 2
+unfolding sum
+double-triangle zero = refl
+double-triangle (suc n) = omega (arith, double-triangle n)
+
+-- 1 + 2 + .. + n
+pub triangle : (n : ℕ) → n * (n + 1) / 2 ≡ sum n suc
+triangle n = div-eq-of-eq-mul-left (omega arith) (double-triangle n)

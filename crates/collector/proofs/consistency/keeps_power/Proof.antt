@@ -1,0 +1,60 @@
+-- `consistency::keeps_power` meets its contract: both sides of the power relation, over the images.
+use Prim.Native.Nat.{suc}
+use native.Mathlib.Omega.{arith}
+use denote.Ref.{now}
+use Rattle.collector.proofs.Steps.{ready-below}
+use Rattle.collector.proofs.Answers.{power-kept}
+use borrow.Author.Needs.{needs}
+use Rattle.collector.proofs.consistency.keeps_power.Statement.{statement}
+use Rattle.collector.proofs.consistency.keeps_power.Tie as tie
+
+mul-g : tie.Need-mul-g
+mul-g c = search needs
+
+element-copy-out-g : tie.Need-element-copy-out-g
+element-copy-out-g c = search needs
+
+mul-p : tie.Need-mul-p
+mul-p c = search needs
+
+element-copy-out-p : tie.Need-element-copy-out-p
+element-copy-out-p c = search needs
+
+power-requires : tie.Need-power-requires
+power-requires c κs =
+    let z = c .before .before in
+    let ps = now (z .args .primes) in
+    let ws = now (z .args .words) in
+    let i = z .args .i in
+    (ready-below i (suc i) ps ws (omega arith) (z .pre .0), z .pre .1 .small (z .args .k) (z .pre .2))
+
+word-requires : tie.Need-word-requires
+word-requires c κs = search needs
+
+value-requires : tie.Need-value-requires
+value-requires c κs = search needs
+
+same-requires : tie.Need-same-requires
+same-requires c κs = search needs
+
+returns : tie.Need-returns
+returns c =
+    let z = c .before .before .before .before .before .before in
+    let ps = now (z .args .primes) in
+    let ws = now (z .args .words) in
+    power-kept (z .args .i) ps ws (now (z .args .h)) (z .pre .1) (z .args .k) (c .before .before .before .power .result) (c .before .before .word .result) (c .before .value .result) (c .same .result) (z .pre .2)
+    (c .before .before .before .power .ensures) (c .before .before .word .ensures) (c .before .value .ensures) (c .same .ensures)
+
+pub keeps-power-spec : {M : Type 1} → statement M
+keeps-power-spec =
+    tie.close
+    (tie.spec
+    mul-g
+    element-copy-out-g
+    mul-p
+    element-copy-out-p
+    power-requires
+    word-requires
+    value-requires
+    same-requires
+    returns)
