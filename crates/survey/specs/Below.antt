@@ -2,22 +2,21 @@
 --
 --   firstOf, degOf, matrixOf, targetOf      where representation r begins, its degree, the line of a generator, where an
 --                              intertwiner leads
---   levelIn                    the level, as representations
+--   sourceIn                   the level, as the formulas ask for it
 --   Stands f W                 the lines of a level stand in W as a build leaves them: bounds, valid matrices, targets of one
 --                              degree, and orbits of the generator on top that close after p steps
---   Lines, Marks, Numbers, Shifts      arrays that hold where representations begin, leaders and positions, numbers, and the
---                              constants of the orbits
+--   Array                      an array that holds a function below the number of representations
+--   Rows                       the words of the generator on top have exponents below its prime
 use mathlib.Core.Path.{_≡_}
 use Prim.Native.Nat.{ℕ, zero, suc, _+_, _*_, _≤_, _<_}
-use mathlib.Core.List.{List, map}
+use mathlib.Core.List.{List, []}
 use lib.ListN.{length, getD}
-use Rattle.definitions.specs.Lists.{upto, iter}
-use Rattle.definitions.specs.Presentation.{Presentation}
-use Rattle.definitions.specs.Monomial.{Rep, Level}
-use Rattle.definitions.specs.Table.{wordAt, repAt}
-use Rattle.definitions.specs.Steps.{leader, position, start}
-use Rattle.formulas.specs.Formulas.{shift}
-use Rattle.lines.specs.Lines.{Holds}
+use Rattle.definitions.specs.Lists.{iter}
+use Rattle.definitions.specs.Presentation.{toNF, pairNumber}
+use Rattle.definitions.specs.Table.{wordAt}
+use Rattle.numbers.proofs.Prime.{Units}
+use Rattle.formulas.specs.Formulas.{Source}
+use Rattle.lines.specs.Lines.{matrixIn, Holds}
 use Rattle.survey.specs.declared.Frame.{Frame}
 
 module _ (f : Frame) (W : List ℕ) where
@@ -35,16 +34,24 @@ module _ (f : Frame) (W : List ℕ) where
   abbrev pub targetOf : ℕ → ℕ → ℕ
   targetOf j r = wordAt W (matrixOf j r) 4
 
-  abbrev pub repIn : ℕ → Rep
-  repIn r = repAt W (firstOf r) (degOf r)
-
-  unfoldable pub levelIn : Level
-  levelIn = map repIn (upto (f .reps))
+  abbrev pub sourceIn : List (List ℕ) → Source
+  sourceIn rows = record {
+    m = f .m;
+    i = f .top;
+    p = f .p;
+    u = toNF (f .top) (getD rows (pairNumber (f .top) (f .top)) []);
+    w = λ j. toNF (suc (f .top)) (getD rows (pairNumber j (f .top)) []);
+    count = f .reps;
+    degree = degOf;
+    matrix = λ r g. matrixIn W (matrixOf g r) (degOf r);
+    target = targetOf;
+  }
 
   pub record Stands : Type 0 where
     pub few : f .reps ≤ 4096
     pub gens : (f .top < f .gens) × (f .gens ≤ 12)
     pub prime : (1 < f .p) × (f .p ≤ 65536)
+    pub units : Units (f .p)
     pub modulus : (0 < f .m) × (f .m ≤ 65536)
     pub short : (8 * f .end ≤ length W) × (f .end ≤ 16777216)
     pub inside : (r : ℕ) → r < f .reps → firstOf (suc r) ≤ f .end
@@ -53,20 +60,9 @@ module _ (f : Frame) (W : List ℕ) where
     pub target : (r : ℕ) → r < f .reps → (j : ℕ) → f .top ≤ j → j < f .gens → (targetOf j r < f .reps) × (degOf (targetOf j r) ≡ degOf r)
     pub cycle : (r : ℕ) → r < f .reps → iter (targetOf (f .top)) (f .p) r ≡ r
 
-  -- an array that holds a function below the number of representations
   pub record Array (a : List ℕ) (g : ℕ → ℕ) : Type 0 where
     pub long : f .reps ≤ length a
     pub at : (r : ℕ) → r < f .reps → getD a r 0 ≡ g r
 
   abbrev pub Lines : List ℕ → Type 0
   Lines first = Array first firstOf
-
-  pub record Marks (P : Presentation) (leaders places : List ℕ) : Type 0 where
-    pub leader-is : Array leaders (leader P (f .m) (f .top) levelIn)
-    pub place-is : Array places (position P (f .m) (f .top) levelIn)
-
-  abbrev pub Numbers : Presentation → List ℕ → Type 0
-  Numbers P numbers = Array numbers (start P (f .m) (f .top) levelIn)
-
-  abbrev pub Shifts : Presentation → List ℕ → Type 0
-  Shifts P shifts = Array shifts (shift P (f .m) (f .top) levelIn)
