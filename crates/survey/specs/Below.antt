@@ -6,15 +6,16 @@
 --   Stands f W                 the lines of a level stand in W as a build leaves them: bounds, valid matrices, targets of one
 --                              degree, and orbits of the generator on top that close after p steps
 --   Array                      an array that holds a function below the number of representations
---   Rows                       the words of the generator on top have exponents below its prime
+--   MarkedTo, Marked           orbits while they are marked
 use mathlib.Core.Path.{_≡_}
 use Prim.Native.Nat.{ℕ, zero, suc, _+_, _*_, _≤_, _<_}
 use mathlib.Core.List.{List, []}
-use lib.ListN.{length, getD}
+use lib.ListN.{length, getD, set}
 use Rattle.definitions.specs.Lists.{iter}
 use Rattle.definitions.specs.Presentation.{toNF, pairNumber}
 use Rattle.definitions.specs.Table.{wordAt}
 use Rattle.numbers.proofs.Prime.{Units}
+use Rattle.numbers.proofs.Orbits.{leaderOf, positionOf}
 use Rattle.formulas.specs.Formulas.{Source}
 use Rattle.lines.specs.Lines.{matrixIn, Holds}
 use Rattle.survey.specs.declared.Frame.{Frame}
@@ -47,6 +48,12 @@ module _ (f : Frame) (W : List ℕ) where
     target = targetOf;
   }
 
+  abbrev pub leaderIn : ℕ → ℕ
+  leaderIn = leaderOf (f .reps) (f .p) (targetOf (f .top))
+
+  abbrev pub positionIn : ℕ → ℕ
+  positionIn = positionOf (f .reps) (f .p) (targetOf (f .top))
+
   pub record Stands : Type 0 where
     pub few : f .reps ≤ 4096
     pub gens : (f .top < f .gens) × (f .gens ≤ 12)
@@ -66,3 +73,19 @@ module _ (f : Frame) (W : List ℕ) where
 
   abbrev pub Lines : List ℕ → Type 0
   Lines first = Array first firstOf
+
+  -- ---- Orbits while they are marked
+
+  -- every member of an orbit before that of r is marked, so are the first k members of that of r, and no others
+  pub record MarkedTo (leaders places : List ℕ) (r k : ℕ) : Type 0 where
+    pub long : (f .reps ≤ length leaders) × (f .reps ≤ length places)
+    pub earlier : (q : ℕ) → q < f .reps → leaderIn q < r → (getD leaders q 0 ≡ leaderIn q) × (getD places q 0 ≡ positionIn q)
+    pub these : (q : ℕ) → q < f .reps → leaderIn q ≡ r → positionIn q < k → (getD leaders q 0 ≡ r) × (getD places q 0 ≡ positionIn q)
+    pub later : (q : ℕ) → q < f .reps → leaderIn q ≡ r → k ≤ positionIn q → getD leaders q 0 ≡ f .reps
+    pub others : (q : ℕ) → q < f .reps → r < leaderIn q → getD leaders q 0 ≡ f .reps
+
+-- one member marked, unless it was
+pub record Marked (leaders places : List ℕ) (reps r q k : ℕ) (leaders′ places′ : List ℕ) : Type 0 where
+  pub lengths : (length leaders′ ≡ length leaders) × (length places′ ≡ length places)
+  pub fresh : getD leaders q 0 ≡ reps → (leaders′ ≡ set leaders q r) × (places′ ≡ set places q k)
+  pub stale : ¬ (getD leaders q 0 ≡ reps) → (leaders′ ≡ leaders) × (places′ ≡ places)
