@@ -6,19 +6,23 @@
 --   Stands f W                 the lines of a level stand in W as a build leaves them: bounds, valid matrices, targets of one
 --                              degree, and orbits of the generator on top that close after p steps
 --   Array                      an array that holds a function below the number of representations
---   MarkedTo, Marked           orbits while they are marked
+--   madeIn, numberIn, aroundIn, closingIn      the formulas, of this level
+--   MarkedTo, Marked, Turned   orbits while they are marked; a step along one
 use mathlib.Core.Path.{_≡_}
 use Prim.Native.Nat.{ℕ, zero, suc, _+_, _*_, _≤_, _<_}
 use mathlib.Core.List.{List, []}
 use lib.ListN.{length, getD, set}
 use Rattle.definitions.specs.Lists.{iter}
 use Rattle.definitions.specs.Presentation.{toNF, pairNumber}
+use Rattle.definitions.specs.declared.Entry.{Entry}
+use Rattle.definitions.specs.Monomial.{entry, less, act}
 use Rattle.definitions.specs.Table.{wordAt}
 use Rattle.numbers.proofs.Prime.{Units}
 use Rattle.numbers.proofs.Orbits.{leaderOf, positionOf}
-use Rattle.formulas.specs.Formulas.{Source}
-use Rattle.lines.specs.Lines.{matrixIn, Holds}
+use Rattle.formulas.specs.Formulas.{Source, walk, made, start, around}
+use Rattle.lines.specs.Lines.{matrixIn, Below, Holds}
 use Rattle.survey.specs.declared.Frame.{Frame}
+use Rattle.survey.specs.declared.Carried.{Carried}
 
 module _ (f : Frame) (W : List ℕ) where
   unfoldable pub firstOf : ℕ → ℕ
@@ -54,6 +58,20 @@ module _ (f : Frame) (W : List ℕ) where
   abbrev pub positionIn : ℕ → ℕ
   positionIn = positionOf (f .reps) (f .p) (targetOf (f .top))
 
+  -- the formulas of this level that ask for no words, or for a power word alone
+  abbrev pub madeIn : ℕ → ℕ
+  madeIn = made (sourceIn [])
+
+  abbrev pub numberIn : ℕ → ℕ
+  numberIn = start (sourceIn [])
+
+  abbrev pub aroundIn : ℕ → ℕ → Entry
+  aroundIn = around (sourceIn [])
+
+  -- the constant of r for the row u of the power word
+  unfoldable pub closingIn : List ℕ → ℕ → ℕ
+  closingIn u r = less (f .m) (walk (f .m) (sourceIn [] .matrix r) (f .top) (toNF (f .top) u) (entry 0 0) .exp) (aroundIn r (f .p) .exp)
+
   pub record Stands : Type 0 where
     pub few : f .reps ≤ 4096
     pub gens : (f .top < f .gens) × (f .gens ≤ 12)
@@ -83,6 +101,14 @@ module _ (f : Frame) (W : List ℕ) where
     pub these : (q : ℕ) → q < f .reps → leaderIn q ≡ r → positionIn q < k → (getD leaders q 0 ≡ r) × (getD places q 0 ≡ positionIn q)
     pub later : (q : ℕ) → q < f .reps → leaderIn q ≡ r → k ≤ positionIn q → getD leaders q 0 ≡ f .reps
     pub others : (q : ℕ) → q < f .reps → r < leaderIn q → getD leaders q 0 ≡ f .reps
+
+-- an entry taken one step along the orbit
+pub record Turned (f : Frame) (W : List ℕ) (d : ℕ) (s t : Carried) : Type 0 where
+  pub rep-is : t .rep ≡ targetOf f W (f .top) (s .rep)
+  pub rep-below : t .rep < f .reps
+  pub same-degree : d ≡ degOf f W (t .rep)
+  pub entry-is : t .x ≡ act (f .m) (sourceIn f W [] .matrix (s .rep) (f .top)) (s .x)
+  pub entry-below : Below (f .m) d (t .x)
 
 -- one member marked, unless it was
 pub record Marked (leaders places : List ℕ) (reps r q k : ℕ) (leaders′ places′ : List ℕ) : Type 0 where
