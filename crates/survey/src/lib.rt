@@ -229,7 +229,15 @@ pub fn closing(low: &[u32], first: &[u32], u: &[u32; 12], f: Frame, r: u32) -> u
     let a = around(low, first, f, r);
     let s = lines::up(element(first, r));
     let d = lines::word_at(low, s, 2);
-    let b = lines::apply_word(low, s, d, u, lines::up(f.top), Entry { row: 0, exp: 0 }, f.m);
+    let b = lines::apply_word(
+        low,
+        s,
+        d,
+        u,
+        lines::up(f.top),
+        Entry { row: 0, exp: 0 },
+        f.m,
+    );
     lines::sub_mod(b.exp, a.exp, f.m)
 }
 
