@@ -5,11 +5,12 @@
 --   sourceIn                   the level, as the formulas ask for it
 --   Stands f W                 the lines of a level stand in W as a build leaves them: bounds, valid matrices, targets of one
 --                              degree, and orbits of the generator on top that close after p steps
+--   Rows                       exponents of words in range
 --   Array                      an array that holds a function below the number of representations
 --   madeIn, numberIn, aroundIn, closingIn      the formulas, of this level
 --   MarkedTo, Marked, Turned   orbits while they are marked; a step along one
 use mathlib.Core.Path.{_≡_}
-use Prim.Native.Nat.{ℕ, zero, suc, _+_, _*_, _≤_, _<_}
+use Prim.Native.Nat.{ℕ, zero, suc, _+_, _*_, _/_, _≤_, _<_}
 use mathlib.Core.List.{List, []}
 use lib.ListN.{length, getD, set}
 use Rattle.definitions.specs.Lists.{iter}
@@ -75,15 +76,20 @@ module _ (f : Frame) (W : List ℕ) where
   pub record Stands : Type 0 where
     pub few : f .reps ≤ 4096
     pub gens : (f .top < f .gens) × (f .gens ≤ 12)
-    pub prime : (1 < f .p) × (f .p ≤ 65536)
+    pub prime : (1 < f .p) × (f .p ≤ 16384)
     pub units : Units (f .p)
-    pub modulus : (0 < f .m) × (f .m ≤ 65536)
+    pub modulus : (0 < f .m) × (f .m ≤ 16384)
+    pub whole : f .m ≡ f .p * (f .m / f .p)
     pub short : (8 * f .end ≤ length W) × (f .end ≤ 16777216)
     pub inside : (r : ℕ) → r < f .reps → firstOf (suc r) ≤ f .end
     pub wide : (r : ℕ) → r < f .reps → (0 < degOf r) × (f .p * degOf r ≤ 65536)
     pub valid : (r : ℕ) → r < f .reps → (g : ℕ) → g < f .gens → Holds (f .m) W (matrixOf g r) (degOf r)
     pub target : (r : ℕ) → r < f .reps → (j : ℕ) → f .top ≤ j → j < f .gens → (targetOf j r < f .reps) × (degOf (targetOf j r) ≡ degOf r)
     pub cycle : (r : ℕ) → r < f .reps → iter (targetOf (f .top)) (f .p) r ≡ r
+
+  -- the exponents of the generator on top in its words with the generators above are below its prime
+  pub record Rows (rows : List (List ℕ)) : Type 0 where
+    pub below : (j : ℕ) → f .top < j → j < f .gens → getD (getD rows (pairNumber j (f .top)) []) (f .top) 0 < f .p
 
   pub record Array (a : List ℕ) (g : ℕ → ℕ) : Type 0 where
     pub long : f .reps ≤ length a
