@@ -4,21 +4,34 @@
 --   shift-below                it is below the modulus
 --   divide-below               a quotient of a number below m
 --   step-positive              m / p is not 0
+--   factor-below, product-fits, landing-small, start-fits, factor-small      bounds
+--   matrix-lines, reference-is the lines of a generator of an extension, and their reference
 --   landing-is                 the number that an intertwiner's exponents tell
 use mathlib.Core.Path.{_≡_, refl, ap, ap₂, sym, _∙_, subst}
-use mathlib.Core.List.{List, []}
+use mathlib.Core.List.{List, [], _∷_}
 use Prim.Native.Nat.{ℕ, zero, suc, _+_, _*_, _/_, _%_, _<_, _≤_}
 use native.Mathlib.Omega.{arith}
-use native.Mathlib.Nat.{mod-lt, div-le-self}
-use lib.ListN.{getD}
+use native.Mathlib.Nat.{zero-add, mod-lt, div-le-self, div-lt-iff-lt-mul, mul-comm, mul-le-mul-left, mul-le-mul-right}
+use lib.ListN.{length, getD}
+use lib.Dec.{leb}
+use borrow.Author.Tests.{le-leb}
+use native.Mathlib.Decide.{decLt}
+use mathlib.Core.Bool.{cond}
+use Rattle.numbers.proofs.Bools.{cond-true}
 use Rattle.definitions.specs.declared.Entry.{Entry}
 use Rattle.definitions.specs.Lists.{iter}
 use Rattle.definitions.specs.Presentation.{toNF, pairNumber}
-use Rattle.definitions.specs.Monomial.{entry, less, act}
-use Rattle.formulas.specs.Formulas.{around, shift, plus, topEntry, landing, walk}
+use Rattle.definitions.specs.Monomial.{Matrix, entry, col, less, act, scale}
+use Rattle.definitions.specs.Table.{lineOf}
+use Rattle.numbers.proofs.Blocks.{getD-map, length-table, blocks-below}
+use Rattle.formulas.specs.Formulas.{Source, made, start, around, shift, plus, topEntry, landing, walk, extensionAt}
+use Rattle.lines.specs.declared.Head.{Head}
+use Rattle.lines.specs.Lines.{entryIn, matrixIn, headLine, blockLines}
+use Rattle.lines.proofs.Laws.{col-matrixIn}
 use Rattle.survey.specs.declared.Frame.{Frame}
-use Rattle.survey.specs.Below.{sourceIn, targetOf, closingIn, Stands}
-use Rattle.extend.specs.Extending.{conjugatedIn}
+use Rattle.survey.specs.Below.{degOf, matrixOf, sourceIn, targetOf, closingIn, Stands}
+use Rattle.survey.proofs.Counting.{number-fits}
+use Rattle.extend.specs.Extending.{conjugatedIn, factorOf, referenceOf, Ready, matrixWords}
 
 module _ (f : Frame) (W : List ℕ) (rows : List (List ℕ)) where
   around-rows : (r k : ℕ) → around (sourceIn f W rows) r k ≡ around (sourceIn f W []) r k
@@ -50,3 +63,81 @@ step-positive f W S = go (f .m / f .p) (S .whole)
     go : (q : ℕ) → f .m ≡ f .p * q → 0 < q
     go zero e = absurd (omega (arith, S .modulus .0, e))
     go (suc q) e = omega arith
+
+-- ---- Constants and references
+
+pub factor-below : (s p m k : ℕ) → m ≡ p * (m / p) → s < m → k < p → s / p + k * (m / p) < m
+factor-below s p m k e h l =
+    let pos : 0 < p = omega arith in
+    let a : s / p < m / p = div-lt-iff-lt-mul pos .1 (subst (λ x. s < x) (e ∙ mul-comm p (m / p)) h) in
+    let b : suc k * (m / p) ≤ p * (m / p) = mul-le-mul-right (m / p) l in
+    omega (arith, a, b, e)
+
+pub product-fits : (k a p : ℕ) → k < p → a ≤ p → p ≤ 16384 → k * a ≤ 268435456
+product-fits k a p h l q =
+    let x : k * a ≤ k * 16384 = mul-le-mul-left k (omega arith) in
+    omega (arith, x)
+
+pub landing-small : (f : Frame) (W : List ℕ) (rows : List (List ℕ)) → 0 < f .m → f .m ≤ 16384 → (j r : ℕ) → landing (sourceIn f W rows) j r ≤ 16384
+unfolding landing less
+landing-small f W rows h l j r = quotient-small _ (f .m) (f .m / f .p) h l
+  where
+    quotient-small : (x m q : ℕ) → 0 < m → m ≤ 16384 → x % m / q ≤ 16384
+    quotient-small x m q h l = omega (arith, div-le-self (x % m) q, mod-lt x h)
+
+pub start-fits : (f : Frame) (W : List ℕ) (rows : List (List ℕ)) → Stands f W → (r : ℕ) → r ≤ f .reps → start (sourceIn f W rows) r ≤ 268435456
+unfolding start made
+start-fits f W rows S r l = number-fits f W S r l
+
+-- ---- Lines
+
+col-scale : (m e : ℕ) (M : Matrix) (k : ℕ) → k < length M → col (scale m e M) k ≡ entry (col M k .row) ((col M k .exp + e) % m)
+unfolding col scale
+col-scale m e M k l = getD-map (λ (x : Entry). entry (x .row) ((x .exp + e) % m)) M k (entry 0 0) (entry 0 0) l
+
+-- the lines of one generator of an extension
+pub matrix-lines : (f : Frame) (W : List ℕ) (rows : List (List ℕ)) (h : Head) (rep r k g c d src : ℕ)
+    → h .level ≡ suc (f .top) → h .rep ≡ rep → h .deg ≡ degOf f W r → h .generator ≡ suc g → ((x : ℕ) → h .refn ≡ extensionAt (sourceIn f W rows) r k .ref g x)
+    → d ≡ degOf f W r → src ≡ matrixOf f W g r → c ≡ factorOf f (shift (sourceIn f W rows) r) g k
+    → blockLines (f .m) h 0 0 c d W src ≡ matrixWords f W rows rep r k g
+unfolding blockLines matrixWords headLine lineOf extensionAt factorOf
+matrix-lines f W rows h rep r k g c d src e1 e2 e3 e4 e5 e6 e7 e8 =
+    (λ o. blockLines (f .m) h 0 0 (e8 o) (e6 o) W (e7 o))
+    ∙ blocks-below (degOf f W r) _ _ (λ x l. (λ o. e1 o ∷ e2 o ∷ e3 o ∷ e4 o ∷ e5 x o ∷ zero-add x o ∷ row x l o ∷ exponent x l o ∷ []))
+  where
+    C : ℕ
+    C = factorOf f (shift (sourceIn f W rows) r) g k
+
+    M : Matrix
+    M = matrixIn W (matrixOf f W g r) (degOf f W r)
+
+    at : (x : ℕ) → x < degOf f W r → col (scale (f .m) C M) x ≡ entry (entryIn W (matrixOf f W g r + x) .row) ((entryIn W (matrixOf f W g r + x) .exp + C) % f .m)
+    at x l = col-scale (f .m) C M x (subst (λ n. x < n) (sym (length-table _ (degOf f W r))) l) ∙ ap (λ (y : Entry). entry (y .row) ((y .exp + C) % f .m)) (col-matrixIn W (matrixOf f W g r) (degOf f W r) x l)
+
+    row : (x : ℕ) → x < degOf f W r → 0 + entryIn W (matrixOf f W g r + x) .row ≡ col (scale (f .m) C M) x .row
+    row x l = zero-add _ ∙ sym (ap (λ (y : Entry). y .row) (at x l))
+
+    exponent : (x : ℕ) → x < degOf f W r → (entryIn W (matrixOf f W g r + x) .exp + C) % f .m ≡ col (scale (f .m) C M) x .exp
+    exponent x l = sym (ap (λ (y : Entry). y .exp) (at x l))
+
+pub factor-small : (p d x : ℕ) → 1 < p → p * d ≤ x → d ≤ x
+factor-small p d x h l = let a : 1 * d ≤ p * d = mul-le-mul-right d (omega arith) in omega (arith, a)
+
+-- the reference that was read is that of the formulas
+pub reference-is : (f : Frame) (W : List ℕ) (rows : List (List ℕ)) (first shifts to by : List ℕ) (r : ℕ) → Ready f W rows first shifts to by r → (g k x : ℕ) → g < f .gens
+    → referenceOf f rows to by r g k ≡ extensionAt (sourceIn f W rows) r k .ref g x
+unfolding referenceOf extensionAt toNF
+reference-is f W rows first shifts to by r R g k x l = go (decLt (f .top) g)
+  where
+    S : Source
+    S = sourceIn f W rows
+
+    a : ℕ
+    a = suc (getD (getD rows (pairNumber g (f .top)) []) (f .top) 0)
+
+    go : Dec (f .top < g)
+        → cond (leb g (f .top)) r (getD to g 0 + (getD by g 0 + k * a) % f .p) ≡ cond (leb g (f .top)) r (start S (targetOf f W g r) + (landing S g r + k * a) % f .p)
+    go (yes h) = ap₂ (λ s t. cond (leb g (f .top)) r (s + (t + k * a) % f .p)) (R .to-is g h l) (R .by-is g h l)
+    go (no h) =
+        let e = le-leb g (f .top) (omega arith) in
+        cond-true (leb g (f .top)) r _ e ∙ sym (cond-true (leb g (f .top)) r _ e)

@@ -6,14 +6,15 @@ ghost use lib.ListN.{length, getD, take};
 ghost use Rattle.definitions.specs.Lists.{iter, blocks};
 ghost use Rattle.definitions.specs.Monomial.{entry, act};
 ghost use Rattle.definitions.specs.Table.{repWords};
-ghost use Rattle.definitions.specs.Presentation.{toNF};
+ghost use Rattle.definitions.specs.Presentation.{toNF, pairNumber};
 ghost use Rattle.formulas.specs.Formulas.{walk, plus, landing, shift, start, extensionAt};
 ghost use Rattle.text.specs.Writing.{Wrote};
 ghost use Rattle.lines.specs.Lines.{Below};
 ghost use Rattle.survey.specs.Below.{degOf, targetOf, sourceIn, Stands, Rows, Array, Lines};
-ghost use Rattle.extend.specs.Extending.{conjugatedIn};
+ghost use Rattle.extend.specs.Extending.{conjugatedIn, factorOf, referenceOf, Ready, matrixWords};
 use collector::rows;
 use definitions::Entry;
+use lines::Head;
 use survey::Frame;
 
 // Generator g of representation r on an entry.
@@ -112,4 +113,73 @@ pub fn landing(
     let b = root(shifts, f, q);
     let e = right(low, first, f, j, r, q, b);
     lines::sub_mod(y.exp, e, f.m) / (f.m / f.p)
+}
+
+// The constant of generator g in extension k.
+pub fn factor(shifts: &[u32], f: Frame, r: u32, g: u32, k: u32) -> u32
+    requires { ⌜ (r < length (now shifts)) × (getD (now shifts) r 0 < f .m) × (k < f .p) × (f .m ≡ f .p * (f .m / f .p)) × (f .m ≤ 16384) ⌝ }
+    ensures { λ c. ⌜ (c ≡ factorOf f (getD (now (shifts .entry)) r 0) g k) × (c < f .m) ⌝ }
+{
+    if g == f.top {
+        let s = survey::element(shifts, r);
+        return s / f.p + k * (f.m / f.p);
+    }
+    0
+}
+
+// The reference of generator g in extension k.
+pub fn reference(
+    rows: &[[u32; 12]; 78],
+    to: &[u32],
+    by: &[u32],
+    f: Frame,
+    r: u32,
+    g: u32,
+    k: u32,
+) -> u32
+    requires { ⌜ (f .gens ≤ 12) × (f .top < f .gens) × (g < f .gens) × (f .gens ≤ length (now to)) × (f .gens ≤ length (now by)) × (0 < f .p) × (f .p ≤ 16384) × (k < f .p) ⌝ }
+    requires { ⌜ ((f .top < g) → (getD (now to) g 0 ≤ 268435456) × (getD (now by) g 0 ≤ 16384) × (getD (getD (now rows) (pairNumber g (f .top)) []) (f .top) 0 < f .p)) ⌝ }
+    ensures { λ x. ⌜ x ≡ referenceOf f (now (rows .entry)) (now (to .entry)) (now (by .entry)) r g k ⌝ }
+{
+    if g <= f.top {
+        return r;
+    }
+    let w = rows::word(rows, lines::up(g), lines::up(f.top));
+    let t = lines::up(f.top);
+    let a = w[t] + 1;
+    let l = survey::element(by, g);
+    survey::element(to, g) + (l + k * a) % f.p
+}
+
+// Appends generator g of extension k of r, numbered rep, behind the level below. Returns the next line's number.
+pub fn append_matrix(
+    words: &mut [u32],
+    first: &[u32],
+    rows: &[[u32; 12]; 78],
+    shifts: &[u32],
+    to: &[u32],
+    by: &[u32],
+    f: Frame,
+    at: usize,
+    rep: u32,
+    r: u32,
+    k: u32,
+    g: u32,
+) -> usize
+    requires { ⌜ Ready f (take (8 * f .end) (now words)) (now rows) (now first) (now shifts) (now to) (now by) r × (k < f .p) × (g < f .gens) × (f .end ≤ at) × (8 * at + 8 * degOf f (take (8 * f .end) (now words)) r ≤ length (now words)) ⌝ }
+    ensures { λ x. ⌜ Wrote (now (words .entry)) (8 * at) (matrixWords f (take (8 * f .end) (now (words .entry))) (now (rows .entry)) rep r k g) (now (words .exit)) (8 * x) ⌝ }
+{
+    let n = 8 * f.end;
+    let src = survey::matrix_line(&words[..n], first, f, g, r);
+    let d = survey::degree(&words[..n], first, f, r);
+    let c = factor(shifts, f, r, g, k);
+    let x = reference(rows, to, by, f, r, g, k);
+    let h = Head {
+        level: f.top + 1,
+        rep: rep,
+        deg: d,
+        generator: g + 1,
+        refn: x,
+    };
+    lines::append_block(words, f.end, at, h, 0, 0, src, d, c, f.m)
 }
