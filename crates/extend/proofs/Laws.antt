@@ -12,18 +12,19 @@ use mathlib.Core.List.{List, [], _∷_}
 use Prim.Native.Nat.{ℕ, zero, suc, _+_, _*_, _/_, _%_, _<_, _≤_}
 use native.Mathlib.Omega.{arith}
 use native.Mathlib.Nat.{zero-add, mod-lt, div-le-self, div-lt-iff-lt-mul, mul-comm, mul-le-mul-left, mul-le-mul-right}
-use lib.ListN.{length, getD}
+use lib.ListN.{length, getD, set}
+use lib.Seq.{getD-set-same, getD-set-other}
 use lib.Dec.{leb}
 use borrow.Author.Tests.{le-leb}
-use native.Mathlib.Decide.{decLt}
+use native.Mathlib.Decide.{decLt, ℕ-discrete}
 use mathlib.Core.Bool.{cond}
 use Rattle.numbers.proofs.Bools.{cond-true}
 use Rattle.definitions.specs.declared.Entry.{Entry}
-use Rattle.definitions.specs.Lists.{iter}
+use Rattle.definitions.specs.Lists.{iter, blocks}
 use Rattle.definitions.specs.Presentation.{toNF, pairNumber}
 use Rattle.definitions.specs.Monomial.{Matrix, entry, col, less, act, scale}
-use Rattle.definitions.specs.Table.{lineOf}
-use Rattle.numbers.proofs.Blocks.{getD-map, length-table, blocks-below}
+use Rattle.definitions.specs.Table.{lineOf, repWords}
+use Rattle.numbers.proofs.Blocks.{getD-map, length-table, blocks-below, length-even}
 use Rattle.formulas.specs.Formulas.{Source, made, start, around, shift, plus, topEntry, landing, walk, extensionAt}
 use Rattle.lines.specs.declared.Head.{Head}
 use Rattle.lines.specs.Lines.{entryIn, matrixIn, headLine, blockLines}
@@ -141,3 +142,42 @@ reference-is f W rows first shifts to by r R g k x l = go (decLt (f .top) g)
     go (no h) =
         let e = le-leb g (f .top) (omega arith) in
         cond-true (leb g (f .top)) r _ e ∙ sym (cond-true (leb g (f .top)) r _ e)
+
+-- ---- Lengths
+
+module _ (f : Frame) (W : List ℕ) (rows : List (List ℕ)) (rep r k : ℕ) where
+  pub matrixWords-length : (g : ℕ) → length (matrixWords f W rows rep r k g) ≡ 8 * degOf f W r
+  unfolding matrixWords lineOf
+  matrixWords-length g = length-even (λ c. lineOf (suc (f .top)) rep (extensionAt (sourceIn f W rows) r k) g c) 8 (degOf f W r) (λ c l. refl) ∙ omega arith
+
+  pub extension-words : repWords (f .gens) (suc (f .top)) rep (extensionAt (sourceIn f W rows) r k) ≡ blocks (f .gens) (matrixWords f W rows rep r k)
+  unfolding repWords matrixWords extensionAt
+  extension-words = refl
+
+  pub extension-length : length (blocks (f .gens) (matrixWords f W rows rep r k)) ≡ 8 * (f .gens * degOf f W r)
+  extension-length = length-even (matrixWords f W rows rep r k) (8 * degOf f W r) (f .gens) (λ g l. matrixWords-length g) ∙ regroup (f .gens) (degOf f W r)
+    where
+      regroup : (n d : ℕ) → n * (8 * d) ≡ 8 * (n * d)
+      regroup n d = omega arith
+
+-- ---- Arrays filled above an index
+
+abbrev pub Between : List ℕ → (ℕ → ℕ) → ℕ → ℕ → Type 0
+Between a g lo j = (k : ℕ) → lo < k → k < j → getD a k 0 ≡ g k
+
+pub between-none : (a : List ℕ) (g : ℕ → ℕ) (lo : ℕ) → Between a g lo (lo + 1)
+between-none a g lo k h l = absurd (omega arith)
+
+pub between-more : (a : List ℕ) (g : ℕ → ℕ) (lo j x : ℕ) → j < length a → x ≡ g j → Between a g lo j → Between (set a j x) g lo (j + 1)
+between-more a g lo j x l e h k a′ b = go (ℕ-discrete k j)
+  where
+    go : Dec (k ≡ j) → getD (set a j x) k 0 ≡ g k
+    go (yes q) = ap (λ z. getD (set a j x) z 0) q ∙ getD-set-same a j x 0 l ∙ e ∙ ap g (sym q)
+    go (no q) = getD-set-other a j k x 0 q ∙ h k a′ (omega arith)
+
+pub rep-length : (f : Frame) (W : List ℕ) (rows : List (List ℕ)) (rep r k : ℕ) → length (repWords (f .gens) (suc (f .top)) rep (extensionAt (sourceIn f W rows) r k)) ≡ 8 * (f .gens * degOf f W r)
+rep-length f W rows rep r k = ap length (extension-words f W rows rep r k) ∙ extension-length f W rows rep r k
+
+pub extensions-length : (f : Frame) (W : List ℕ) (rows : List (List ℕ)) (rep r : ℕ)
+    → length (blocks (f .p) (λ k. repWords (f .gens) (suc (f .top)) (rep + k) (extensionAt (sourceIn f W rows) r k))) ≡ f .p * (8 * (f .gens * degOf f W r))
+extensions-length f W rows rep r = length-even _ (8 * (f .gens * degOf f W r)) (f .p) (λ k l. rep-length f W rows (rep + k) r k)

@@ -2,7 +2,7 @@
 --
 --   factorOf, referenceOf      the constant and the reference of a generator
 --   Ready                      what is known where extensions are written
---   matrixWords                the words of one generator
+--   matrixWords, extensionsWords      the words of one generator, and of all extensions
 --   conjugatedIn               column 0 of a representation moved by the generators of a word, the one on top scaled
 use mathlib.Core.List.{List, []}
 use mathlib.Core.Bool.{cond}
@@ -14,7 +14,7 @@ use Rattle.definitions.specs.declared.Entry.{Entry}
 use Rattle.definitions.specs.Lists.{iter, blocks}
 use Rattle.definitions.specs.Presentation.{toNF, pairNumber}
 use Rattle.definitions.specs.Monomial.{entry, act}
-use Rattle.definitions.specs.Table.{lineOf}
+use Rattle.definitions.specs.Table.{lineOf, repWords}
 use Rattle.formulas.specs.Formulas.{walk, plus, shift, start, landing, extensionAt}
 use Rattle.survey.specs.declared.Frame.{Frame}
 use Rattle.survey.specs.Below.{degOf, targetOf, sourceIn, Stands, Rows, Array, Lines}
@@ -46,3 +46,7 @@ pub record Ready (f : Frame) (W : List ℕ) (rows : List (List ℕ)) (first shif
 -- the words of generator g in extension k of r, numbered rep
 unfoldable pub matrixWords : (f : Frame) → List ℕ → List (List ℕ) → (rep r k g : ℕ) → List ℕ
 matrixWords f W rows rep r k g = blocks (degOf f W r) (λ c. lineOf (suc (f .top)) rep (extensionAt (sourceIn f W rows) r k) g c)
+
+-- the words of the extensions of r, numbered from rep
+unfoldable pub extensionsWords : (f : Frame) → List ℕ → List (List ℕ) → (rep r : ℕ) → List ℕ
+extensionsWords f W rows rep r = blocks (f .p) (λ k. repWords (f .gens) (suc (f .top)) (rep + k) (extensionAt (sourceIn f W rows) r k))

@@ -11,7 +11,7 @@ ghost use Rattle.formulas.specs.Formulas.{walk, plus, landing, shift, start, ex
 ghost use Rattle.text.specs.Writing.{Wrote};
 ghost use Rattle.lines.specs.Lines.{Below};
 ghost use Rattle.survey.specs.Below.{degOf, targetOf, sourceIn, Stands, Rows, Array, Lines};
-ghost use Rattle.extend.specs.Extending.{conjugatedIn, factorOf, referenceOf, Ready, matrixWords};
+ghost use Rattle.extend.specs.Extending.{conjugatedIn, factorOf, referenceOf, Ready, matrixWords, extensionsWords};
 use collector::rows;
 use definitions::Entry;
 use lines::Head;
@@ -182,4 +182,112 @@ pub fn append_matrix(
         refn: x,
     };
     lines::append_block(words, f.end, at, h, 0, 0, src, d, c, f.m)
+}
+
+// Appends extension k of r, numbered rep.
+pub fn append_extension(
+    words: &mut [u32],
+    first: &[u32],
+    rows: &[[u32; 12]; 78],
+    shifts: &[u32],
+    to: &[u32],
+    by: &[u32],
+    f: Frame,
+    at: usize,
+    rep: u32,
+    r: u32,
+    k: u32,
+) -> usize
+    requires { ⌜ Ready f (take (8 * f .end) (now words)) (now rows) (now first) (now shifts) (now to) (now by) r × (k < f .p) × (f .end ≤ at) × (8 * at + 8 * (f .gens * degOf f (take (8 * f .end) (now words)) r) ≤ length (now words)) ⌝ }
+    ensures { λ x. ⌜ Wrote (now (words .entry)) (8 * at) (repWords (f .gens) (suc (f .top)) rep (extensionAt (sourceIn f (take (8 * f .end) (now (words .entry))) (now (rows .entry))) r k)) (now (words .exit)) (8 * x) ⌝ }
+{
+    let mut pos = at;
+    let gens = f.gens;
+    for g in 0..gens {
+        pos = append_matrix(words, first, rows, shifts, to, by, f, pos, rep, r, k, g);
+    }
+    pos
+}
+
+// Fills, for each generator above the one on top, the number of the first extension of the target of r, and the number
+// among them to which extension 0 goes.
+pub fn find_targets(
+    low: &[u32],
+    first: &[u32],
+    rows: &[[u32; 12]; 78],
+    numbers: &[u32],
+    shifts: &[u32],
+    to: &mut [u32],
+    by: &mut [u32],
+    f: Frame,
+    r: u32,
+)
+    requires { ⌜ Stands f (now low) × Lines f (now low) (now first) × Rows f (now low) (now rows) × Array f (now low) (now numbers) (start (sourceIn f (now low) (now rows))) × Array f (now low) (now shifts) (shift (sourceIn f (now low) (now rows))) × (r < f .reps) × (f .gens ≤ length (now to)) × (f .gens ≤ length (now by)) ⌝ }
+    ensures { λ _. ⌜ Ready f (now (low .entry)) (now (rows .entry)) (now (first .entry)) (now (shifts .entry)) (now (to .exit)) (now (by .exit)) r ⌝ }
+{
+    let lo = f.top + 1;
+    let gens = f.gens;
+    for j in lo..gens {
+        let q = survey::target(low, first, f, j, r);
+        let x = survey::element(numbers, q);
+        survey::store(to, j, x);
+        let l = landing(low, first, rows, shifts, f, j, r);
+        survey::store(by, j, l);
+    }
+}
+
+// Appends the extensions of r, numbered from rep.
+pub fn append_each(
+    words: &mut [u32],
+    first: &[u32],
+    rows: &[[u32; 12]; 78],
+    shifts: &[u32],
+    to: &[u32],
+    by: &[u32],
+    f: Frame,
+    at: usize,
+    rep: u32,
+    r: u32,
+) -> usize
+    requires { ⌜ Ready f (take (8 * f .end) (now words)) (now rows) (now first) (now shifts) (now to) (now by) r × (rep ≤ 268435456) × (f .end ≤ at) × (8 * at + f .p * (8 * (f .gens * degOf f (take (8 * f .end) (now words)) r)) ≤ length (now words)) ⌝ }
+    ensures { λ x. ⌜ Wrote (now (words .entry)) (8 * at) (extensionsWords f (take (8 * f .end) (now (words .entry))) (now (rows .entry)) rep r) (now (words .exit)) (8 * x) ⌝ }
+{
+    let mut pos = at;
+    let p = f.p;
+    for k in 0..p {
+        pos = append_extension(words, first, rows, shifts, to, by, f, pos, rep + k, r, k);
+    }
+    pos
+}
+
+// Appends the extensions of r, which the generator on top fixes.
+pub fn append_extensions(
+    words: &mut [u32],
+    first: &[u32],
+    rows: &[[u32; 12]; 78],
+    numbers: &[u32],
+    shifts: &[u32],
+    f: Frame,
+    at: usize,
+    r: u32,
+) -> usize
+    requires { ⌜ Stands f (take (8 * f .end) (now words)) × Lines f (take (8 * f .end) (now words)) (now first) × Rows f (take (8 * f .end) (now words)) (now rows) × Array f (take (8 * f .end) (now words)) (now numbers) (start (sourceIn f (take (8 * f .end) (now words)) (now rows))) × Array f (take (8 * f .end) (now words)) (now shifts) (shift (sourceIn f (take (8 * f .end) (now words)) (now rows))) × (r < f .reps) × (f .end ≤ at) × (8 * at + f .p * (8 * (f .gens * degOf f (take (8 * f .end) (now words)) r)) ≤ length (now words)) ⌝ }
+    ensures { λ x. ⌜ Wrote (now (words .entry)) (8 * at) (extensionsWords f (take (8 * f .end) (now (words .entry))) (now (rows .entry)) (start (sourceIn f (take (8 * f .end) (now (words .entry))) (now (rows .entry))) r) r) (now (words .exit)) (8 * x) ⌝ }
+{
+    let n = 8 * f.end;
+    let mut to = [0u32; 12];
+    let mut by = [0u32; 12];
+    find_targets(
+        &words[..n],
+        first,
+        rows,
+        numbers,
+        shifts,
+        &mut to,
+        &mut by,
+        f,
+        r,
+    );
+    let rep = survey::element(numbers, r);
+    append_each(words, first, rows, shifts, &to, &by, f, at, rep, r)
 }
