@@ -76,7 +76,7 @@ module _ (f : Frame) (W : List ℕ) where
   pub record Stands : Type 0 where
     pub few : f .reps ≤ 4096
     pub gens : (f .top < f .gens) × (f .gens ≤ 12)
-    pub prime : (1 < f .p) × (f .p ≤ 16384)
+    pub prime : (1 < f .p) × (f .p ≤ 4096)
     pub units : Units (f .p)
     pub modulus : (0 < f .m) × (f .m ≤ 16384)
     pub whole : f .m ≡ f .p * (f .m / f .p)

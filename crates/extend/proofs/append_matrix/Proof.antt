@@ -50,7 +50,7 @@ factor-requires c κs = let z = c .before .before .before .before .before .befor
 reference-requires : tie.Need-reference-requires
 reference-requires c κs = let z = c .before .before .before .before .before .before .before .before .before .before .before in
     let R = z .pre .0 in (
-      (R .stands .gens .1, R .stands .gens .0, z .pre .2, R .long .0, R .long .1, omega (arith, R .stands .prime .0), R .stands .prime .1, z .pre .1),
+      (R .stands .gens .1, R .stands .gens .0, z .pre .2, R .long .0, R .long .1, omega (arith, R .stands .prime .0), omega (arith, R .stands .prime .1), z .pre .1),
       λ above. (
         subst (λ x. x ≤ 268435456) (sym (R .to-is (z .args .g) above (z .pre .2))) (start-fits (z .args .f) (take (8 * z .args .f .end) (now (z .args .words))) (now (z .args .rows)) (R .stands) _ (omega (arith, R .stands .target (z .args .r) (R .listed) (z .args .g) (omega (arith, above)) (z .pre .2) .0))),
         subst (λ x. x ≤ 16384) (sym (R .by-is (z .args .g) above (z .pre .2))) (landing-small (z .args .f) (take (8 * z .args .f .end) (now (z .args .words))) (now (z .args .rows)) (R .stands .modulus .0) (R .stands .modulus .1) (z .args .g) (z .args .r)),

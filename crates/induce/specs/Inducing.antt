@@ -1,0 +1,65 @@
+-- What an induced representation is made with.
+--
+--   OrbitArray                 an array that holds an orbit
+--   Cycles                     generator j moves the blocks of an orbit around, each once
+--   Inducing                   what is known where the representation induced from the orbit of r is written
+--   Cycled                     one step of the generator on top
+--   Held                       an entry in a block, within the degree
+--   BlockScalars               an array that holds the scalars of the blocks
+use mathlib.Core.Path.{_≡_}
+use mathlib.Core.List.{List, []}
+use Prim.Native.Nat.{ℕ, suc, _+_, _*_, _≤_, _<_}
+use mathlib.Core.Bool.{cond}
+use lib.ListN.{length, getD}
+use lib.Dec.{ltb}
+use Rattle.definitions.specs.Lists.{iter}
+use Rattle.definitions.specs.Monomial.{act}
+use Rattle.formulas.specs.Formulas.{plus, shift, start, blockAt, scalar}
+use Rattle.formulas.specs.Formulas as Fm
+use Rattle.lines.specs.Lines.{Below}
+use Rattle.survey.specs.declared.Frame.{Frame}
+use Rattle.survey.specs.Below.{degOf, targetOf, sourceIn, leaderIn, positionIn, Stands, Rows, Array, Lines}
+use Rattle.induce.specs.declared.Moved.{Moved}
+
+module _ (f : Frame) (W : List ℕ) where
+  pub record OrbitArray (orbit : List ℕ) (r : ℕ) : Type 0 where
+    pub long : f .p ≤ length orbit
+    pub at : (k : ℕ) → k < f .p → getD orbit k 0 ≡ iter (targetOf f W (f .top)) k r
+
+  module _ (rows : List (List ℕ)) where
+    -- from block 0 on, p steps visit every block, and none twice
+    pub record Cycles (j r : ℕ) : Type 0 where
+      pub visits : (b : ℕ) → b < f .p → (t : ℕ) × (t < f .p) × (blockAt (sourceIn f W rows) j r t ≡ b)
+      pub once : (t t′ : ℕ) → t < f .p → t′ < f .p → blockAt (sourceIn f W rows) j r t ≡ blockAt (sourceIn f W rows) j r t′ → t ≡ t′
+
+    pub record Inducing (first leaders places numbers shifts orbit : List ℕ) (r : ℕ) : Type 0 where
+      pub stands : Stands f W
+      pub lines : Lines f W first
+      pub words : Rows f W rows
+      pub leaders-are : Array f W leaders (leaderIn f W)
+      pub places-are : Array f W places (positionIn f W)
+      pub numbers-are : Array f W numbers (start (sourceIn f W rows))
+      pub shifts-are : Array f W shifts (shift (sourceIn f W rows))
+      pub listed : r < f .reps
+      pub orbit-is : OrbitArray orbit r
+      pub cycles : (j : ℕ) → f .top < j → j < f .gens → Cycles j r
+
+    -- an array that holds the scalars of the blocks of the orbit of r for generator j
+    pub record BlockScalars (scalars : List ℕ) (j r : ℕ) : Type 0 where
+      pub long : f .p ≤ length scalars
+      pub at : (b : ℕ) → b < f .p → getD scalars b 0 ≡ scalar (sourceIn f W rows) j r b
+
+  -- an entry of the formulas, and bounds
+  pub record Held (r : ℕ) (x : Fm.Moved) (y : Moved) : Type 0 where
+    pub block-is : y .block ≡ x .block
+    pub entry-is : y .x ≡ x .at
+    pub block-below : y .block < f .p
+    pub entry-below : Below (f .m) (degOf f W r) (y .x)
+
+-- one step of the generator on top, with the constant c of the orbit
+pub record Cycled (f : Frame) (W : List ℕ) (c r : ℕ) (s t : Moved) : Type 0 where
+  pub block-is : t .block ≡ cond (ltb (suc (s .block)) (f .p)) (suc (s .block)) 0
+  pub entry-is :
+      t .x ≡ plus (f .m) (cond (ltb (suc (s .block)) (f .p)) 0 c) (act (f .m) (sourceIn f W [] .matrix (iter (targetOf f W (f .top)) (s .block) r) (f .top)) (s .x))
+  pub block-below : t .block < f .p
+  pub entry-below : Below (f .m) (degOf f W r) (t .x)

@@ -1,0 +1,2 @@
+-- What an induced representation is made with.
+pub mod Inducing

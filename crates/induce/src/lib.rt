@@ -1,0 +1,53 @@
+// The representation induced from an orbit of the generator on top, as lines behind the level below.
+ghost use mathlib.Core.Path.{_≡_};
+ghost use mathlib.Core.List.{[]};
+ghost use Prim.Native.Nat.{ℕ, suc, _+_, _*_, _≤_, _<_};
+ghost use lib.ListN.{length, getD, take};
+ghost use Rattle.definitions.specs.Lists.{iter};
+ghost use Rattle.definitions.specs.Presentation.{pairNumber};
+ghost use Rattle.definitions.specs.Monomial.{entry, act};
+ghost use Rattle.lines.specs.Lines.{Below};
+ghost use Rattle.survey.specs.Below.{degOf, targetOf, sourceIn, Stands, Lines};
+ghost use Rattle.induce.specs.Inducing.{OrbitArray, Inducing, BlockScalars, Held, Cycled};
+use collector::rows;
+use definitions::Entry;
+use survey::Frame;
+
+// An entry in a block of an orbit.
+pub struct Moved {
+    pub block: u32,
+    pub x: Entry,
+}
+
+// Fills an array with the orbit of r.
+pub fn list_orbit(low: &[u32], first: &[u32], orbit: &mut [u32], f: Frame, r: u32)
+    requires { ⌜ Stands f (now low) × Lines f (now low) (now first) × (r < f .reps) × (f .p ≤ length (now orbit)) ⌝ }
+    ensures { λ _. ⌜ OrbitArray f (now (low .entry)) (now (orbit .exit)) r ⌝ }
+{
+    let mut q = r;
+    let p = f.p;
+    for k in 0..p {
+        survey::store(orbit, k, q);
+        q = survey::target(low, first, f, f.top, q);
+    }
+}
+
+// The generator on top of the induced representation on an entry in a block; c closes the orbit.
+pub fn cycle(low: &[u32], first: &[u32], orbit: &[u32], f: Frame, c: u32, r: u32, s: Moved) -> Moved
+    requires { ⌜ Stands f (now low) × Lines f (now low) (now first) × (r < f .reps) × OrbitArray f (now low) (now orbit) r × (s .block < f .p) × (c < f .m) × Below (f .m) (degOf f (now low) r) (s .x) ⌝ }
+    ensures { λ t. ⌜ Cycled f (now (low .entry)) c r s t ⌝ }
+{
+    let b = s.block;
+    let q = survey::element(orbit, b);
+    let y = extend::moved(low, first, f, f.top, q, s.x);
+    if b + 1 < f.p {
+        return Moved { block: b + 1, x: y };
+    }
+    Moved {
+        block: 0,
+        x: Entry {
+            row: y.row,
+            exp: lines::add_mod(y.exp, c, f.m),
+        },
+    }
+}
