@@ -1,0 +1,85 @@
+-- One answer for each way through.
+use mathlib.Core.Path.{sym, _∙_}
+use mathlib.Core.Bool.{true≢false}
+use lib.ListN.{length}
+use borrow.Author.Tests.{not-true, not-false}
+use Rattle.table.proofs.Calls.{short, long, starts-within, read-short, read-unstarted, read-unformed, read-room, read-done}
+use borrow.Author.Needs.{needs}
+use Rattle.table.proofs.reading.read_table.Statement.{statement}
+use Rattle.table.proofs.reading.read_table.Tie as tie
+
+newlines-requires : tie.Need-newlines-requires
+newlines-requires c κs = search needs
+
+enough-requires : tie.Need-enough-requires
+enough-requires c κs = search needs
+
+returns : tie.Need-returns
+returns c =
+    let t = c .before .before .before .before .before .args .text .now in
+    let w = c .before .before .before .before .before .args .words .now in
+    let n = length w in
+    read-short t w (short t n (c .before .before .newlines .result) (c .before .enough .result) (c .before .before .newlines .ensures) (c .before .enough .ensures) (not-true (c .before .enough .result) (c .if1 .taken)))
+
+slice-aggregate-starts : tie.Need-slice-aggregate-starts
+slice-aggregate-starts c = search needs
+
+starts-requires : tie.Need-starts-requires
+starts-requires c κs = search needs
+
+returns-2 : tie.Need-returns-2
+returns-2 c =
+    let t = c .before .before .before .before .before .before .before .before .args .text .now in
+    let w = c .before .before .before .before .before .before .before .before .args .words .now in
+    let n = length w in
+    read-unstarted t w (long t n (c .before .before .before .before .before .newlines .result) (c .before .before .before .before .enough .result) (c .before .before .before .before .before .newlines .ensures) (c .before .before .before .before .enough .ensures) (not-false (c .before .before .before .before .enough .result) (c .before .before .before .if1 .left))) (λ h. true≢false (sym (c .before .starts .ensures .1 h) ∙ not-true (c .before .starts .result) (c .if2 .taken)))
+
+in-form-requires : tie.Need-in-form-requires
+in-form-requires c κs = starts-within (c .before .starts .ensures .0 (not-false (c .before .starts .result) (c .if2 .left)))
+
+returns-3 : tie.Need-returns-3
+returns-3 c =
+    let t = c .before .before .before .before .before .before .before .before .before .before .args .text .now in
+    let w = c .before .before .before .before .before .before .before .before .before .before .args .words .now in
+    let n = length w in
+    read-unformed t w (long t n (c .before .before .before .before .before .before .before .newlines .result) (c .before .before .before .before .before .before .enough .result) (c .before .before .before .before .before .before .before .newlines .ensures) (c .before .before .before .before .before .before .enough .ensures) (not-false (c .before .before .before .before .before .before .enough .result) (c .before .before .before .before .before .if1 .left))) (c .before .in-form .ensures .fails (not-true (c .before .in-form .result) (c .if3 .taken)))
+
+fill-requires : tie.Need-fill-requires
+fill-requires c κs =
+    let t = c .before .before .before .before .before .before .before .before .before .before .before .args .text .now in
+    let w = c .before .before .before .before .before .before .before .before .before .before .before .args .words .now in
+    let n = length w in
+    let s = c .before .before .before .before .starts .ensures .0 (not-false (c .before .before .before .before .starts .result) (c .before .before .before .if2 .left)) in
+    let f = c .before .before .in-form .ensures .stands (not-false (c .before .before .in-form .result) (c .before .if3 .left)) in
+    record {
+      table = f .0;
+      lines = f .1;
+      room = read-room (f .0) s (f .1) (long t n (c .before .before .before .before .before .before .before .before .newlines .result) (c .before .before .before .before .before .before .before .enough .result) (c .before .before .before .before .before .before .before .before .newlines .ensures) (c .before .before .before .before .before .before .before .enough .ensures) (not-false (c .before .before .before .before .before .before .before .enough .result) (c .before .before .before .before .before .before .if1 .left)));
+      within = starts-within s;
+    }
+
+same-length : tie.Need-same-length
+same-length c = search needs
+
+returns-4 : tie.Need-returns-4
+returns-4 c =
+    let t = c .before .before .before .before .before .before .before .before .before .before .before .before .before .before .args .text .now in
+    let w = c .before .before .before .before .before .before .before .before .before .before .before .before .before .before .args .words .now in
+    let n = length w in
+    read-done t w (long t n (c .before .before .before .before .before .before .before .before .before .before .before .newlines .result) (c .before .before .before .before .before .before .before .before .before .before .enough .result) (c .before .before .before .before .before .before .before .before .before .before .before .newlines .ensures) (c .before .before .before .before .before .before .before .before .before .before .enough .ensures) (not-false (c .before .before .before .before .before .before .before .before .before .before .enough .result) (c .before .before .before .before .before .before .before .before .before .if1 .left))) (c .before .before .before .before .before .before .before .starts .ensures .0 (not-false (c .before .before .before .before .before .before .before .starts .result) (c .before .before .before .before .before .before .if2 .left))) (c .before .before .fill .ensures)
+
+pub read-table-spec : {M : Type 1} → statement M
+read-table-spec =
+    tie.close
+    (tie.spec
+    newlines-requires
+    enough-requires
+    returns
+    slice-aggregate-starts
+    starts-requires
+    returns-2
+    in-form-requires
+    returns-3
+    fill-requires
+    same-length
+    returns-4)
