@@ -1,9 +1,7 @@
--- From level 0 up: every level of the steps stands on a family, and is cut into blocks of the level below.
+-- The next level of the steps stands on its family, and is cut into blocks of the level below.
 --
 --   next-stands          the next level stands
 --   next-restricts       its representations are cut into blocks
---   Standing             a level that stands, with literal targets
---   standing             every level of the steps does
 use mathlib.Core.Path.{_≡_, refl, sym, _∙_, ap, ap₂, subst}
 use Prim.Native.Nat.{ℕ, zero, suc, _+_, _*_, _-_, _/_, _≤_, _<_}
 use native.Mathlib.Nat.{mul-pos}

@@ -13,3 +13,9 @@ pub mod Intertwiners
 pub mod Rise
 pub mod Squares
 pub mod Climb
+pub mod Standing
+pub mod Lines
+pub mod Agreement
+pub mod Judged
+pub mod Cuts
+pub mod Theorem

@@ -5,6 +5,7 @@
 --   same-none, same-more, same-differs    the comparison of two rows from the top down
 --   generator-row, generator-is    the row of a generator, and the normal form that it says
 --   remaining-all, remaining-period    the turns that are left
+--   empty-is                       a row that is compared with zeros
 --   stays-zero, stays-word         an exponent that stays
 use mathlib.Core.Path.{_≡_, refl, sym, _∙_, ap, ap₂, subst}
 use mathlib.Core.Logic.{_≢_}
@@ -12,6 +13,7 @@ use mathlib.Core.Bool.{Bool, true, false, _&&_, _||_, cond}
 use mathlib.Core.List.{List}
 use Prim.Native.Nat.{ℕ, zero, suc, _+_, _*_, _/_, _%_, _-_, _≤_, _<_}
 use native.Mathlib.Nat.{mul-le-mul, mod-le}
+use native.Mathlib.Numerals.{add-one}
 use native.Mathlib.Omega.{arith}
 use native.Mathlib.Decide.{decLt, ℕ-discrete}
 use lib.Dec.{eqb}
@@ -100,8 +102,12 @@ remaining-period k x c n left l s = record {
 
 -- ---- Exponents that stay
 
-pub stays-zero : (k e : ℕ) (w : List ℕ) → e ≡ 0 → true ≡ (eqb e 0 || sameForm k (toNF k w) (trivial k))
-stays-zero k e w q = ap (λ t. t || sameForm k (toNF k w) (trivial k)) (sym (eq-eqb e 0 q))
+pub empty-is : (i : ℕ) (x : List ℕ) → sameForm i (toNF i x) (toNF i (replicate 12 0)) ≡ sameForm i (toNF i x) (trivial i)
+empty-is i x = ap (sameForm i (toNF i x)) (toNF-trivial i (replicate 12 0) (λ m l. zeros m))
 
-pub stays-word : (k e : ℕ) (w : List ℕ) → e ≢ 0 → sameForm k (toNF k w) (toNF k (replicate 12 0)) ≡ (eqb e 0 || sameForm k (toNF k w) (trivial k))
-stays-word k e w q = ap (sameForm k (toNF k w)) (toNF-trivial k (replicate 12 0) (λ m l. zeros m)) ∙ ap (λ t. t || sameForm k (toNF k w) (trivial k)) (sym (ne-eqb e 0 q))
+-- w the word of generator l with the one above, e an exponent of generator l
+pub stays-zero : (l e : ℕ) (w : List ℕ) → e ≡ 0 → true ≡ (eqb e 0 || sameForm (suc l) (toNF (suc l) w) (trivial (suc l)))
+stays-zero l e w q = ap (λ t. t || sameForm (suc l) (toNF (suc l) w) (trivial (suc l))) (sym (eq-eqb e 0 q))
+
+pub stays-word : (l e : ℕ) (w : List ℕ) → e ≢ 0 → sameForm (l + 1) (toNF (l + 1) w) (trivial (l + 1)) ≡ (eqb e 0 || sameForm (suc l) (toNF (suc l) w) (trivial (suc l)))
+stays-word l e w q = ap (λ m. sameForm m (toNF m w) (trivial m)) (add-one l) ∙ ap (λ t. t || sameForm (suc l) (toNF (suc l) w) (trivial (suc l))) (sym (ne-eqb e 0 q))

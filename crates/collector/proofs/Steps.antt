@@ -2,7 +2,8 @@
 --
 --   small-below, ready-below, reads-below      what holds of m generators holds of fewer
 --   Turning, turning-start, turning-more       the loop of product: conjugates of the lower part, turn after turn
---   product-zero, product-low, product-high    level 0; no carry; a carry
+--   product-zero, product-left, product-right  level 0; a trivial factor
+--   product-low, product-high                  no carry; a carry
 --   powering-start, powering-more    the loop of conjugation: powers of the image of a generator
 --   conjugate-zero, conjugate-stays, conjugate-moves    level 0; the exponent stays; the general step
 use mathlib.Core.Path.{_≡_, refl, sym, _∙_, ap, ap₂, subst}
@@ -24,7 +25,7 @@ use Rattle.numbers.proofs.Lists.{below-suc, iter-zero, iter-suc, iter-add}
 use Rattle.group.specs.Context.{Context}
 use Rattle.group.proofs.Values.{power-zero, power-suc}
 use Rattle.group.proofs.Clauses.{mulStep-below, mulStep-over, mul-suc, conj-suc, generator-top, sameForm-eq}
-use Rattle.group.proofs.Units.{conj-empty, conj-zero}
+use Rattle.group.proofs.Units.{mul-trivial-left, mul-trivial-right, conj-empty, conj-zero}
 use Rattle.group.proofs.Rows.{toNF-suc, toNF-set-top, toNF-trivial, toNF-valid}
 use Rattle.collector.specs.Rows.{Small, Ready, Reads, Generator, Product, Conjugate, Remaining, Power}
 use Rattle.collector.proofs.Laws.{zeros, generator-is}
@@ -122,6 +123,19 @@ module _ (k b : ℕ) (ps : List ℕ) (ws : List (List ℕ)) (x : List ℕ) where
 pub product-zero : (i : ℕ) (ps : List ℕ) (ws : List (List ℕ)) (x y : List ℕ) → i ≡ 0 → Product i ps ws x y x
 product-zero i ps ws x y e = subst (λ i. Product i ps ws x y x) (sym e) (record { small = record { below = λ k l. absurd (omega arith) }; is = λ C R. refl })
 
+module _ (i : ℕ) (ps : List ℕ) (ws : List (List ℕ)) (x y : List ℕ) where
+  pub product-left : sameForm i (toNF i x) (trivial i) ≡ true → Small i ps y → Product i ps ws x y y
+  product-left e s = record {
+    small = s;
+    is = λ C R. sym (ap (λ t. mul (C .P) i t (toNF i y)) (sameForm-eq i _ _ e) ∙ mul-trivial-left C i (toNF i y) (small-valid C i i ps ws y R (omega arith) s));
+  }
+
+  pub product-right : sameForm i (toNF i y) (trivial i) ≡ true → Small i ps x → Product i ps ws x y x
+  product-right e s = record {
+    small = s;
+    is = λ C R. sym (ap (mul (C .P) i (toNF i x)) (sameForm-eq i _ _ e) ∙ mul-trivial-right C i (toNF i x) (small-valid C i i ps ws x R (omega arith) s));
+  }
+
 -- ---- Conjugation
 
 module _ (k : ℕ) (ps : List ℕ) (ws : List (List ℕ)) (h : List ℕ) where
@@ -189,10 +203,9 @@ module _ (k j : ℕ) (ps : List ℕ) (ws : List (List ℕ)) (x z w : List ℕ) (
   level′ : suc (k - 1) ≡ k
   level′ = omega arith
 
-  pub conjugate-stays-at : (eqb (getD x (k - 1) 0) 0 || sameForm k (toNF k w) (trivial k)) ≡ true → Conjugate k j ps ws x (set z (k - 1) (getD x (k - 1) 0))
+  pub conjugate-stays-at : (eqb (getD x (k - 1) 0) 0 || sameForm (suc (k - 1)) (toNF (suc (k - 1)) w) (trivial (suc (k - 1)))) ≡ true → Conjugate k j ps ws x (set z (k - 1) (getD x (k - 1) 0))
   conjugate-stays-at h = subst (λ m. Conjugate m j ps ws x (set z (k - 1) (getD x (k - 1) 0))) level′
-      (conjugate-stays (k - 1) j ps ws x z w (omega arith) (omega arith) (subst (λ m. Small m ps x) (sym level′) sx) q we
-      (subst (λ m. (eqb (getD x (k - 1) 0) 0 || sameForm m (toNF m w) (trivial m)) ≡ true) (sym level′) h))
+      (conjugate-stays (k - 1) j ps ws x z w (omega arith) (omega arith) (subst (λ m. Small m ps x) (sym level′) sx) q we h)
 
   pub conjugate-moves-at : (g h r s : List ℕ) → Generator (k - 1) g → Product k ps ws g w h → Power k ps ws h r (getD x (k - 1) 0) → Product k ps ws r (set z (k - 1) 0) s
       → Conjugate k j ps ws x s

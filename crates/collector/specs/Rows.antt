@@ -6,7 +6,7 @@
 --   Generator k r                 r is the row of generator k
 --   Product, Conjugate            what product and conjugation return
 --   Remaining                     how many turns are left, once a period is known
---   Power, Turned                 powers, and conjugates turn after turn
+--   Power, Scaled, Turned         powers, a power times a form, and conjugates turn after turn
 --   Images, Value                 the images of the generators under conjugation by the next; values over them
 use mathlib.Core.Path.{_≡_}
 use mathlib.Core.Bool.{cond}
@@ -25,7 +25,7 @@ pub record Small (i : ℕ) (primes x : List ℕ) : Type 0 where
 pub record Ready (m : ℕ) (primes : List ℕ) (words : List (List ℕ)) : Type 0 where
   pub few : m ≤ 12
   pub two : (k : ℕ) → k < m → 1 < getD primes k 0
-  pub bounded : (k : ℕ) → k < m → getD primes k 0 ≤ 4096
+  pub bounded : (k : ℕ) → k < m → getD primes k 0 ≤ 999999999
   pub word : (j i : ℕ) → i ≤ j → j < m → Small m primes (getD words (pairNumber j i) [])
 
 pub record Reads (C : Context) (m : ℕ) (primes : List ℕ) (words : List (List ℕ)) : Type 0 where

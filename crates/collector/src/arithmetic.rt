@@ -2,43 +2,53 @@
 ghost use mathlib.Core.Path.{_≡_};
 ghost use mathlib.Core.Bool.{_||_};
 ghost use Prim.Native.Nat.{suc, _≤_, _<_};
+ghost use mathlib.Core.List.{[]};
+ghost use lib.ListN.{getD};
 ghost use lib.Dec.{eqb};
-ghost use Rattle.definitions.specs.Presentation.{toNF, trivial};
+ghost use Rattle.definitions.specs.Presentation.{toNF, trivial, pairNumber};
 ghost use Rattle.definitions.specs.Consistency.{sameForm};
 ghost use Rattle.collector.specs.Rows.{Small, Ready, Product, Conjugate, Remaining, Power, Scaled, Turned};
+use super::rows::GENERATORS;
+use super::rows::Row;
+use super::rows::Words;
+use super::rows::empty;
 use super::rows::generator;
 use super::rows::same;
 use super::rows::word;
 
 // How many of `left` more turns of a map are needed after the n that led from x to c: where c is x again, whole periods
 // are left out.
-pub fn remaining(k: usize, x: [u32; 12], c: [u32; 12], n: u32, left: u32) -> u32
+pub fn remaining(k: usize, x: Row, c: Row, n: u32, left: u32) -> u32
     requires { ⌜ (k ≤ 12) × (0 < n) ⌝ }
     ensures { λ r. ⌜ Remaining k x c n left r ⌝ }
 {
     if same(k, x, c) { left % n } else { left }
 }
 
-// Conjugation by a generator keeps an exponent e where e is 0 or the word w of the two generators is empty.
-pub fn stays(k: usize, e: u32, w: [u32; 12]) -> bool
-    requires { ⌜ k ≤ 12 ⌝ }
-    ensures { λ r. ⌜ r ≡ (eqb e 0 || sameForm k (toNF k w) (trivial k)) ⌝ }
+// Conjugation by generator j keeps an exponent e of generator l where e is 0 or the word of the two generators is empty.
+pub fn stays(words: &Words, j: usize, l: usize, e: u32) -> bool
+    requires { ⌜ (l < j) × (j < 12) ⌝ }
+    ensures { λ r. ⌜ r ≡ (eqb e 0 || sameForm (suc l) (toNF (suc l) (getD (now (words .entry)) (pairNumber j l) [])) (trivial (suc l))) ⌝ }
 {
-    if e == 0 { true } else { same(k, w, [0; 12]) }
+    if e == 0 {
+        return true;
+    }
+    let w = word(words, j, l);
+    empty(l + 1, w)
 }
 
 // The product of x and y on level i. The conjugates that it needs are of the level below.
-pub fn product(
-    primes: &[u32; 12],
-    words: &[[u32; 12]; 78],
-    i: usize,
-    x: [u32; 12],
-    y: [u32; 12],
-) -> [u32; 12]
+pub fn product(primes: &Row, words: &Words, i: usize, x: Row, y: Row) -> Row
     requires { ⌜ Ready i (now primes) (now words) × Small i (now primes) x × Small i (now primes) y ⌝ }
     ensures { λ r. ⌜ Product i (now (primes .entry)) (now (words .entry)) x y r ⌝ }
 {
     if i == 0 {
+        return x;
+    }
+    if empty(i, x) {
+        return y;
+    }
+    if empty(i, y) {
         return x;
     }
     let k = i - 1;
@@ -66,13 +76,7 @@ pub fn product(
 }
 
 // The conjugate of x by generator j on level k, k ≤ j. It is a product on level k.
-pub fn conjugate(
-    primes: &[u32; 12],
-    words: &[[u32; 12]; 78],
-    k: usize,
-    j: usize,
-    x: [u32; 12],
-) -> [u32; 12]
+pub fn conjugate(primes: &Row, words: &Words, k: usize, j: usize, x: Row) -> Row
     requires { ⌜ Ready (suc j) (now primes) (now words) × (k ≤ j) × Small k (now primes) x ⌝ }
     ensures { λ r. ⌜ Conjugate k j (now (primes .entry)) (now (words .entry)) x r ⌝ }
 {
@@ -82,15 +86,15 @@ pub fn conjugate(
     let l = k - 1;
     let e = x[l];
     let mut z = conjugate(primes, words, l, j, x);
-    let w = word(words, j, l);
-    if stays(k, e, w) {
+    if stays(words, j, l, e) {
         z[l] = e;
         return z;
     }
     z[l] = 0;
     let g = generator(l);
+    let w = word(words, j, l);
     let h = product(primes, words, k, g, w);
-    let mut r = [0u32; 12];
+    let mut r = [0u32; GENERATORS];
     let mut n: u32 = 0;
     while n < e {
         let s = product(primes, words, k, h, r);
@@ -101,17 +105,11 @@ pub fn conjugate(
 }
 
 // x to the power e on level i.
-pub fn power(
-    primes: &[u32; 12],
-    words: &[[u32; 12]; 78],
-    i: usize,
-    x: [u32; 12],
-    e: u32,
-) -> [u32; 12]
+pub fn power(primes: &Row, words: &Words, i: usize, x: Row, e: u32) -> Row
     requires { ⌜ Ready i (now primes) (now words) × Small i (now primes) x ⌝ }
     ensures { λ r. ⌜ Power i (now (primes .entry)) (now (words .entry)) x r e ⌝ }
 {
-    let mut r = [0u32; 12];
+    let mut r = [0u32; GENERATORS];
     let mut n: u32 = 0;
     while n < e {
         let s = product(primes, words, i, x, r);
@@ -122,14 +120,7 @@ pub fn power(
 }
 
 // x to the power e, times v, on level i.
-pub fn scaled(
-    primes: &[u32; 12],
-    words: &[[u32; 12]; 78],
-    i: usize,
-    x: [u32; 12],
-    e: u32,
-    v: [u32; 12],
-) -> [u32; 12]
+pub fn scaled(primes: &Row, words: &Words, i: usize, x: Row, e: u32, v: Row) -> Row
     requires { ⌜ Ready i (now primes) (now words) × Small i (now primes) x × Small i (now primes) v ⌝ }
     ensures { λ r. ⌜ Scaled i (now (primes .entry)) (now (words .entry)) x e v r ⌝ }
 {
@@ -141,13 +132,7 @@ pub fn scaled(
 }
 
 // x after b conjugations by generator i, on level i.
-pub fn turned(
-    primes: &[u32; 12],
-    words: &[[u32; 12]; 78],
-    i: usize,
-    x: [u32; 12],
-    b: u32,
-) -> [u32; 12]
+pub fn turned(primes: &Row, words: &Words, i: usize, x: Row, b: u32) -> Row
     requires { ⌜ Ready (suc i) (now primes) (now words) × Small i (now primes) x ⌝ }
     ensures { λ r. ⌜ Turned i b (now (primes .entry)) (now (words .entry)) x r ⌝ }
 {

@@ -9,16 +9,22 @@ use super::arithmetic::power;
 use super::arithmetic::product;
 use super::arithmetic::scaled;
 use super::arithmetic::turned;
+use super::rows::GENERATORS;
+use super::rows::Row;
+use super::rows::Words;
 use super::rows::generator;
 use super::rows::same;
 use super::rows::word;
 
+// A normal form for each generator.
+pub type Forms = [[u32; GENERATORS]; GENERATORS];
+
 // The images of the generators below i under conjugation by generator i.
-pub fn images(primes: &[u32; 12], words: &[[u32; 12]; 78], i: usize) -> [[u32; 12]; 12]
+pub fn images(primes: &Row, words: &Words, i: usize) -> Forms
     requires { ⌜ Ready (suc i) (now primes) (now words) ⌝ }
     ensures { λ r. ⌜ Images i (now (primes .entry)) (now (words .entry)) r i ⌝ }
 {
-    let mut h = [[0u32; 12]; 12];
+    let mut h = [[0u32; GENERATORS]; GENERATORS];
     for k in 0..i {
         let g = generator(k);
         let c = conjugate(primes, words, i, i, g);
@@ -28,18 +34,11 @@ pub fn images(primes: &[u32; 12], words: &[[u32; 12]; 78], i: usize) -> [[u32; 1
 }
 
 // The value over the images h of the first k exponents of x, on level i.
-pub fn value(
-    primes: &[u32; 12],
-    words: &[[u32; 12]; 78],
-    h: &[[u32; 12]; 12],
-    i: usize,
-    k: usize,
-    x: [u32; 12],
-) -> [u32; 12]
+pub fn value(primes: &Row, words: &Words, h: &Forms, i: usize, k: usize, x: Row) -> Row
     requires { ⌜ Ready (suc i) (now primes) (now words) × Images i (now primes) (now words) (now h) i × (k ≤ i) ⌝ }
     ensures { λ r. ⌜ Value i (now (primes .entry)) (now (words .entry)) k x r ⌝ }
 {
-    let mut v = [0u32; 12];
+    let mut v = [0u32; GENERATORS];
     for m in 0..k {
         let g = h[m];
         let e = x[m];
@@ -50,13 +49,7 @@ pub fn value(
 }
 
 // The images h keep the power relation of generator k.
-pub fn keeps_power(
-    primes: &[u32; 12],
-    words: &[[u32; 12]; 78],
-    h: &[[u32; 12]; 12],
-    i: usize,
-    k: usize,
-) -> bool
+pub fn keeps_power(primes: &Row, words: &Words, h: &Forms, i: usize, k: usize) -> bool
     requires { ⌜ Ready (suc i) (now primes) (now words) × Images i (now primes) (now words) (now h) i × (k < i) ⌝ }
     ensures { λ r. ⌜ Answer (suc i) (now (primes .entry)) (now (words .entry)) (λ P. powerKept P i k) r ⌝ }
 {
@@ -69,12 +62,7 @@ pub fn keeps_power(
 }
 
 // The images h keep the power relations of the generators below i.
-pub fn keeps_powers(
-    primes: &[u32; 12],
-    words: &[[u32; 12]; 78],
-    h: &[[u32; 12]; 12],
-    i: usize,
-) -> bool
+pub fn keeps_powers(primes: &Row, words: &Words, h: &Forms, i: usize) -> bool
     requires { ⌜ Ready (suc i) (now primes) (now words) × Images i (now primes) (now words) (now h) i ⌝ }
     ensures { λ r. ⌜ Answer (suc i) (now (primes .entry)) (now (words .entry)) (λ P. keepsPowers P i) r ⌝ }
 {
@@ -88,9 +76,9 @@ pub fn keeps_powers(
 
 // The images h keep the commutator relation of generators k < j.
 pub fn keeps_commutator(
-    primes: &[u32; 12],
-    words: &[[u32; 12]; 78],
-    h: &[[u32; 12]; 12],
+    primes: &Row,
+    words: &Words,
+    h: &Forms,
     i: usize,
     j: usize,
     k: usize,
@@ -109,13 +97,7 @@ pub fn keeps_commutator(
 }
 
 // The images h keep the commutator relations of generator j with those below it.
-pub fn keeps_commutators_of(
-    primes: &[u32; 12],
-    words: &[[u32; 12]; 78],
-    h: &[[u32; 12]; 12],
-    i: usize,
-    j: usize,
-) -> bool
+pub fn keeps_commutators_of(primes: &Row, words: &Words, h: &Forms, i: usize, j: usize) -> bool
     requires { ⌜ Ready (suc i) (now primes) (now words) × Images i (now primes) (now words) (now h) i × (j < i) ⌝ }
     ensures { λ r. ⌜ Answer (suc i) (now (primes .entry)) (now (words .entry)) (λ P. allBelow j (commutatorKept P i j)) r ⌝ }
 {
@@ -128,12 +110,7 @@ pub fn keeps_commutators_of(
 }
 
 // The images h keep the commutator relations below i.
-pub fn keeps_commutators(
-    primes: &[u32; 12],
-    words: &[[u32; 12]; 78],
-    h: &[[u32; 12]; 12],
-    i: usize,
-) -> bool
+pub fn keeps_commutators(primes: &Row, words: &Words, h: &Forms, i: usize) -> bool
     requires { ⌜ Ready (suc i) (now primes) (now words) × Images i (now primes) (now words) (now h) i ⌝ }
     ensures { λ r. ⌜ Answer (suc i) (now (primes .entry)) (now (words .entry)) (λ P. keepsCommutators P i) r ⌝ }
 {
@@ -146,7 +123,7 @@ pub fn keeps_commutators(
 }
 
 // Conjugation by generator i fixes its power word.
-pub fn fixes_power(primes: &[u32; 12], words: &[[u32; 12]; 78], i: usize) -> bool
+pub fn fixes_power(primes: &Row, words: &Words, i: usize) -> bool
     requires { ⌜ Ready (suc i) (now primes) (now words) ⌝ }
     ensures { λ r. ⌜ Answer (suc i) (now (primes .entry)) (now (words .entry)) (λ P. fixesPower P i) r ⌝ }
 {
@@ -156,7 +133,7 @@ pub fn fixes_power(primes: &[u32; 12], words: &[[u32; 12]; 78], i: usize) -> boo
 }
 
 // As many conjugations by generator i as its prime are conjugation by its power word, at generator k.
-pub fn is_inner_at(primes: &[u32; 12], words: &[[u32; 12]; 78], i: usize, k: usize) -> bool
+pub fn is_inner_at(primes: &Row, words: &Words, i: usize, k: usize) -> bool
     requires { ⌜ Ready (suc i) (now primes) (now words) × (k < i) ⌝ }
     ensures { λ r. ⌜ Answer (suc i) (now (primes .entry)) (now (words .entry)) (λ P. innerAt P i k) r ⌝ }
 {
@@ -170,7 +147,7 @@ pub fn is_inner_at(primes: &[u32; 12], words: &[[u32; 12]; 78], i: usize, k: usi
 }
 
 // The same at every generator below i.
-pub fn is_inner(primes: &[u32; 12], words: &[[u32; 12]; 78], i: usize) -> bool
+pub fn is_inner(primes: &Row, words: &Words, i: usize) -> bool
     requires { ⌜ Ready (suc i) (now primes) (now words) ⌝ }
     ensures { λ r. ⌜ Answer (suc i) (now (primes .entry)) (now (words .entry)) (λ P. powerIsInner P i) r ⌝ }
 {
@@ -183,7 +160,7 @@ pub fn is_inner(primes: &[u32; 12], words: &[[u32; 12]; 78], i: usize) -> bool
 }
 
 // The known test for generator i.
-pub fn level_passes(primes: &[u32; 12], words: &[[u32; 12]; 78], i: usize) -> bool
+pub fn level_passes(primes: &Row, words: &Words, i: usize) -> bool
     requires { ⌜ Ready (suc i) (now primes) (now words) ⌝ }
     ensures { λ r. ⌜ Answer (suc i) (now (primes .entry)) (now (words .entry)) (λ P. levelTest P i) r ⌝ }
 {
@@ -201,7 +178,7 @@ pub fn level_passes(primes: &[u32; 12], words: &[[u32; 12]; 78], i: usize) -> bo
 }
 
 // Whether the presentation of n generators is consistent (15): the known test for each generator.
-pub fn consistent(primes: &[u32; 12], words: &[[u32; 12]; 78], n: usize) -> bool
+pub fn consistent(primes: &Row, words: &Words, n: usize) -> bool
     requires { ⌜ Ready n (now primes) (now words) ⌝ }
     ensures { λ r. ⌜ Decides n (now (primes .entry)) (now (words .entry)) r ⌝ }
 {

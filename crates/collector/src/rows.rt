@@ -3,9 +3,19 @@ ghost use mathlib.Core.Path.{_≡_};
 ghost use mathlib.Core.List.{[]};
 ghost use Prim.Native.Nat.{_≤_, _<_};
 ghost use lib.ListN.{getD};
-ghost use Rattle.definitions.specs.Presentation.{toNF, pairNumber};
+ghost use Rattle.definitions.specs.Presentation.{toNF, trivial, pairNumber};
 ghost use Rattle.definitions.specs.Consistency.{sameForm};
 ghost use Rattle.collector.specs.Rows.{Generator};
+
+// The ceiling of generators, and how many pairs they make.
+pub const GENERATORS: usize = 12;
+
+pub const PAIRS: usize = 78;
+
+// The exponents of a normal form; the words of a presentation, a row for each pair.
+pub type Row = [u32; GENERATORS];
+
+pub type Words = [[u32; GENERATORS]; PAIRS];
 
 // The number of the pair (j, i), i ≤ j, in the order of the lines.
 pub fn pair(j: usize, i: usize) -> usize
@@ -17,7 +27,7 @@ pub fn pair(j: usize, i: usize) -> usize
 }
 
 // The word of the pair (j, i).
-pub fn word(words: &[[u32; 12]; 78], j: usize, i: usize) -> [u32; 12]
+pub fn word(words: &Words, j: usize, i: usize) -> Row
     requires { ⌜ (i ≤ j) × (j < 12) ⌝ }
     ensures { λ r. ⌜ r ≡ getD (now (words .entry)) (pairNumber j i) [] ⌝ }
 {
@@ -26,17 +36,17 @@ pub fn word(words: &[[u32; 12]; 78], j: usize, i: usize) -> [u32; 12]
 }
 
 // The row of generator k.
-pub fn generator(k: usize) -> [u32; 12]
+pub fn generator(k: usize) -> Row
     requires { ⌜ k < 12 ⌝ }
     ensures { λ r. ⌜ Generator k r ⌝ }
 {
-    let mut r = [0u32; 12];
+    let mut r = [0u32; GENERATORS];
     r[k] = 1;
     r
 }
 
 // Two rows say the same normal form of level i.
-pub fn same(i: usize, x: [u32; 12], y: [u32; 12]) -> bool
+pub fn same(i: usize, x: Row, y: Row) -> bool
     requires { ⌜ i ≤ 12 ⌝ }
     ensures { λ r. ⌜ r ≡ sameForm i (toNF i x) (toNF i y) ⌝ }
 {
@@ -48,4 +58,12 @@ pub fn same(i: usize, x: [u32; 12], y: [u32; 12]) -> bool
         }
     }
     true
+}
+
+// The row says the trivial form of level i.
+pub fn empty(i: usize, x: Row) -> bool
+    requires { ⌜ i ≤ 12 ⌝ }
+    ensures { λ r. ⌜ r ≡ sameForm i (toNF i x) (trivial i) ⌝ }
+{
+    same(i, x, [0; GENERATORS])
 }

@@ -22,7 +22,7 @@ use Rattle.definitions.specs.Consistency.{Letter, gen, inv, Word, word, 
 use Rattle.definitions.specs.Monomial.{Matrix, entry, col, identity, less, act, product, scale, inverse, valid, sameEntry, sameMatrix, Rep, repOf, image, conjugate}
 use Rattle.definitions.specs.Table.{lineOf, repWords, levelWords, wordAt, lineCount, begins, degrees, columns, firstLine, repAt, levelZero, levelAt, complete, tableNames, rowsOf, tableText, writable}
 use Rattle.definitions.specs.Steps.{lift, fixed, orbit, leader, position, made, start, s, extended, l, a, extension, along, lastBlock, blockDiagonal, blockCycle, blockIntertwiner, leftSide, rightSide, nextBlock, blockAfter, scalarAfter, c, induction, givenBy, nextLevel, levels, tableWith, tableOf}
-use Rattle.definitions.specs.Judgement.{allForms, cutsFrom, cuts, wholeBlock, everywhere, everyLevel, matricesValid, blocksWhole, targetsListed, shapesHold, malformed, powerHolds, commutatorHolds, relationsHold, relationFails, blockRestricts, restricts, restrictionsHold, restrictionFails, intertwines, intertwinersHold, intertwinerFails, reaches, tells, separates, separated, notSeparated, squares, squaresHold, squaresFail}
+use Rattle.definitions.specs.Judgement.{allForms, cutsFrom, cuts, wholeBlock, everywhere, everyLevel, matricesValid, blocksWhole, targetsListed, malformed, powerHolds, commutatorHolds, relationsHold, relationFails, blockRestricts, restricts, restrictionFails, intertwines, intertwinersHold, intertwinerFails, reaches, tells, separates, notSeparated, squares, squaresFail}
 use Rattle.definitions.specs.Answers.{firstOf, judgement}
 
 -- ---- Rows
@@ -216,5 +216,5 @@ module _ where
 -- ---- The lemma
 
 pub starred-hold : (all holds starred ≡ true) × (¬ Consistent (presentation (S3-with 2)))
-unfolding starred holds bytes flat built table change maxGenerators maxOrder lineWords largest digits decimal spaced line valueLine render small zipWith flatMap textOf wellFormed presentationNames pairs pairsOf isPrime someNotPrime tooLarge allowed rowWell misused buildWords presentation rowOf pairNumber toNF power value trivial order carry mulStep conjStep arithmeticStep arithmetic generator sameForm keepsPowers keepsCommutators fixesPower powerIsInner levelTest test upto blocks sum allBelow anyBelow all any least leastFrom iter same identity col less act product scale inverse valid sameEntry sameMatrix repOf image conjugate lineOf repWords levelWords levelZero wordAt lineCount begins degrees columns firstLine repAt levelAt complete tableNames rowsOf tableText writable lift fixed orbit leader position made start s extended l a extension along lastBlock blockDiagonal blockCycle blockIntertwiner leftSide rightSide nextBlock blockAfter scalarAfter c induction givenBy nextLevel levels tableWith tableOf allForms cutsFrom cuts wholeBlock everywhere everyLevel matricesValid blocksWhole targetsListed shapesHold malformed powerHolds commutatorHolds relationsHold relationFails blockRestricts restricts restrictionsHold restrictionFails intertwines intertwinersHold intertwinerFails reaches tells separates separated notSeparated squares squaresHold squaresFail firstOf judgement
+unfolding starred holds bytes flat built table change maxGenerators maxOrder lineWords largest digits decimal spaced line valueLine render small zipWith flatMap textOf wellFormed presentationNames pairs pairsOf isPrime someNotPrime tooLarge allowed rowWell misused buildWords presentation rowOf pairNumber toNF power value trivial order carry mulStep conjStep arithmeticStep arithmetic generator sameForm keepsPowers keepsCommutators fixesPower powerIsInner levelTest test upto blocks sum allBelow anyBelow all any least leastFrom iter same identity col less act product scale inverse valid sameEntry sameMatrix repOf image conjugate lineOf repWords levelWords levelZero wordAt lineCount begins degrees columns firstLine repAt levelAt complete tableNames rowsOf tableText writable lift fixed orbit leader position made start s extended l a extension along lastBlock blockDiagonal blockCycle blockIntertwiner leftSide rightSide nextBlock blockAfter scalarAfter c induction givenBy nextLevel levels tableWith tableOf allForms cutsFrom cuts wholeBlock everywhere everyLevel matricesValid blocksWhole targetsListed malformed powerHolds commutatorHolds relationsHold relationFails blockRestricts restricts restrictionFails intertwines intertwinersHold intertwinerFails reaches tells separates notSeparated squares squaresFail firstOf judgement
 starred-hold = (refl, not-consistent)

@@ -3,12 +3,12 @@
 --
 --   allForms P i               the normal forms of level i (the products of level i, in the specification)
 --   cuts                       the columns at which the blocks of a representation begin
---   shapesHold, malformed      21
---   relationsHold, relationFails              22
---   restrictionsHold, restrictionFails        23
---   intertwinersHold, intertwinerFails        24
---   separated, notSeparated    25; a place, in the specification, is a basis index of a representation
---   squaresHold, squaresFail   26
+--   malformed                  21
+--   relationFails              22
+--   restrictionFails           23
+--   intertwinerFails           24
+--   notSeparated               25; a place, in the specification, is a basis index of a representation
+--   squaresFail                26
 use Prim.Native.Nat.{ℕ, zero, suc, _+_, _*_, _%_}
 use mathlib.Core.Bool.{Bool, true, false, _&&_, _||_, not, cond}
 use mathlib.Core.List.{List, [], _∷_, _++_, map}
@@ -43,35 +43,11 @@ module _ (low : Level) (D : Rep) where
   wholeBlock o =
       ltb (D .ref 0 o) (length low) && leb (o + below o .deg) (D .deg) && allBelow (below o .deg) (λ c. eqb (D .ref 0 (o + c)) (D .ref 0 o))
 
--- ---- Of one representation
+module _ (P : Presentation) (m : ℕ) (T : List ℕ) where
+  abbrev pub level : ℕ → Level
+  level i = levelAt (P .n) T i
 
-module _ (P : Presentation) (m : ℕ) where
-  -- the degree, and each matrix
-  unfoldable pub matricesValid : ℕ → Rep → Bool
-  matricesValid i D = ltb 0 (D .deg) && leb (D .deg * D .deg) (order P i) && allBelow (P .n) (λ g. valid m (D .deg) (D .matrix g))
-
-  unfoldable pub powerHolds : Rep → ℕ → Bool
-  powerHolds D j = sameMatrix m (power (matrices m (D .deg)) (D .matrix j) (P .p j)) (image m D j (P .u j))
-
-  unfoldable pub commutatorHolds : Rep → ℕ → ℕ → Bool
-  commutatorHolds D k j = sameMatrix m (product m (D .matrix k) (D .matrix j)) (product m (D .matrix j) (conjugate m P D k j))
-
-  -- some normal form maps basis index 0 to k
-  unfoldable pub reaches : ℕ → Rep → ℕ → Bool
-  reaches i D k = any (λ x. eqb (col (image m D i x) 0 .row) k) (allForms P i)
-
-  -- x fixes index k of D and index k′ of D′, with exponents that differ modulo m
-  unfoldable pub tells : (i : ℕ) → Rep → ℕ → Rep → ℕ → NF i → Bool
-  tells i D k D′ k′ x =
-      let y = col (image m D i x) k in
-      let y′ = col (image m D′ i x) k′ in
-      eqb (y .row) k && eqb (y′ .row) k′ && not (eqb (y .exp % m) (y′ .exp % m))
-
--- ---- Of levels
-
--- levels 1 to n, each a list of representations, over level 0
-module _ (P : Presentation) (m : ℕ) (level : ℕ → Level) where
-  -- of every representation D of every level i from 1 to n
+  -- of every representation D of every level from 1 to n
   unfoldable pub everywhere : ((i : ℕ) → Rep → Bool) → Bool
   everywhere q = allBelow (P .n) (λ i. allBelow (length (level (suc i))) (λ r. q (suc i) (repOf (level (suc i)) r)))
 
@@ -80,6 +56,10 @@ module _ (P : Presentation) (m : ℕ) (level : ℕ → Level) where
   everyLevel q = allBelow (P .n) (λ i. q (suc i))
 
   -- ---- 21
+
+  -- the degree, and each matrix
+  unfoldable pub matricesValid : ℕ → Rep → Bool
+  matricesValid i D = ltb 0 (D .deg) && leb (D .deg * D .deg) (order P i) && allBelow (P .n) (λ g. valid m (D .deg) (D .matrix g))
 
   -- whole blocks, the same for every generator of the level
   unfoldable pub blocksWhole : ℕ → Rep → Bool
@@ -93,13 +73,24 @@ module _ (P : Presentation) (m : ℕ) (level : ℕ → Level) where
   targetsListed i D =
       allBelow (P .n) (λ j. ltb j i || (ltb (D .ref j 0) (length (level i)) && allBelow (D .deg) (λ c. eqb (D .ref j c) (D .ref j 0))))
 
-  unfoldable pub shapesHold : Bool
-  shapesHold = everywhere (λ i D. matricesValid P m i D && blocksWhole i D && targetsListed i D)
+  unfoldable pub malformed : Bool
+  malformed =
+      not (eqb (length T % lineWords) 0 && complete (P .n) T
+      && everywhere (λ i D. matricesValid i D && blocksWhole i D && targetsListed i D))
 
   -- ---- 22
 
-  unfoldable pub relationsHold : Bool
-  relationsHold = everywhere (λ i D. allBelow i (λ j. powerHolds P m D j && allBelow j (λ k. commutatorHolds P m D k j)))
+  unfoldable pub powerHolds : Rep → ℕ → Bool
+  powerHolds D j = sameMatrix m (power (matrices m (D .deg)) (D .matrix j) (P .p j)) (image m D j (P .u j))
+
+  unfoldable pub commutatorHolds : Rep → ℕ → ℕ → Bool
+  commutatorHolds D k j = sameMatrix m (product m (D .matrix k) (D .matrix j)) (product m (D .matrix j) (conjugate m P D k j))
+
+  unfoldable pub relationsHold : ℕ → Rep → Bool
+  relationsHold i D = allBelow i (λ j. powerHolds D j && allBelow j (λ k. commutatorHolds D k j))
+
+  unfoldable pub relationFails : Bool
+  relationFails = not (everywhere relationsHold)
 
   -- ---- 23
 
@@ -114,8 +105,8 @@ module _ (P : Presentation) (m : ℕ) (level : ℕ → Level) where
   restricts zero D = true
   restricts (suc i) D = all (blockRestricts i D) (cuts (level i) D)
 
-  unfoldable pub restrictionsHold : Bool
-  restrictionsHold = everywhere restricts
+  unfoldable pub restrictionFails : Bool
+  restrictionFails = not (everywhere restricts)
 
   -- ---- 24
 
@@ -126,46 +117,39 @@ module _ (P : Presentation) (m : ℕ) (level : ℕ → Level) where
       eqb (F .deg) (D .deg)
       && allBelow i (λ k. sameMatrix m (product m (D .matrix j) (conjugate m P D k j)) (product m (F .matrix k) (D .matrix j)))
 
-  unfoldable pub intertwinersHold : Bool
-  intertwinersHold = everywhere (λ i D. allBelow (P .n) (λ j. ltb j i || intertwines i D j))
+  unfoldable pub intertwinersHold : ℕ → Rep → Bool
+  intertwinersHold i D = allBelow (P .n) (λ j. ltb j i || intertwines i D j)
+
+  unfoldable pub intertwinerFails : Bool
+  intertwinerFails = not (everywhere intertwinersHold)
 
   -- ---- 25
+
+  -- some normal form maps basis index 0 to k
+  unfoldable pub reaches : ℕ → Rep → ℕ → Bool
+  reaches i D k = any (λ x. eqb (col (image m D i x) 0 .row) k) (allForms P i)
+
+  -- x fixes index k of D and index k′ of D′, with exponents that differ modulo m
+  unfoldable pub tells : (i : ℕ) → Rep → ℕ → Rep → ℕ → NF i → Bool
+  tells i D k D′ k′ x =
+      let y = col (image m D i x) k in
+      let y′ = col (image m D′ i x) k′ in
+      eqb (y .row) k && eqb (y′ .row) k′ && not (eqb (y .exp % m) (y′ .exp % m))
 
   -- every index of representation r is reached, and separated from every other index of the level
   unfoldable pub separates : ℕ → ℕ → Bool
   separates i r =
       let D = repOf (level i) r in
-      allBelow (D .deg) (λ k. reaches P m i D k && allBelow (length (level i)) (λ r′.
-      allBelow (repOf (level i) r′ .deg) (λ k′. (eqb r r′ && eqb k k′) || any (tells P m i D k (repOf (level i) r′) k′) (allForms P i))))
+      allBelow (D .deg) (λ k. reaches i D k && allBelow (length (level i)) (λ r′.
+      allBelow (repOf (level i) r′ .deg) (λ k′. (eqb r r′ && eqb k k′) || any (tells i D k (repOf (level i) r′) k′) (allForms P i))))
 
-  unfoldable pub separated : Bool
-  separated = everyLevel (λ i. allBelow (length (level i)) (separates i))
+  unfoldable pub notSeparated : Bool
+  notSeparated = not (everyLevel (λ i. allBelow (length (level i)) (separates i)))
 
   -- ---- 26
 
   unfoldable pub squares : ℕ → ℕ
   squares i = sum (length (level i)) (λ r. repOf (level i) r .deg * repOf (level i) r .deg)
 
-  unfoldable pub squaresHold : Bool
-  squaresHold = everyLevel (λ i. eqb (squares i) (order P i))
-
--- ---- Of a table
-
-module _ (P : Presentation) (m : ℕ) (T : List ℕ) where
-  unfoldable pub malformed : Bool
-  malformed = not (eqb (length T % lineWords) 0 && complete (P .n) T && shapesHold P m (levelAt (P .n) T))
-
-  unfoldable pub relationFails : Bool
-  relationFails = not (relationsHold P m (levelAt (P .n) T))
-
-  unfoldable pub restrictionFails : Bool
-  restrictionFails = not (restrictionsHold P m (levelAt (P .n) T))
-
-  unfoldable pub intertwinerFails : Bool
-  intertwinerFails = not (intertwinersHold P m (levelAt (P .n) T))
-
-  unfoldable pub notSeparated : Bool
-  notSeparated = not (separated P m (levelAt (P .n) T))
-
   unfoldable pub squaresFail : Bool
-  squaresFail = not (squaresHold P m (levelAt (P .n) T))
+  squaresFail = not (everyLevel (λ i. eqb (squares i) (order P i)))

@@ -1,20 +1,22 @@
 -- From the conditions on a text to the context of the theory, and ACCEPT for what a text says.
 --
+--   prime-small      a prime has at most nine digits
 --   prime-two        every prime is above 1, also beyond n
 --   exponent-below   every exponent of every row is below its prime
 --   context          the context of relations that refusals 11, 12 and 14 let pass
 --   accept           (test P ≡ true) ↔ Consistent P, for P the presentation of such relations
 --   decision         its consistency is decided
+--   groupOf          the levels of a consistent one, as groups
 use mathlib.Core.Path.{_≡_, sym, _∙_, ap, subst}
 use mathlib.Core.Bool.{Bool, true, false, _&&_, _||_, not}
 use mathlib.Core.Logic.{_↔_}
 use mathlib.Core.List.{List, []}
-use Prim.Native.Nat.{ℕ, suc, _%_, _<_}
+use Prim.Native.Nat.{ℕ, suc, _%_, _≤_, _<_}
 use native.Mathlib.Omega.{arith}
 use native.Mathlib.Decide.{decLt}
 use lib.Dec.{eqb, leb, ltb}
 use lib.ListN.{length, getD, List·getD-eq-default}
-use borrow.Author.Tests.{ltb-true, eqb-true, not-false}
+use borrow.Author.Tests.{ltb-true, leb-true, eqb-true, not-false}
 use Rattle.definitions.specs.Lists.{all, allBelow, sum}
 use Rattle.definitions.specs.Text.{largest, small}
 use Rattle.definitions.specs.Presentation.{Row, Relations, pairs, pairNumber, wellFormed, rowOf, presentation, isPrime, someNotPrime, allowed, rowWell, misused}
@@ -23,8 +25,9 @@ use Rattle.numbers.proofs.Bools.{and-left, and-right}
 use Rattle.numbers.proofs.Lists.{allBelow-elim, all-getD, sum-mono}
 use Rattle.group.specs.Context.{Context}
 use Rattle.group.proofs.Rows.{toNF-valid}
-use Rattle.group.proofs.Pairs.{length-pairs, pairNumber-power, PairAt, pair-at}
-use Rattle.group.proofs.Accept.{accepts, decide}
+use Rattle.group.proofs.Pairs.{length-pairs, pairNumber-power, pairNumber-below, PairAt, pair-at}
+use Rattle.group.proofs.Group.{Tested}
+use Rattle.group.proofs.Accept.{accepts, decide, tested}
 
 -- the row of a pair that has none
 abbrev none : Row
@@ -39,13 +42,23 @@ module _ (R : Relations) (formed : wellFormed R ≡ true) where
   length-rows = eqb-true _ _ (and-right (leb 1 (R .n) && leb (R .n) largest) (eqb (length (R .rows)) (length (pairs (R .n))))
       (and-left (leb 1 (R .n) && leb (R .n) largest && eqb (length (R .rows)) (length (pairs (R .n)))) (all wide (R .rows)) formed)) ∙ length-pairs (R .n)
 
-  length-word : (r : ℕ) → r < length (R .rows) → length (getD (R .rows) r none .word) ≡ R .n
+  row-wide : (r : ℕ) → r < length (R .rows) → wide (getD (R .rows) r none) ≡ true
   unfolding wellFormed
+  row-wide r l = all-getD wide (R .rows) none (and-right (leb 1 (R .n) && leb (R .n) largest && eqb (length (R .rows)) (length (pairs (R .n)))) (all wide (R .rows)) formed) r l
+
+  length-word : (r : ℕ) → r < length (R .rows) → length (getD (R .rows) r none .word) ≡ R .n
   length-word r l =
       let row = getD (R .rows) r none in
-      let w = all-getD wide (R .rows) none (and-right (leb 1 (R .n) && leb (R .n) largest && eqb (length (R .rows)) (length (pairs (R .n)))) (all wide (R .rows)) formed) r l in
       eqb-true _ _ (and-left (eqb (length (row .word)) (R .n)) (leb (row .p) largest)
-      (and-left (eqb (length (row .word)) (R .n) && leb (row .p) largest) (small (row .word)) w))
+      (and-left (eqb (length (row .word)) (R .n) && leb (row .p) largest) (small (row .word)) (row-wide r l)))
+
+  pub prime-small : (j : ℕ) → j < R .n → presentation R .p j ≤ largest
+  unfolding presentation rowOf
+  prime-small j l =
+      let row = getD (R .rows) (pairNumber j j) none in
+      leb-true (row .p) largest (and-right (eqb (length (row .word)) (R .n)) (leb (row .p) largest)
+      (and-left (eqb (length (row .word)) (R .n) && leb (row .p) largest) (small (row .word))
+      (row-wide (pairNumber j j) (omega (arith, length-rows, pairNumber-below (R .n) j j (omega arith) l)))))
 
   module _ (primes : someNotPrime R ≡ false) where
     pub prime-two : (j : ℕ) → 1 < presentation R .p j
@@ -110,3 +123,8 @@ module _ (R : Relations) (formed : wellFormed R ≡ true) where
       pub decision : Dec (Consistent (presentation R))
       unfolding context
       decision = decide context
+
+      -- the group of a consistent text
+      unfoldable pub groupOf : Consistent (presentation R) → Tested
+      unfolding context
+      groupOf c = tested context (accept .1 c)

@@ -22,7 +22,7 @@ use Rattle.definitions.specs.Presentation.{Row, pairsOf, pairs, pairNumber, row
 use Rattle.definitions.proofs.Rendering.{rowFormed, valueLine-unique, flatMap-cons, flatMap-nil}
 use Rattle.numbers.proofs.Bools.{and-left, and-right, and-intro}
 use Rattle.numbers.proofs.Lists.{length-upto, sum-ext}
-use Rattle.numbers.proofs.Blocks.{blocks-get, getD-map-upto}
+use Rattle.numbers.proofs.Blocks.{getD-blocks, getD-table}
 use Rattle.group.proofs.Pairs.{pairNumber-power, pairNumber-commutator}
 use Rattle.text.specs.Reading.{Ends, trail}
 use Rattle.text.proofs.Trail.{trail-cons, valueLine-trail, ends-trail}
@@ -40,7 +40,7 @@ pair-within : (n j k : ℕ) → j < n → k < suc j → getD (pairs n) (sum j su
 unfolding pairs
 pair-within n j k l m =
     ap (λ (s : ℕ). getD (blocks n pairsOf) (s + k) (0, 0)) (sym (sum-ext j (λ i. length (pairsOf i)) suc length-pairsOf))
-    ∙ blocks-get (0, 0) n pairsOf j k l (omega (arith, length-pairsOf j))
+    ∙ getD-blocks (0, 0) n pairsOf j k l (omega (arith, length-pairsOf j))
 
 pub pairs-at : (n j i : ℕ) → j < n → i ≤ j → getD (pairs n) (pairNumber j i) (0, 0) ≡ (j, i)
 unfolding pairsOf
@@ -54,7 +54,7 @@ pairs-at n j i l m = pick (ℕ-discrete i j)
         let s : i < j = omega arith in
         ap (λ (k : ℕ). getD (pairs n) k (0, 0)) (pairNumber-commutator j i s)
         ∙ pair-within n j (suc i) l (omega arith)
-        ∙ getD-map-upto j (λ k. (j, k)) i (0, 0) s
+        ∙ getD-table (λ k. (j, k)) j i (0, 0) s
 
 -- ---- One line
 

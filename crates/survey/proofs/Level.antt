@@ -2,29 +2,21 @@
 --
 --   first-zero, first-next     where representations begin
 --   first-room, matrix-room    there is a line at the beginning of a representation, and of a matrix
---   levelIn-length, levelIn-rep      the level, representation by representation
---   target-in, orbit-in        its targets and orbits
+--   orbits                     the orbits of the generator on top
 --   Filled, filled-none, filled-more      an array filled up to an index
 use mathlib.Core.Path.{_≡_, refl, ap, ap₂, sym, _∙_, subst}
 use Prim.Native.Nat.{ℕ, zero, suc, _+_, _*_, _<_, _≤_}
 use native.Mathlib.Numerals.{add-one}
-use native.Mathlib.Nat.{add-zero}
 use native.Mathlib.Omega.{arith}
-use mathlib.Core.List.{List, map}
+use mathlib.Core.List.{List}
 use native.Mathlib.Decide.{ℕ-discrete}
-use lib.ListN.{length, getD, set, length-map}
+use lib.ListN.{length, getD, set}
 use lib.Seq.{getD-set-same, getD-set-other}
-use Rattle.definitions.specs.Lists.{upto, iter}
-use Rattle.definitions.specs.Presentation.{Presentation}
-use Rattle.definitions.specs.Monomial.{Rep, Level, noRep, repOf}
-use Rattle.definitions.specs.Table.{wordAt, repAt}
-use Rattle.definitions.specs.Steps.{target, orbit}
-use Rattle.numbers.proofs.Lists.{length-upto, iter-zero, iter-suc}
-use Rattle.numbers.proofs.Blocks.{getD-map-upto}
+use Rattle.definitions.specs.Table.{wordAt}
+use Rattle.numbers.proofs.Orbits.{Orbits}
 use Rattle.lines.specs.Lines.{Holds}
-use Rattle.lines.proofs.Laws.{iter-next}
 use Rattle.survey.specs.declared.Frame.{Frame}
-use Rattle.survey.specs.Below.{firstOf, degOf, matrixOf, targetOf, repIn, levelIn, Stands}
+use Rattle.survey.specs.Below.{firstOf, degOf, matrixOf, targetOf, Stands}
 
 module _ (f : Frame) (W : List ℕ) where
   pub first-zero : firstOf f W 0 ≡ f .base
@@ -34,18 +26,6 @@ module _ (f : Frame) (W : List ℕ) where
   pub first-next : (r : ℕ) → firstOf f W (r + 1) ≡ firstOf f W r + f .gens * degOf f W r
   unfolding firstOf
   first-next r = ap (firstOf f W) (add-one r)
-
-  pub levelIn-length : length (levelIn f W) ≡ f .reps
-  unfolding levelIn
-  levelIn-length = length-map (upto (f .reps)) (repIn f W) ∙ length-upto (f .reps)
-
-  pub levelIn-rep : (r : ℕ) → r < f .reps → repOf (levelIn f W) r ≡ repIn f W r
-  unfolding levelIn repOf
-  levelIn-rep r l = getD-map-upto (f .reps) (repIn f W) r noRep l
-
-  pub target-in : (P : Presentation) (j r : ℕ) → r < f .reps → target P (f .m) (f .top) (levelIn f W) j r ≡ targetOf f W j r
-  unfolding repAt
-  target-in P j r l = ap (λ (D : Rep). D .ref j 0) (levelIn-rep r l) ∙ ap (λ z. wordAt W z 4) (add-zero (matrixOf f W j r))
 
   module _ (S : Stands f W) where
     pub matrix-room : (g r : ℕ) → g < f .gens → r < f .reps → 8 * matrixOf f W g r + 8 ≤ length W
@@ -57,20 +37,17 @@ module _ (f : Frame) (W : List ℕ) where
     pub first-below : (r : ℕ) → r < f .reps → firstOf f W r + f .gens * degOf f W r ≤ f .end
     first-below r b = subst (λ z. z ≤ f .end) (ap (firstOf f W) (sym (add-one r)) ∙ first-next r) (S .inside r b)
 
-    -- the orbit of the generator on top, within the level
-    pub orbit-in : (P : Presentation) (r k : ℕ) → r < f .reps
-        → (orbit P (f .m) (f .top) (levelIn f W) r k ≡ iter (targetOf f W (f .top)) k r) × (iter (targetOf f W (f .top)) k r < f .reps)
-    unfolding orbit
-    orbit-in P r zero l = (iter-zero _ r ∙ sym (iter-zero _ r), subst (λ z. z < f .reps) (sym (iter-zero _ r)) l)
-    orbit-in P r (suc k) l =
-        let q = orbit-in P r k l in
-        let τ = targetOf f W (f .top) in
-        let τ′ = target P (f .m) (f .top) (levelIn f W) (f .top) in
-        let e : iter τ (suc k) r ≡ τ (iter τ k r) = ap (λ z. iter τ z r) (sym (add-one k)) ∙ iter-next τ k r in
-        let e′ : iter τ′ (suc k) r ≡ τ′ (iter τ′ k r) = ap (λ z. iter τ′ z r) (sym (add-one k)) ∙ iter-next τ′ k r in (
-          e′ ∙ ap τ′ (q .0) ∙ target-in P (f .top) (iter τ k r) (q .1) ∙ sym e,
-          subst (λ z. z < f .reps) (sym e) (S .target (iter τ k r) (q .1) (f .top) (omega arith) (S .gens .0) .0),
-        )
+    -- the orbits of the generator on top
+    unfoldable pub orbits : Orbits
+    orbits = record {
+      N = f .reps;
+      p = f .p;
+      τ = targetOf f W (f .top);
+      two = S .prime .0;
+      units = S .units;
+      inside = λ r l. S .target r l (f .top) (omega arith) (S .gens .0) .0;
+      home = S .cycle;
+    }
 
 -- ---- Arrays
 

@@ -4,7 +4,7 @@ ghost use mathlib.Core.Path.{_≡_};
 ghost use Prim.Native.Nat.{ℕ, _+_, _*_, _%_, _≤_, _<_};
 ghost use lib.ListN.{length, getD, set};
 ghost use Rattle.definitions.specs.Presentation.{Presentation};
-ghost use Rattle.survey.specs.Below.{firstOf, degOf, matrixOf, targetOf, Stands, Lines};
+ghost use Rattle.survey.specs.Below.{firstOf, degOf, matrixOf, targetOf, leaderIn, positionIn, Stands, Array, Lines, Marked, MarkedTo};
 
 // What a level is made with: the modulus, the generator on top (from 0), how many generators there are, the prime of the
 // one on top, the first line of the level below, how many representations that has, and the line behind it.
@@ -81,5 +81,77 @@ pub fn find_lines(low: &[u32], first: &mut [u32], f: Frame)
     for r in 0..reps {
         store(first, r, s as u32);
         s = next_line(low, f, r, s);
+    }
+}
+
+// Marks representation q as element k of the orbit of r, unless it is marked; `reps` stands for unmarked.
+pub fn mark(leaders: &mut [u32], places: &mut [u32], reps: u32, r: u32, q: u32, k: u32)
+    requires { ⌜ (q < length (now leaders)) × (q < length (now places)) ⌝ }
+    ensures { λ _. ⌜ Marked (now (leaders .entry)) (now (places .entry)) reps r q k (now (leaders .exit)) (now (places .exit)) ⌝ }
+{
+    if element(leaders, q) == reps {
+        store(leaders, q, r);
+        store(places, q, k);
+    }
+}
+
+// Marks the orbit of r, none of which is marked.
+pub fn mark_orbit(
+    low: &[u32],
+    first: &[u32],
+    leaders: &mut [u32],
+    places: &mut [u32],
+    f: Frame,
+    r: u32,
+)
+    requires { ⌜ Stands f (now low) × Lines f (now low) (now first) × (r < f .reps) × (leaderIn f (now low) r ≡ r) ⌝ }
+    requires { ⌜ MarkedTo f (now low) (now leaders) (now places) r 0 ⌝ }
+    ensures { λ _. ⌜ MarkedTo f (now (low .entry)) (now (leaders .exit)) (now (places .exit)) r (f .p) × (length (now (leaders .exit)) ≡ length (now (leaders .entry))) × (length (now (places .exit)) ≡ length (now (places .entry))) ⌝ }
+{
+    let mut q = r;
+    let p = f.p;
+    for k in 0..p {
+        mark(leaders, places, f.reps, r, q, k);
+        q = target(low, first, f, f.top, q);
+    }
+}
+
+// Marks the orbit of r if r begins one.
+pub fn mark_from(
+    low: &[u32],
+    first: &[u32],
+    leaders: &mut [u32],
+    places: &mut [u32],
+    f: Frame,
+    r: u32,
+)
+    requires { ⌜ Stands f (now low) × Lines f (now low) (now first) × (r < f .reps) ⌝ }
+    requires { ⌜ MarkedTo f (now low) (now leaders) (now places) r 0 ⌝ }
+    ensures { λ _. ⌜ MarkedTo f (now (low .entry)) (now (leaders .exit)) (now (places .exit)) (r + 1) 0 × (length (now (leaders .exit)) ≡ length (now (leaders .entry))) × (length (now (places .exit)) ≡ length (now (places .entry))) ⌝ }
+{
+    if element(leaders, r) == f.reps {
+        mark_orbit(low, first, leaders, places, f, r);
+    }
+}
+
+// Fills an array with x below n.
+pub fn clear(a: &mut [u32], n: u32, x: u32)
+    requires { ⌜ n ≤ length (now a) ⌝ }
+    ensures { λ _. ⌜ (length (now (a .exit)) ≡ length (now (a .entry))) × ((k : ℕ) → k < n → getD (now (a .exit)) k 0 ≡ x) ⌝ }
+{
+    for k in 0..n {
+        store(a, k, x);
+    }
+}
+
+// Fills the arrays of leaders and positions.
+pub fn mark_orbits(low: &[u32], first: &[u32], leaders: &mut [u32], places: &mut [u32], f: Frame)
+    requires { ⌜ Stands f (now low) × Lines f (now low) (now first) × (f .reps ≤ length (now leaders)) × (f .reps ≤ length (now places)) ⌝ }
+    ensures { λ _. ⌜ Array f (now (low .entry)) (now (leaders .exit)) (leaderIn f (now (low .entry))) × Array f (now (low .entry)) (now (places .exit)) (positionIn f (now (low .entry))) ⌝ }
+{
+    let reps = f.reps;
+    clear(leaders, reps, reps);
+    for r in 0..reps {
+        mark_from(low, first, leaders, places, f, r);
     }
 }

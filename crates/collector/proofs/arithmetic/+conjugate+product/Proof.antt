@@ -3,13 +3,15 @@
 -- are twice the level, and one more for conjugation. The loop of product turns the lower part of x, that of conjugation
 -- takes a power of the image of the generator on top.
 use borrow.Author.Needs.{needs}
-use mathlib.Core.Path.{_≡_, sym, _∙_, subst}
+use mathlib.Core.Path.{refl, _≡_, sym, _∙_, subst}
+use mathlib.Core.List.{[]}
 use Prim.Native.Nat.{ℕ, suc, _+_, _-_, _≤_, _<_}
 use native.Mathlib.Omega.{arith}
 use lib.ListN.{getD, length}
 use Rattle.collector.specs.Rows.{Small, Power}
-use Rattle.collector.proofs.Steps.{small-below, ready-below, small-generator, Turning, turning-start, turning-more, product-low-at, product-high-at, product-zero, powering-start, powering-more, conjugate-zero, conjugate-stays-at, conjugate-moves-at, lower-small}
+use Rattle.collector.proofs.Steps.{small-below, ready-below, small-generator, Turning, turning-start, turning-more, product-low-at, product-high-at, product-zero, product-left, product-right, powering-start, powering-more, conjugate-zero, conjugate-stays-at, conjugate-moves-at, lower-small}
 use denote.Ref.{now}
+use Rattle.definitions.specs.Presentation.{pairNumber}
 use borrow.Fn.Kinds.{In}
 use borrow.Fn.PlainCycle.{Measures, is, falls, and}
 use Rattle.collector.proofs.arithmetic.conjugate.Reads as conjugate
@@ -18,9 +20,10 @@ use Rattle.collector.proofs.arithmetic.+conjugate+product.Lts-conjugate
 use Rattle.collector.proofs.arithmetic.product.Reads as product
 use Rattle.collector.proofs.arithmetic.product.Kinds as product-kinds
 use Rattle.collector.proofs.arithmetic.+conjugate+product.Lts-product as product-lts
-use Rattle.collector.proofs.rows.generator.Reads as generator-reads
-use Rattle.collector.proofs.arithmetic.stays.Reads as stays-reads
 use Rattle.collector.proofs.arithmetic.remaining.Reads as remaining-reads
+use Rattle.collector.proofs.arithmetic.stays.Reads as stays-reads
+use Rattle.collector.proofs.rows.empty.Reads as empty-reads
+use Rattle.collector.proofs.rows.generator.Reads as generator-reads
 use Rattle.collector.proofs.rows.word.Reads as word-reads
 use Rattle.collector.proofs.arithmetic.+conjugate+product.{statement}
 use Rattle.collector.proofs.arithmetic.+conjugate+product.Tie.{close}
@@ -46,10 +49,10 @@ product-below t = and 2 product-kinds.ps (falls 2 product-kinds.ps _<_ μ-produc
 
 -- what the calls of each ask and tell
 abbrev conjugate-claims : ℕ → conjugate-lts.Claims
-conjugate-claims t = (conjugate-below t, conjugate.Post, word-reads.Asked, word-reads.Learnt, stays-reads.Asked, stays-reads.Learnt, generator-reads.Asked, generator-reads.Learnt, product-below t, product.Post)
+conjugate-claims t = (conjugate-below t, conjugate.Post, stays-reads.Asked, stays-reads.Learnt, generator-reads.Asked, generator-reads.Learnt, word-reads.Asked, word-reads.Learnt, product-below t, product.Post)
 
 abbrev product-claims : ℕ → product-lts.Claims
-product-claims t = (conjugate-below t, conjugate.Post, remaining-reads.Asked, remaining-reads.Learnt, product-below t, product.Post, word-reads.Asked, word-reads.Learnt)
+product-claims t = (empty-reads.Asked, empty-reads.Learnt, conjugate-below t, conjugate.Post, remaining-reads.Asked, remaining-reads.Learnt, product-below t, product.Post, word-reads.Asked, word-reads.Learnt)
 
 abbrev conjugate-Inv-loop : conjugate-lts.InvT-loop
 conjugate-Inv-loop primes words k j l e z h r₀ n₀ r n = (n ≤ e) × Power k primes words h r n
@@ -80,15 +83,10 @@ conjugate-conjugate-requires t c κs =
     let x = z .args .t5 in
     (omega (arith, z .pre .0), (z .pre .1 .0, omega (arith, z .pre .1 .1), small-below (k - 1) k ps x (omega arith) (z .pre .1 .2)))
 
-conjugate-word-requires : (t : ℕ) → conjugate-lts.Need-word-requires (conjugate-claims t) (conjugate-at t) conjugate.Post conjugate-Inv-loop conjugate-μ-loop
-conjugate-word-requires t c κs =
-    let z = c .before .before in
-    (omega (arith, z .pre .1 .1), omega (arith, z .pre .1 .0 .few))
-
 conjugate-stays-requires : (t : ℕ) → conjugate-lts.Need-stays-requires (conjugate-claims t) (conjugate-at t) conjugate.Post conjugate-Inv-loop conjugate-μ-loop
 conjugate-stays-requires t c κs =
-    let z = c .before .before .before in
-    omega (arith, z .pre .1 .0 .few, z .pre .1 .1)
+    let z = c .before .before in
+    (omega (arith, z .pre .1 .1), omega (arith, z .pre .1 .0 .few))
 
 conjugate-mul-z : (t : ℕ) → conjugate-lts.Need-mul-z (conjugate-claims t) (conjugate-at t) conjugate.Post conjugate-Inv-loop conjugate-μ-loop
 conjugate-mul-z t c = search needs
@@ -98,15 +96,14 @@ conjugate-array-write-z t c = search needs
 
 conjugate-returns-2 : (t : ℕ) → conjugate-lts.Need-returns-2 (conjugate-claims t) (conjugate-at t) conjugate.Post conjugate-Inv-loop conjugate-μ-loop
 conjugate-returns-2 t c =
-    let z = c .before .before .before .before .before in
+    let z = c .before .before .before .before in
     let ps = now (z .args .primes) in
     let ws = now (z .args .words) in
     let k = z .args .k in
     let x = z .args .t5 in
-    let q = c .before .before .before .conjugate in
-    let w = c .before .before .word in
+    let q = c .before .before .conjugate in
     let long : length (q .result) ≡ 12 = search needs in
-    conjugate-stays-at k (z .args .j) ps ws x (q .result) (w .result) (omega arith) (z .pre .1 .1) (omega (arith, z .pre .1 .1, z .pre .1 .0 .few)) (z .pre .1 .2) (q .ensures) (w .ensures)
+    conjugate-stays-at k (z .args .j) ps ws x (q .result) (getD ws (pairNumber (z .args .j) (k - 1)) []) (omega arith) (z .pre .1 .1) (omega (arith, z .pre .1 .1, z .pre .1 .0 .few)) (z .pre .1 .2) (q .ensures) refl
     (sym (c .before .stays .ensures) ∙ c .if2 .taken)
 
 conjugate-mul-z-2 : (t : ℕ) → conjugate-lts.Need-mul-z-2 (conjugate-claims t) (conjugate-at t) conjugate.Post conjugate-Inv-loop conjugate-μ-loop
@@ -117,8 +114,13 @@ conjugate-array-write-z-2 t c = search needs
 
 conjugate-generator-requires : (t : ℕ) → conjugate-lts.Need-generator-requires (conjugate-claims t) (conjugate-at t) conjugate.Post conjugate-Inv-loop conjugate-μ-loop
 conjugate-generator-requires t c κs =
-    let z = c .before .before .before .before .before in
+    let z = c .before .before .before .before in
     omega (arith, z .pre .1 .0 .few, z .pre .1 .1)
+
+conjugate-word-requires : (t : ℕ) → conjugate-lts.Need-word-requires (conjugate-claims t) (conjugate-at t) conjugate.Post conjugate-Inv-loop conjugate-μ-loop
+conjugate-word-requires t c κs =
+    let z = c .before .before .before .before .before in
+    (omega (arith, z .pre .1 .1), omega (arith, z .pre .1 .0 .few))
 
 conjugate-product-requires : (t : ℕ) → conjugate-lts.Need-product-requires (conjugate-claims t) (conjugate-at t) conjugate.Post conjugate-Inv-loop conjugate-μ-loop
 conjugate-product-requires t c κs =
@@ -128,11 +130,11 @@ conjugate-product-requires t c κs =
     let k = z .args .k in
     let x = z .args .t5 in
     let r = ready-below k (suc (z .args .j)) ps ws (omega (arith, z .pre .1 .1)) (z .pre .1 .0) in
-    let w = c .before .before .before .word in (
+    let w = c .word in (
       omega (arith, z .pre .0),
       (
         r,
-        small-generator (k - 1) k ps ws (c .generator .result) r (c .generator .ensures),
+        small-generator (k - 1) k ps ws (c .before .generator .result) r (c .before .generator .ensures),
         subst (Small k ps) (sym (w .ensures)) (small-below k (suc (z .args .j)) ps _ (omega (arith, z .pre .1 .1)) (z .pre .1 .0 .word (z .args .j) (k - 1) (omega (arith, z .pre .1 .1)) (omega arith))),
       ),
     )
@@ -187,7 +189,7 @@ conjugate-product-requires-3 t c κs =
     let x = z .args .t5 in
     let r = ready-below k (suc (z .args .j)) ps ws (omega (arith, z .pre .1 .1)) (z .pre .1 .0) in
     let q = c .before .before .before .before .before .before .before .conjugate in
-    let w = c .before .before .before .before .before .before .word in
+    let w = c .before .before .before .word in
     let long : length (q .result) ≡ 12 = search needs in (
       omega (arith, z .pre .0),
       (
@@ -205,12 +207,12 @@ conjugate-returns-3 t c =
     let k = z .args .k in
     let x = z .args .t5 in
     let q = c .before .before .before .before .before .before .before .before .conjugate in
-    let w = c .before .before .before .before .before .before .before .word in
+    let w = c .before .before .before .before .word in
     let long : length (q .result) ≡ 12 = search needs in
     let l = c .before .before .loop in
     let e : l .n ≡ getD x (k - 1) 0 = omega (arith, l .inv .0) in
     conjugate-moves-at k (z .args .j) ps ws x (q .result) (w .result) (omega (arith, c .before .before .before .before .before .before .before .before .before .if1 .left)) (z .pre .1 .1) (omega (arith, z .pre .1 .1, z .pre .1 .0 .few)) (z .pre .1 .2) (q .ensures) (w .ensures)
-    (c .before .before .before .before .generator .result) (c .before .before .before .product .result) (l .r) (c .product3 .result) (c .before .before .before .before .generator .ensures) (c .before .before .before .product .ensures)
+    (c .before .before .before .before .before .generator .result) (c .before .before .before .product .result) (l .r) (c .product3 .result) (c .before .before .before .before .before .generator .ensures) (c .before .before .before .product .ensures)
     (subst (Power k ps ws (c .before .before .before .product .result) (l .r)) e (l .inv .1)) (c .product3 .ensures)
 
 abbrev product-Inv-loop : product-lts.InvT-loop
@@ -224,6 +226,26 @@ product-returns t c =
     let z = c .before in
     product-zero (z .args .i) (now (z .args .primes)) (now (z .args .words)) (z .args .t4) (z .args .t5) (c .if1 .taken)
 
+product-empty-requires : (t : ℕ) → product-lts.Need-empty-requires (product-claims t) (product-at t) product.Post product-Inv-loop product-μ-loop
+product-empty-requires t c κs =
+    let z = c .before in
+    z .pre .1 .0 .few
+
+product-returns-2 : (t : ℕ) → product-lts.Need-returns-2 (product-claims t) (product-at t) product.Post product-Inv-loop product-μ-loop
+product-returns-2 t c =
+    let z = c .before .before .before in
+    product-left (z .args .i) (now (z .args .primes)) (now (z .args .words)) (z .args .t4) (z .args .t5) (sym (c .before .empty .ensures) ∙ c .if2 .taken) (z .pre .1 .2)
+
+product-empty-requires-2 : (t : ℕ) → product-lts.Need-empty-requires-2 (product-claims t) (product-at t) product.Post product-Inv-loop product-μ-loop
+product-empty-requires-2 t c κs =
+    let z = c .before .before .before in
+    z .pre .1 .0 .few
+
+product-returns-3 : (t : ℕ) → product-lts.Need-returns-3 (product-claims t) (product-at t) product.Post product-Inv-loop product-μ-loop
+product-returns-3 t c =
+    let z = c .before .before .before .before .before in
+    product-right (z .args .i) (now (z .args .primes)) (now (z .args .words)) (z .args .t4) (z .args .t5) (sym (c .before .empty2 .ensures) ∙ c .if3 .taken) (z .pre .1 .1)
+
 product-sub-k : (t : ℕ) → product-lts.Need-sub-k (product-claims t) (product-at t) product.Post product-Inv-loop product-μ-loop
 product-sub-k t c = search needs
 
@@ -235,7 +257,7 @@ product-array-read-b t c = search needs
 
 product-loop-holds : (t : ℕ) → product-lts.Need-loop-holds (product-claims t) (product-at t) product.Post product-Inv-loop product-μ-loop
 product-loop-holds t c =
-    let z = c .before in
+    let z = c .before .before .before .before .before in
     let ps = now (z .args .primes) in
     let ws = now (z .args .words) in
     let i = z .args .i in
@@ -245,7 +267,7 @@ product-loop-holds t c =
 
 product-conjugate-requires : (t : ℕ) → product-lts.Need-conjugate-requires (product-claims t) (product-at t) product.Post product-Inv-loop product-μ-loop
 product-conjugate-requires t c κs =
-    let z = c .before .before .before in
+    let z = c .before .before .before .before .before .before .before in
     let ps = now (z .args .primes) in
     let ws = now (z .args .words) in
     let i = z .args .i in
@@ -255,7 +277,7 @@ product-conjugate-requires t c κs =
 
 product-add-n : (t : ℕ) → product-lts.Need-add-n (product-claims t) (product-at t) product.Post product-Inv-loop product-μ-loop
 product-add-n t c =
-    let z = c .before .before .before .before in
+    let z = c .before .before .before .before .before .before .before .before in
     let i = z .args .i in
     omega (arith, c .before .before .loop .inv .total, z .pre .1 .2 .below (i - 1) (omega arith), z .pre .1 .0 .bounded (i - 1) (omega arith))
 
@@ -264,7 +286,7 @@ product-sub-remaining t c = search needs
 
 product-remaining-requires : (t : ℕ) → product-lts.Need-remaining-requires (product-claims t) (product-at t) product.Post product-Inv-loop product-μ-loop
 product-remaining-requires t c κs =
-    let z = c .before .before .before .before in
+    let z = c .before .before .before .before .before .before .before .before in
     (omega (arith, z .pre .1 .0 .few), omega arith)
 
 product-loop-less : (t : ℕ) → product-lts.Need-loop-less (product-claims t) (product-at t) product.Post product-Inv-loop product-μ-loop
@@ -272,7 +294,7 @@ product-loop-less t c = search needs
 
 product-loop-again : (t : ℕ) → product-lts.Need-loop-again (product-claims t) (product-at t) product.Post product-Inv-loop product-μ-loop
 product-loop-again t c =
-    let z = c .before .before .before .before .before in
+    let z = c .before .before .before .before .before .before .before .before .before in
     let ps = now (z .args .primes) in
     let ws = now (z .args .words) in
     let i = z .args .i in
@@ -283,7 +305,7 @@ product-loop-again t c =
 
 product-product-requires : (t : ℕ) → product-lts.Need-product-requires (product-claims t) (product-at t) product.Post product-Inv-loop product-μ-loop
 product-product-requires t c κs =
-    let z = c .before .before .before in
+    let z = c .before .before .before .before .before .before .before in
     let ps = now (z .args .primes) in
     let ws = now (z .args .words) in
     let i = z .args .i in
@@ -299,7 +321,7 @@ product-array-read-s t c = search needs
 
 product-add-s : (t : ℕ) → product-lts.Need-add-s (product-claims t) (product-at t) product.Post product-Inv-loop product-μ-loop
 product-add-s t c =
-    let z = c .before .before .before .before in
+    let z = c .before .before .before .before .before .before .before .before in
     let i = z .args .i in
     omega (arith, z .pre .1 .1 .below (i - 1) (omega arith), z .pre .1 .2 .below (i - 1) (omega arith), z .pre .1 .0 .bounded (i - 1) (omega arith))
 
@@ -315,9 +337,9 @@ product-mul-z t c = search needs
 product-array-write-z : (t : ℕ) → product-lts.Need-array-write-z (product-claims t) (product-at t) product.Post product-Inv-loop product-μ-loop
 product-array-write-z t c = search needs
 
-product-returns-2 : (t : ℕ) → product-lts.Need-returns-2 (product-claims t) (product-at t) product.Post product-Inv-loop product-μ-loop
-product-returns-2 t c =
-    let z = c .before .before .before .before .before .before in
+product-returns-4 : (t : ℕ) → product-lts.Need-returns-4 (product-claims t) (product-at t) product.Post product-Inv-loop product-μ-loop
+product-returns-4 t c =
+    let z = c .before .before .before .before .before .before .before .before .before .before in
     let ps = now (z .args .primes) in
     let ws = now (z .args .words) in
     let i = z .args .i in
@@ -331,12 +353,12 @@ product-returns-2 t c =
 
 product-word-requires : (t : ℕ) → product-lts.Need-word-requires (product-claims t) (product-at t) product.Post product-Inv-loop product-μ-loop
 product-word-requires t c κs =
-    let z = c .before .before .before .before .before .before in
+    let z = c .before .before .before .before .before .before .before .before .before .before in
     (omega arith, omega (arith, z .pre .1 .0 .few))
 
 product-product-requires-2 : (t : ℕ) → product-lts.Need-product-requires-2 (product-claims t) (product-at t) product.Post product-Inv-loop product-μ-loop
 product-product-requires-2 t c κs =
-    let z = c .before .before .before .before .before .before .before in
+    let z = c .before .before .before .before .before .before .before .before .before .before .before in
     let ps = now (z .args .primes) in
     let ws = now (z .args .words) in
     let i = z .args .i in
@@ -356,9 +378,9 @@ product-mul-v t c = search needs
 product-array-write-v : (t : ℕ) → product-lts.Need-array-write-v (product-claims t) (product-at t) product.Post product-Inv-loop product-μ-loop
 product-array-write-v t c = search needs
 
-product-returns-3 : (t : ℕ) → product-lts.Need-returns-3 (product-claims t) (product-at t) product.Post product-Inv-loop product-μ-loop
-product-returns-3 t c =
-    let z = c .before .before .before .before .before .before .before .before in
+product-returns-5 : (t : ℕ) → product-lts.Need-returns-5 (product-claims t) (product-at t) product.Post product-Inv-loop product-μ-loop
+product-returns-5 t c =
+    let z = c .before .before .before .before .before .before .before .before .before .before .before .before in
     let ps = now (z .args .primes) in
     let ws = now (z .args .words) in
     let i = z .args .i in
@@ -369,7 +391,7 @@ product-returns-3 t c =
     let over : l .left ≡ 0 = omega arith in
     let v = c .product2 in
     let long : length (v .result) ≡ 12 = search needs in
-    product-high-at i ps ws x y (l .c) (q .result) (l .n) (l .left) (omega arith) over (l .inv) (q .ensures) (c .before .word .result) (v .result) (c .before .word .ensures) (v .ensures)
+    product-high-at i ps ws x y (l .c) (q .result) (l .n) (l .left) (omega (arith, c .before .before .before .before .before .before .before .before .before .before .before .if1 .left)) over (l .inv) (q .ensures) (c .before .word .result) (v .result) (c .before .word .ensures) (v .ensures)
     (omega (arith, z .pre .1 .0 .few)) (search needs) (z .pre .1 .1) (z .pre .1 .2)
 
 pub +conjugate+product-spec : {M : Type 1} → statement M
@@ -383,7 +405,6 @@ pub +conjugate+product-spec : {M : Type 1} → statement M
     (conjugate-mul-e t)
     (conjugate-array-read-e t)
     (conjugate-conjugate-requires t)
-    (conjugate-word-requires t)
     (conjugate-stays-requires t)
     (conjugate-mul-z t)
     (conjugate-array-write-z t)
@@ -391,6 +412,7 @@ pub +conjugate+product-spec : {M : Type 1} → statement M
     (conjugate-mul-z-2 t)
     (conjugate-array-write-z-2 t)
     (conjugate-generator-requires t)
+    (conjugate-word-requires t)
     (conjugate-product-requires t)
     (conjugate-loop-holds t)
     (conjugate-product-requires-2 t)
@@ -400,6 +422,8 @@ pub +conjugate+product-spec : {M : Type 1} → statement M
     (conjugate-product-requires-3 t)
     (conjugate-returns-3 t))
     λ t. product-lts.spec (
+      empty-reads.Asked,
+      empty-reads.Learnt,
       conjugate-below t,
       conjugate.Post,
       remaining-reads.Asked,
@@ -414,6 +438,10 @@ pub +conjugate+product-spec : {M : Type 1} → statement M
     product-Inv-loop
     product-μ-loop
     (product-returns t)
+    (product-empty-requires t)
+    (product-returns-2 t)
+    (product-empty-requires-2 t)
+    (product-returns-3 t)
     (product-sub-k t)
     (product-mul-b t)
     (product-array-read-b t)
@@ -432,9 +460,9 @@ pub +conjugate+product-spec : {M : Type 1} → statement M
     (product-element-copy-out-p t)
     (product-mul-z t)
     (product-array-write-z t)
-    (product-returns-2 t)
+    (product-returns-4 t)
     (product-word-requires t)
     (product-product-requires-2 t)
     (product-mul-v t)
     (product-array-write-v t)
-    (product-returns-3 t)
+    (product-returns-5 t)

@@ -1,0 +1,286 @@
+-- What the checker judges of one level that stands: valid matrices and listed targets (21), relations (22),
+-- intertwiners (24), separation (25) and squares (26).
+--
+--   any-forms                 some normal form passes a test, if a valid one does
+--   valid-holds, listed-holds, relations-hold, intertwiners-hold, separates-hold, squares-hold
+use mathlib.Core.Path.{_≡_, refl, sym, _∙_, ap, ap₂, subst}
+use mathlib.Core.Bool.{Bool, true, false, _&&_, _||_, not, cond, false≢true}
+use mathlib.Core.List.{List, [], _∷_, _++_, map}
+use Prim.Native.Nat.{ℕ, zero, suc, _+_, _*_, _-_, _%_, _≤_, _<_}
+use native.Mathlib.Nat.{mod-eq-of-lt}
+use native.Mathlib.Omega.{arith}
+use native.Mathlib.Decide.{decLt, ℕ-discrete}
+use lib.Dec.{eqb, ltb, leb}
+use lib.ListN.{length}
+use borrow.Author.Tests.{eq-eqb, ne-eqb, lt-ltb, le-leb}
+use Rattle.definitions.specs.declared.Entry.{Entry}
+use Rattle.definitions.specs.Lists.{blocks, sum, iter, allBelow, any}
+use Rattle.definitions.specs.Presentation.{NF, Presentation, Valid, order, Mul, power, value}
+use Rattle.definitions.specs.Monomial.{Matrix, entry, col, product, matrices, valid, sameMatrix, Rep, Level, repOf, image, conjugate}
+use Rattle.definitions.specs.Table.{levelAt}
+use Rattle.definitions.specs.Judgement
+use Rattle.numbers.proofs.Bools.{and-intro}
+use Rattle.numbers.proofs.Lists.{allBelow-intro, iter-suc}
+use Rattle.numbers.proofs.Sums.{term-le}
+use Rattle.group.specs.Context.{Context, Nf}
+use Rattle.group.specs.Models.{Laws, Hom}
+use Rattle.group.proofs.Values.{power-hom, value-hom}
+use Rattle.group.proofs.Level.{level, conjNf, genNf}
+use Rattle.group.proofs.Group.{Test, Tested, group}
+use Rattle.group.proofs.Order.{order-positive, inverse, inverse-right, inverse-left}
+use Rattle.group.proofs.Conjugation.{conj-period}
+use Rattle.monomial.specs.Exponents.{Residue}
+use Rattle.monomial.specs.Maps.{Map, maps, Inverse}
+use Rattle.monomial.specs.Families.{Separated, Family}
+use Rattle.monomial.specs.Frames.{Frame, Complete, Shows}
+use Rattle.monomial.proofs.Maps.{at-mul, at-one, column as at-column}
+use Rattle.monomial.proofs.Residues.{residues, Residue-path}
+use Rattle.monomial.proofs.Frames.{shows-mul, shows-power, shows-value, shows-map, same-shown, shows-valid}
+use Rattle.monomial.proofs.Schur.{intertwiner-inverse, power-commutes, commuting-fixes, rep-power}
+use Rattle.clifford.specs.Stands.{frame, Stands}
+
+-- ---- Tests of some normal form
+
+or-left : (a b : Bool) → a ≡ true → a || b ≡ true
+or-left true b h = refl
+or-left false b h = absurd (false≢true h)
+
+or-right : (a b : Bool) → b ≡ true → a || b ≡ true
+or-right true b h = refl
+or-right false b h = h
+
+any-left : {A : Type 0} (q : A → Bool) (xs ys : List A) → any q xs ≡ true → any q (xs ++ ys) ≡ true
+unfolding any
+any-left q [] ys h = absurd (false≢true h)
+any-left q (x ∷ xs) ys h = go (q x) (λ k. any-left q xs ys k) h
+  where
+    go : (b : Bool) → (any q xs ≡ true → any q (xs ++ ys) ≡ true) → b || any q xs ≡ true → b || any q (xs ++ ys) ≡ true
+    go true r k = refl
+    go false r k = r k
+
+any-right : {A : Type 0} (q : A → Bool) (xs ys : List A) → any q ys ≡ true → any q (xs ++ ys) ≡ true
+unfolding any
+any-right q [] ys h = h
+any-right q (x ∷ xs) ys h = or-right (q x) _ (any-right q xs ys h)
+
+any-map : {A B : Type 0} (f : A → B) (q : B → Bool) (xs : List A) → any (λ x. q (f x)) xs ≡ true → any q (map f xs) ≡ true
+unfolding any
+any-map f q [] h = h
+any-map f q (x ∷ xs) h = go (q (f x)) (any-map f q xs) h
+  where
+    go : (b : Bool) → (any (λ x. q (f x)) xs ≡ true → any q (map f xs) ≡ true) → b || any (λ x. q (f x)) xs ≡ true → b || any q (map f xs) ≡ true
+    go true r k = refl
+    go false r k = r k
+
+any-blocks : {A : Type 0} (q : A → Bool) (n : ℕ) (f : ℕ → List A) (k : ℕ) → k < n → any q (f k) ≡ true → any q (blocks n f) ≡ true
+unfolding blocks
+any-blocks q zero f k l h = absurd (omega arith)
+any-blocks q (suc n) f k l h = go (decLt k n) (λ a. any-blocks q n f k a h)
+  where
+    go : Dec (k < n) → (k < n → any q (blocks n f) ≡ true) → any q (blocks n f ++ f n) ≡ true
+    go (yes a) r = any-left q (blocks n f) (f n) (r a)
+    go (no a) r = let e : k ≡ n = omega arith in any-right q (blocks n f) (f n) (subst (λ s. any q (f s) ≡ true) e h)
+
+pub any-forms : (P : Presentation) (i : ℕ) (q : NF i → Bool) (x : NF i) → Valid P i x → q x ≡ true → any q (Judgement.allForms P i) ≡ true
+unfolding Judgement.allForms any
+any-forms P zero q x v h = or-left (q tt) false h
+any-forms P (suc i) q x v h =
+    any-blocks q (P .p i) (λ e. map (λ (x : NF i). (e, x)) (Judgement.allForms P i)) (x .0) (v .0)
+    (any-map (λ (y : NF i). (x .0, y)) q (Judgement.allForms P i) (any-forms P i (λ y. q (x .0, y)) (x .1) (v .1) h))
+
+-- ---- A level that stands
+
+module _ (C : Context) (tests : (k : ℕ) → k < C .P .n → Test C k) (m : ℕ) (pos : 0 < m) (table : List ℕ) (i : ℕ) (l : i ≤ C .P .n) {Ω : Type 0}
+    (F : Family (residues m pos) Ω (level C i) (conjNf C i) i (C .P .n)) (St : Stands C (C .P .n) m pos i (levelAt (C .P .n) table i) F) where
+  open Stands St using (column, column-below, complete)
+
+  abbrev P : Presentation
+  P = C .P
+
+  abbrev n : ℕ
+  n = C .P .n
+
+  abbrev L : Level
+  L = levelAt n table i
+
+  abbrev T : Tested
+  T = record { context = C; n = C .P .n; tests = tests }
+
+  abbrev Φ : Frame Ω
+  Φ = frame L (F .rep) column column-below
+
+  infixl 70 _*′_
+  open Mul (maps (residues m pos) Ω) using (mul as _*′_)
+
+  abbrev D : ℕ → Map (residues m pos) Ω
+  D k = F .d (genNf C i k)
+
+  abbrev Rp : ℕ → Rep
+  Rp r = repOf L r
+
+  -- ---- Words
+
+  d-value : (k : ℕ) → (x : NF k) → value (maps (residues m pos) Ω) D k x ≡ F .d (value (level C i) (genNf C i) k x)
+  d-value k x = sym (value-hom (F .hom) (genNf C i) k x)
+
+  word-shows : (r k : ℕ) → r < length L → k ≤ i → (x : NF k) → Shows m Φ r r (image m (Rp r) k x) (F .d (value (level C i) (genNf C i) k x))
+  unfolding image
+  word-shows r k h a x = shows-map m pos Φ (shows-value m pos Φ refl (Rp r .matrix) D k (λ g b. St .represents g (omega arith) r h) x) (d-value k x)
+
+  form-shows : (r : ℕ) → r < length L → (x : Nf C i) → Shows m Φ r r (image m (Rp r) i (x .0)) (F .d x)
+  form-shows r h x = shows-map m pos Φ (word-shows r i h (omega arith) (x .0)) (ap (F .d) (group T i l .gen-value x))
+
+  conj-shows : (r k j : ℕ) → r < length L → k < i → Shows m Φ r r (conjugate m P (Rp r) k j) (F .d (level C i .mul (genNf C i k) (value (level C i) (genNf C i) (suc k) (P .w k j))))
+  unfolding conjugate
+  conj-shows r k j h a = shows-map m pos Φ (shows-mul m pos Φ (St .represents k a r h) (word-shows r (suc k) h a (P .w k j))) (sym (F .hom .on-mul _ _))
+
+  -- ---- 22
+
+  power-holds : (r j : ℕ) → r < length L → j < i → Judgement.powerHolds P m table (Rp r) j ≡ true
+  unfolding Judgement.powerHolds
+  power-holds r j h a =
+      same-shown m pos Φ complete h (shows-map m pos Φ (shows-power m pos Φ refl (St .represents j a r h) (P .p j)) (sym (power-hom (F .hom) (genNf C i j) (P .p j)) ∙ ap (F .d) (group T i l .satisfies .powers j a)))
+      (word-shows r j h (omega arith) (P .u j))
+
+  commutator-holds : (r k j : ℕ) → r < length L → k < j → j < i → Judgement.commutatorHolds P m table (Rp r) k j ≡ true
+  unfolding Judgement.commutatorHolds
+  commutator-holds r k j h a b =
+      same-shown m pos Φ complete h
+      (shows-map m pos Φ (shows-mul m pos Φ (St .represents k (omega arith) r h) (St .represents j b r h)) (sym (F .hom .on-mul _ _) ∙ ap (F .d) (group T i l .satisfies .commutators k j a b) ∙ F .hom .on-mul _ _))
+      (shows-mul m pos Φ (St .represents j b r h) (conj-shows r k j h (omega arith)))
+
+  pub relations-hold : (r : ℕ) → r < length (levelAt (C .P .n) table i) → Judgement.relationsHold (C .P) m table i (repOf (levelAt (C .P .n) table i) r) ≡ true
+  unfolding Judgement.relationsHold
+  relations-hold r h = allBelow-intro i _ (λ j a. and-intro _ _ (power-holds r j h a) (allBelow-intro j _ (λ k b. commutator-holds r k j h b a)))
+
+  -- ---- 24
+
+  target-in : (j : ℕ) → i ≤ j → j < n → (r : ℕ) → r < length L → F .target j r < length L
+  target-in j a b r h =
+      let x : Ω = complete .find r 0 h (St .degree-pos r h) in
+      subst (λ z. z < length L) (F .leads j a b x ∙ ap (F .target j) (complete .find-rep r 0 h (St .degree-pos r h))) (complete .rep-below ((F .X j x) .0))
+
+  intertwines-holds : (r j : ℕ) → r < length L → i ≤ j → j < n → Judgement.intertwines P m table i (Rp r) j ≡ true
+  unfolding Judgement.intertwines
+  intertwines-holds r j h a b =
+      let ref : Rp r .ref j 0 ≡ F .target j r = St .refers j a b r h 0 (St .degree-pos r h) in
+      and-intro _ _ (eq-eqb _ _ (ap (λ z. Rp z .deg) ref ∙ St .degree-target j a b r h)) (allBelow-intro i _ (λ k c.
+      same-shown m pos Φ complete h
+      (shows-map m pos Φ (shows-mul m pos Φ (St .intertwines j a b r h) (conj-shows r k j h c)) (ap (λ z. F .X j *′ F .d z) (sym (group T i l .conj-gen j a k c)) ∙ F .past j a b (genNf C i k)))
+      (subst (λ z. Shows m Φ r (F .target j r) (product m (Rp z .matrix k) (Rp r .matrix j)) (D k *′ F .X j)) (sym ref) (shows-mul m pos Φ (St .represents k c (F .target j r) (target-in j a b r h)) (St .intertwines j a b r h)))))
+
+  below-or : (j : ℕ) (q : Bool) → (i ≤ j → q ≡ true) → ltb j i || q ≡ true
+  below-or j q h = go (decLt j i)
+    where
+      go : Dec (j < i) → ltb j i || q ≡ true
+      go (yes a) = or-left (ltb j i) q (lt-ltb j i a)
+      go (no a) = or-right (ltb j i) q (h (omega arith))
+
+  pub intertwiners-hold : (r : ℕ) → r < length (levelAt (C .P .n) table i) → Judgement.intertwinersHold (C .P) m table i (repOf (levelAt (C .P .n) table i) r) ≡ true
+  unfolding Judgement.intertwinersHold
+  intertwiners-hold r h = allBelow-intro n _ (λ j b. below-or j _ (λ a. intertwines-holds r j h a b))
+
+  -- ---- 25
+
+  reaches-hold : (r k : ℕ) → r < length L → k < Rp r .deg → Judgement.reaches P m table i (Rp r) k ≡ true
+  unfolding Judgement.reaches
+  reaches-hold r k h a =
+      let o : Ω = complete .find r 0 h (St .degree-pos r h) in
+      let b : Ω = complete .find r k h a in
+      let ro : F .rep o ≡ r = complete .find-rep r 0 h (St .degree-pos r h) in
+      let (x, e) = F .reached o b (ro ∙ sym (complete .find-rep r k h a)) in
+      any-forms P i _ (x .0) (x .1) (eq-eqb _ _ (ap (λ z. col (image m (Rp r) i (x .0)) z .row) (sym (complete .find-column r 0 h (St .degree-pos r h)))
+      ∙ ap (λ (y : Entry). y .row) (form-shows r h x .shown o ro) ∙ ap column e ∙ complete .find-column r k h a))
+
+  tells-hold : (r k r′ k′ : ℕ) (h : r < length L) (a : k < Rp r .deg) (h′ : r′ < length L) (a′ : k′ < Rp r′ .deg) → ¬ ((r ≡ r′) × (k ≡ k′))
+      → any (Judgement.tells P m table i (Rp r) k (Rp r′) k′) (Judgement.allForms P i) ≡ true
+  unfolding Judgement.tells
+  tells-hold r k r′ k′ h a h′ a′ ne =
+      let b : Ω = complete .find r k h a in
+      let b′ : Ω = complete .find r′ k′ h′ a′ in
+      let rb : F .rep b ≡ r = complete .find-rep r k h a in
+      let rb′ : F .rep b′ ≡ r′ = complete .find-rep r′ k′ h′ a′ in
+      let cb : column b ≡ k = complete .find-column r k h a in
+      let cb′ : column b′ ≡ k′ = complete .find-column r′ k′ h′ a′ in
+      let s = F .separated b b′ (λ e. ne (sym rb ∙ ap (F .rep) e ∙ rb′, sym cb ∙ ap column e ∙ cb′)) in
+      let y : col (image m (Rp r) i (s .by .0)) k ≡ entry k (s .x .0) = at r k h (s .by) b rb cb (s .x) (s .fixes) in
+      let y′ : col (image m (Rp r′) i (s .by .0)) k′ ≡ entry k′ (s .y .0) = at r′ k′ h′ (s .by) b′ rb′ cb′ (s .y) (s .fixes′) in
+      any-forms P i _ (s .by .0) (s .by .1)
+      (and-intro _ _ (and-intro _ _ (eq-eqb _ _ (ap (λ (z : Entry). z .row) y)) (eq-eqb _ _ (ap (λ (z : Entry). z .row) y′)))
+      (ap not (ne-eqb _ _ (λ e. s .differ (Residue-path m (s .x) (s .y) (sym (mod-eq-of-lt (s .x .1)) ∙ sym (ap (λ (z : Entry). z .exp % m) y) ∙ e ∙ ap (λ (z : Entry). z .exp % m) y′ ∙ mod-eq-of-lt (s .y .1)))))))
+    where
+      at : (r k : ℕ) (h : r < length L) (w : Nf C i) (b : Ω) → F .rep b ≡ r → column b ≡ k → (x : Residue m) → F .d w b ≡ (b, x) → col (image m (Rp r) i (w .0)) k ≡ entry k (x .0)
+      at r k h w b rb cb x f = ap (col (image m (Rp r) i (w .0))) (sym cb) ∙ form-shows r h w .shown b rb ∙ ap (λ z. entry (column (z .0)) (z .1 .0)) f ∙ ap (λ z. entry z (x .0)) cb
+
+  pub separates-hold : (r : ℕ) → r < length (levelAt (C .P .n) table i) → Judgement.separates (C .P) m table i r ≡ true
+  unfolding Judgement.separates
+  separates-hold r h = allBelow-intro (Rp r .deg) _ (λ k a. and-intro _ _ (reaches-hold r k h a) (allBelow-intro (length L) _ (λ r′ h′. allBelow-intro (Rp r′ .deg) _ (λ k′ a′. same-or r k r′ k′ h a h′ a′ (ℕ-discrete r r′) (ℕ-discrete k k′)))))
+    where
+      same-or : (r k r′ k′ : ℕ) (h : r < length L) (a : k < Rp r .deg) (h′ : r′ < length L) (a′ : k′ < Rp r′ .deg) → Dec (r ≡ r′) → Dec (k ≡ k′)
+          → (eqb r r′ && eqb k k′) || any (Judgement.tells P m table i (Rp r) k (Rp r′) k′) (Judgement.allForms P i) ≡ true
+      same-or r k r′ k′ h a h′ a′ (yes p) (yes q) = or-left (eqb r r′ && eqb k k′) _ (and-intro _ _ (eq-eqb r r′ p) (eq-eqb k k′ q))
+      same-or r k r′ k′ h a h′ a′ (yes p) (no q) = or-right (eqb r r′ && eqb k k′) _ (tells-hold r k r′ k′ h a h′ a′ (λ u. q (u .1)))
+      same-or r k r′ k′ h a h′ a′ (no p) d = or-right (eqb r r′ && eqb k k′) _ (tells-hold r k r′ k′ h a h′ a′ (λ u. p (u .0)))
+
+  -- ---- 26
+
+  pub squares-hold : eqb (Judgement.squares (C .P) m table i) (order (C .P) i) ≡ true
+  unfolding Judgement.squares
+  squares-hold = eq-eqb _ _ (St .squares)
+
+  -- ---- 21, matrices and targets
+
+  D-inverse : (k : ℕ) → Inverse (maps (residues m pos) Ω) (D k)
+  D-inverse k = record {
+    to = F .d (inverse C i (genNf C i k));
+    right = sym (F .hom .on-mul _ _) ∙ ap (F .d) (inverse-right T i l (genNf C i k)) ∙ F .hom .on-one;
+    left = sym (F .hom .on-mul _ _) ∙ ap (F .d) (inverse-left T i l (genNf C i k)) ∙ F .hom .on-one;
+  }
+
+  module _ (j : ℕ) (a : i ≤ j) (b : j < n) where
+    abbrev N : ℕ
+    N = order P (suc j)
+
+    X-inverse : Inverse (maps (residues m pos) Ω) (F .X j)
+    X-inverse = intertwiner-inverse F (F .X j) (conjNf C i j) (F .past j a b) N (order-positive C (suc j)) (conj-period T i j a b)
+
+    home : (x : Ω) → iter (F .target j) N (F .rep x) ≡ F .rep x
+    home x =
+        sym (rep-power F (F .target j) (F .X j) (F .leads j a b) N x)
+        ∙ ap (F .rep) (commuting-fixes F (power (maps (residues m pos) Ω) (F .X j) N) (power-commutes F (F .X j) (conjNf C i j) (F .past j a b) N (conj-period T i j a b)) x)
+
+    -- different representations are led to different ones
+    target-injective : (x y : Ω) → F .target j (F .rep x) ≡ F .target j (F .rep y) → F .rep x ≡ F .rep y
+    target-injective x y q = back x ∙ ap (iter (F .target j) (N - 1)) q ∙ sym (back y)
+      where
+        back : (x : Ω) → F .rep x ≡ iter (F .target j) (N - 1) (F .target j (F .rep x))
+        back x = let e : N ≡ suc (N - 1) = omega (arith, order-positive C (suc j)) in sym (home x) ∙ ap (λ k. iter (F .target j) k (F .rep x)) e ∙ iter-suc (F .target j) (N - 1) (F .rep x)
+
+    X-back : (r : ℕ) → r < length L → (x : Ω) → F .rep x ≡ F .target j r → F .rep ((X-inverse .to x) .0) ≡ r
+    X-back r h x q =
+        let y : Ω = (X-inverse .to x) .0 in
+        let z : Ω = complete .find r 0 h (St .degree-pos r h) in
+        let rz : F .rep z ≡ r = complete .find-rep r 0 h (St .degree-pos r h) in
+        let there : (F .X j y) .0 ≡ x = ap (λ z. z .0) (sym (at-mul (residues m pos) (F .X j) (X-inverse .to) x) ∙ at-column (residues m pos) (X-inverse .right) x ∙ at-one (residues m pos) x) in
+        target-injective y z (sym (F .leads j a b y) ∙ ap (F .rep) there ∙ q ∙ ap (F .target j) (sym rz)) ∙ rz
+
+  matrix-valid : (r g : ℕ) → r < length L → g < n → valid m (Rp r .deg) (Rp r .matrix g) ≡ true
+  unfolding D-inverse
+  matrix-valid r g h b = go (decLt g i)
+    where
+      go : Dec (g < i) → valid m (Rp r .deg) (Rp r .matrix g) ≡ true
+      go (yes a) = shows-valid m pos Φ complete h (St .represents g a r h) (D-inverse g) h refl (λ x q. F .inside _ x ∙ q)
+      go (no a) = shows-valid m pos Φ complete h (St .intertwines g (omega arith) b r h) (X-inverse g (omega arith) b) (target-in g (omega arith) b r h) (St .degree-target g (omega arith) b r h) (X-back g (omega arith) b r h)
+
+  pub valid-holds : (r : ℕ) → r < length (levelAt (C .P .n) table i) → Judgement.matricesValid (C .P) m table i (repOf (levelAt (C .P .n) table i) r) ≡ true
+  unfolding Judgement.matricesValid
+  valid-holds r h =
+      and-intro _ _ (and-intro _ _ (lt-ltb _ _ (St .degree-pos r h)) (le-leb _ _ (subst (λ z. Rp r .deg * Rp r .deg ≤ z) (St .squares) (term-le (λ r. Rp r .deg * Rp r .deg) (length L) r h))))
+      (allBelow-intro n _ (λ g b. matrix-valid r g h b))
+
+  pub listed-holds : (r : ℕ) → r < length (levelAt (C .P .n) table i) → Judgement.targetsListed (C .P) m table i (repOf (levelAt (C .P .n) table i) r) ≡ true
+  unfolding Judgement.targetsListed
+  listed-holds r h = allBelow-intro n _ (λ j b. below-or j _ (λ a.
+      let ref : (c : ℕ) → c < Rp r .deg → Rp r .ref j c ≡ F .target j r = λ c e. St .refers j a b r h c e in
+      let zero-ref = ref 0 (St .degree-pos r h) in
+      and-intro _ _ (lt-ltb _ _ (subst (λ z. z < length L) (sym zero-ref) (target-in j a b r h))) (allBelow-intro (Rp r .deg) _ (λ c e. eq-eqb _ _ (ref c e ∙ sym zero-ref)))))

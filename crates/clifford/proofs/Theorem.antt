@@ -1,0 +1,186 @@
+-- The table of the Baum-Clausen steps passes the judgement, for every presentation that is not refused.
+--
+--   table-passes         over a tested context
+--   built-passes         for the relations of a text that refusals 11, 12, 14 and 15 let pass
+use mathlib.Core.Path.{_≡_, refl, sym, _∙_, ap, ap₂, subst}
+use mathlib.Core.Bool.{Bool, true, false, _&&_, not, cond}
+use mathlib.Core.List.{List, [], _∷_, map}
+use Prim.Native.Nat.{ℕ, zero, suc, _+_, _*_, _%_, _≤_, _<_}
+use native.Mathlib.Nat.{mul-mod-right}
+use native.Mathlib.Omega.{arith}
+use lib.Dec.{eqb, ltb, leb}
+use lib.ListN.{length}
+use borrow.Author.Tests.{eq-eqb, lt-ltb, leb-true, not-false}
+use Rattle.definitions.specs.Lists.{blocks, allBelow, same}
+use Rattle.definitions.specs.Presentation.{lineWords, Presentation, order, Relations, wellFormed, presentation, isPrime, someNotPrime, misused}
+use Rattle.definitions.specs.Consistency.{Consistent, levelTest, test}
+use Rattle.definitions.specs.Monomial.{identity, Rep, Level, repOf}
+use Rattle.definitions.specs.Table.{levelWords, levelZero, levelAt, complete}
+use Rattle.definitions.specs.Steps.{levels, tableWith, tableOf}
+use Rattle.definitions.specs.Judgement
+use Rattle.definitions.specs.Answers.{firstOf, judgement}
+use Rattle.numbers.proofs.Bools.{and-left, and-intro, cond-false}
+use Rattle.numbers.proofs.Lists.{allBelow-elim, allBelow-intro}
+use Rattle.numbers.proofs.Prime.{Units, prime-units}
+use Rattle.numbers.proofs.Blocks.{blocks-below, length-table}
+use Rattle.group.specs.Context.{Context}
+use Rattle.group.proofs.Level.{level, conjNf}
+use Rattle.group.proofs.Group.{Test, Tested}
+use Rattle.group.proofs.Tests.{test-holds}
+use Rattle.group.proofs.Order.{order-positive}
+use Rattle.group.proofs.Context.{context, accept}
+use Rattle.monomial.specs.Families.{Family}
+use Rattle.monomial.proofs.Residues.{residues}
+use Rattle.clifford.specs.Stands.{Stands, Restricts}
+use Rattle.clifford.proofs.Standing.{Setting, Standing, standing, restricts, order-split}
+use Rattle.clifford.proofs.Lines.{Written, Agrees, table, table-length, read-back}
+use Rattle.clifford.proofs.Agreement.{agree-stands, agree-restricts, agree-words}
+use Rattle.clifford.proofs.Judged.{relations-hold, intertwiners-hold, separates-hold, squares-hold, valid-holds, listed-holds}
+use Rattle.clifford.proofs.Cuts.{blocks-whole, blocks-restrict}
+
+same-self : (xs : List ℕ) → same xs xs ≡ true
+unfolding same
+same-self [] = refl
+same-self (x ∷ xs) = and-intro _ _ (eq-eqb x x refl) (same-self xs)
+
+-- level 0 agrees with itself
+zero-agrees : (n : ℕ) → Agrees n levelZero levelZero
+zero-agrees n = record {
+  same-length = refl;
+  same-degree = λ r l. refl;
+  size = λ r g l a. one r g l;
+  same-column = λ r g c l a b. refl;
+  same-ref = λ r g c l a b. refl;
+}
+  where
+    here : (g : ℕ) → length (repOf levelZero 0 .matrix g) ≡ repOf levelZero 0 .deg
+    here g = unfold repOf levelZero identity in (length-table _ 1)
+
+    count : length levelZero ≡ 1
+    count = unfold levelZero in refl
+
+    one : (r g : ℕ) → r < length levelZero → length (repOf levelZero r .matrix g) ≡ repOf levelZero r .deg
+    one r g l = let z : 0 ≡ r = omega (arith, count) in subst (λ r. length (repOf levelZero r .matrix g) ≡ repOf levelZero r .deg) z (here g)
+
+module _ (C : Context) (tests : (k : ℕ) → k < C .P .n → Test C k) (units : (j : ℕ) → j < C .P .n → Units (C .P .p j)) (positive : 0 < C .P .n) where
+  abbrev P : Presentation
+  P = C .P
+
+  abbrev n : ℕ
+  n = C .P .n
+
+  abbrev m : ℕ
+  m = order P n
+
+  abbrev pos : 0 < m
+  pos = order-positive C n
+
+  splits : (j : ℕ) → j < n → (share : ℕ) × (spare : ℕ) × (m ≡ P .p j * share) × (share ≡ order P j * spare)
+  splits j l = let (r, q) = order-split P n j l in (order P j * r, r, q, refl)
+
+  abbrev G : Setting
+  G = record { T = record { context = C; n = C .P .n; tests = tests }; m = m; pos = pos; units = units; splits = splits }
+
+  abbrev W : Written
+  W = record { n = n; positive = positive; L = λ k. levels P m (suc k); degree-pos = λ k r l h. standing G (suc k) l .stands .degree-pos r h }
+
+  table-is : tableOf P ≡ table W
+  unfolding tableOf tableWith table
+  table-is = refl
+
+  abbrev T : List ℕ
+  T = table W
+
+  abbrev Lv : ℕ → Level
+  Lv = levelAt n T
+
+  -- ---- The levels that the table says
+
+  agrees-at : (i : ℕ) → i ≤ n → Agrees n (levels P m i) (Lv i)
+  unfolding levels levelAt
+  agrees-at zero l = zero-agrees n
+  agrees-at (suc i) l = read-back W i l
+
+  -- what holds of every family on which a level of the table stands
+  at-level : (i : ℕ) → i ≤ n → (Q : Type 0) → ((Ω : Type 0) (F : Family (residues m pos) Ω (level C i) (conjNf C i) i n) → Stands C n m pos i (Lv i) F → Q) → Q
+  at-level i l Q h = let St = standing G i l in h (St .Ω) (St .F) (agree-stands C n m pos i l (levels P m i) (Lv i) (agrees-at i l) (St .F) (St .stands))
+
+  restricts-at : (i : ℕ) → i < n → (r : ℕ) → r < length (Lv (suc i)) → Restricts i (Lv i) (repOf (Lv (suc i)) r)
+  restricts-at i l r h =
+      let h′ : r < length (levels P m (suc i)) = subst (λ z. r < z) (sym (agrees-at (suc i) l .same-length)) h in
+      agree-restricts n i l (levels P m i) (Lv i) (levels P m (suc i)) (Lv (suc i)) (agrees-at i (omega arith)) (agrees-at (suc i) l) r h′ (restricts G i l r h′)
+
+  everywhere-holds : (q : (i : ℕ) → Rep → Bool) → ((i : ℕ) → i < n → (r : ℕ) → r < length (Lv (suc i)) → q (suc i) (repOf (Lv (suc i)) r) ≡ true) → Judgement.everywhere P m T q ≡ true
+  unfolding Judgement.everywhere
+  everywhere-holds q h = allBelow-intro n _ (λ i l. allBelow-intro (length (Lv (suc i))) _ (λ r a. h i l r a))
+
+  -- ---- 21
+
+  whole-lines : eqb (length T % lineWords) 0 ≡ true
+  whole-lines = eq-eqb _ _ (ap (λ z. z % lineWords) (table-length W) ∙ mul-mod-right lineWords _)
+
+  complete-holds : complete n T ≡ true
+  unfolding complete
+  complete-holds =
+      and-intro _ _ (allBelow-intro n _ (λ i l. lt-ltb _ _ (at-level (suc i) l (0 < length (Lv (suc i))) (λ Ω F St. St .nonempty))))
+      (ap (same T) (sym lines) ∙ same-self T)
+    where
+      lines : T ≡ blocks n (λ i. levelWords n (suc i) (Lv (suc i)))
+      lines = unfold table in (blocks-below n (λ k. levelWords n (suc k) (levels P m (suc k))) (λ i. levelWords n (suc i) (Lv (suc i))) (λ i l. agree-words n (suc i) (levels P m (suc i)) (Lv (suc i)) (agrees-at (suc i) l)))
+
+  not-malformed : Judgement.malformed P m T ≡ false
+  unfolding Judgement.malformed
+  not-malformed = ap not (and-intro _ _ (and-intro _ _ whole-lines complete-holds) (everywhere-holds (λ i D. Judgement.matricesValid P m T i D && Judgement.blocksWhole P m T i D && Judgement.targetsListed P m T i D) (λ i l r h.
+      at-level (suc i) l (Judgement.matricesValid P m T (suc i) (repOf (Lv (suc i)) r) && Judgement.blocksWhole P m T (suc i) (repOf (Lv (suc i)) r) && Judgement.targetsListed P m T (suc i) (repOf (Lv (suc i)) r) ≡ true) (λ Ω F St.
+      and-intro _ _ (and-intro _ _ (valid-holds C tests m pos T (suc i) l F St r h) (blocks-whole P m T i (repOf (Lv (suc i)) r) (restricts-at i l r h))) (listed-holds C tests m pos T (suc i) l F St r h)))))
+
+  -- ---- 22 to 26
+
+  relations-pass : Judgement.relationFails P m T ≡ false
+  unfolding Judgement.relationFails
+  relations-pass = ap not (everywhere-holds (Judgement.relationsHold P m T) (λ i l r h. at-level (suc i) l (Judgement.relationsHold P m T (suc i) (repOf (Lv (suc i)) r) ≡ true) (λ Ω F St. relations-hold C tests m pos T (suc i) l F St r h)))
+
+  restrictions-pass : Judgement.restrictionFails P m T ≡ false
+  unfolding Judgement.restrictionFails
+  restrictions-pass = ap not (everywhere-holds (Judgement.restricts P m T) (λ i l r h. blocks-restrict P m T i (repOf (Lv (suc i)) r) (restricts-at i l r h)))
+
+  intertwiners-pass : Judgement.intertwinerFails P m T ≡ false
+  unfolding Judgement.intertwinerFails
+  intertwiners-pass = ap not (everywhere-holds (Judgement.intertwinersHold P m T) (λ i l r h. at-level (suc i) l (Judgement.intertwinersHold P m T (suc i) (repOf (Lv (suc i)) r) ≡ true) (λ Ω F St. intertwiners-hold C tests m pos T (suc i) l F St r h)))
+
+  separation-passes : Judgement.notSeparated P m T ≡ false
+  unfolding Judgement.notSeparated Judgement.everyLevel
+  separation-passes = ap not (allBelow-intro n _ (λ i l. allBelow-intro (length (Lv (suc i))) _ (λ r h. at-level (suc i) l (Judgement.separates P m T (suc i) r ≡ true) (λ Ω F St. separates-hold C tests m pos T (suc i) l F St r h))))
+
+  squares-pass : Judgement.squaresFail P m T ≡ false
+  unfolding Judgement.squaresFail Judgement.everyLevel
+  squares-pass = ap not (allBelow-intro n _ (λ i l. at-level (suc i) l (eqb (Judgement.squares P m T (suc i)) (order P (suc i)) ≡ true) (λ Ω F St. squares-hold C tests m pos T (suc i) l F St)))
+
+  -- ---- The judgement
+
+  pub table-passes : judgement (C .P) (tableOf (C .P)) ≡ 0
+  unfolding judgement firstOf
+  table-passes =
+      ap (judgement P) table-is
+      ∙ cond-false (Judgement.malformed P m T) _ _ not-malformed ∙ cond-false (Judgement.relationFails P m T) _ _ relations-pass
+      ∙ cond-false (Judgement.restrictionFails P m T) _ _ restrictions-pass ∙ cond-false (Judgement.intertwinerFails P m T) _ _ intertwiners-pass
+      ∙ cond-false (Judgement.notSeparated P m T) _ _ separation-passes ∙ cond-false (Judgement.squaresFail P m T) _ _ squares-pass
+
+-- ---- For what a text says
+
+module _ (R : Relations) (formed : wellFormed R ≡ true) (primes : someNotPrime R ≡ false) (used : misused R ≡ false) (consistent : Consistent (presentation R)) where
+  tests : (k : ℕ) → k < presentation R .n → Test (context R formed primes used) k
+  unfolding context test
+  tests k l = test-holds (context R formed primes used) k (allBelow-elim (presentation R .n) (levelTest (presentation R)) (accept R formed primes used .1 consistent) k l)
+
+  units : (j : ℕ) → j < presentation R .n → Units (presentation R .p j)
+  unfolding someNotPrime presentation
+  units j l = prime-units (presentation R .p j) (allBelow-elim (R .n) (λ j. isPrime (presentation R .p j)) (not-false _ primes) j l)
+
+  some-generator : 0 < presentation R .n
+  unfolding wellFormed presentation
+  some-generator = leb-true 1 (R .n) (and-left (leb 1 (R .n)) _ (and-left _ _ (and-left _ _ formed)))
+
+  pub built-passes : judgement (presentation R) (tableOf (presentation R)) ≡ 0
+  unfolding context
+  built-passes = table-passes (context R formed primes used) tests units some-generator
