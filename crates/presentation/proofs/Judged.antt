@@ -21,7 +21,7 @@ use Rattle.definitions.specs.Presentation.{Relations, Says, InForm, textOf, pre
 use Rattle.definitions.specs.Consistency.{Consistent}
 use Rattle.definitions.specs.Answers.{First, says, Accept}
 use Rattle.definitions.proofs.Rendering.{rowFormed, Formed, wellFormed-formed, formed-wellFormed, line-unique, presentationNames-fields, presentationNames-injective, says-unique}
-use Rattle.numbers.proofs.Lists.{allBelow-intro}
+use Rattle.numbers.proofs.Lists.{allBelow-intro, allBelow-fails}
 use Rattle.group.proofs.Pairs.{length-pairs, pairNumber-below}
 use Rattle.presentation.specs.declared.Outcome.{Outcome}
 use Rattle.presentation.specs.Lines.{NamesLine, NoNames}
@@ -29,7 +29,7 @@ use Rattle.presentation.specs.Rows.{noRow, rowText, Stored, AllLines, No
 use Rattle.presentation.specs.Conditions.{product, entryWell, rowWells, pairWell, allWell, Primes}
 use Rattle.presentation.specs.Outcome.{Holds, textRefusals, ReadText, Concluded}
 use Rattle.presentation.proofs.Primes.{not-prime-small}
-use Rattle.presentation.proofs.Conditions.{allBelow-fails, product-zero, product-suc, number-within}
+use Rattle.presentation.proofs.Conditions.{product-zero, product-suc, number-within}
 
 -- ---- Texts that are not in the form
 

@@ -1,4 +1,5 @@
 -- Laws of reading a presentation.
+pub mod Nested
 pub mod Primes
 pub mod Pairs
 pub mod Heads

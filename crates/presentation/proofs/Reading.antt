@@ -21,6 +21,7 @@ use Rattle.definitions.specs.Presentation.{Row, pairs, pairNumber, rowValues, i
 use Rattle.definitions.proofs.Rendering.{rowFormed}
 use Rattle.numbers.proofs.Bools.{and-left, and-right}
 use Rattle.numbers.proofs.Lists.{all-getD}
+use Rattle.numbers.proofs.Sums.{sum-zero}
 use Rattle.group.proofs.Pairs.{length-pairs, pairNumber-power, pairNumber-commutator, pairNumber-below}
 use Rattle.text.proofs.Reading.{drop-front}
 use Rattle.text.proofs.Trail.{all-one}
@@ -126,10 +127,6 @@ all-nil : {A : Type 0} (q : A → Bool) → all q [] ≡ true
 unfolding all
 all-nil q = refl
 
-zero-sum : sum 0 suc ≡ 0
-unfolding sum
-zero-sum = refl
-
 number-least : (j i : ℕ) → i ≤ j → sum j suc ≤ pairNumber j i
 number-least j i l = pick (ℕ-discrete i j)
   where
@@ -146,7 +143,7 @@ module _ {t : Bytes} {start n : ℕ} where
         count = refl;
         formed = none;
         text = ap (λ (xs : Bytes). xs ++ drop start t) (sym (rowText-nil n));
-        number = pairNumber-power 0 ∙ zero-sum;
+        number = pairNumber-power 0 ∙ sum-zero suc;
         below = omega arith;
         top = omega arith;
         few = omega arith;

@@ -57,8 +57,8 @@ returns-4 c =
     let a = l .ensures .stands (not-false (l .result .ok) (c .before .before .before .if1 .left)) in
     too-many m a (not-false (l .result .primes) (c .before .before .if2 .left)) (omega arith) (c .refused4 .ensures)
 
-cast-conclude : tie.Need-cast-conclude
-cast-conclude c = search needs
+cast-count : tie.Need-cast-count
+cast-count c = search needs
 
 conclude-requires : tie.Need-conclude-requires
 conclude-requires c κs =
@@ -88,8 +88,8 @@ read-spec =
     returns-2
     refused-requires-3
     returns-3
+    cast-count
     refused-requires-4
     returns-4
-    cast-conclude
     conclude-requires
     returns-5)

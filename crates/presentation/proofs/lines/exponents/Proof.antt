@@ -31,8 +31,8 @@ returns : tie.Need-returns Inv-loop μ-loop
 returns c =
     going-fails (c .before .before .before .before .loop .inv) (omega arith) (c .before .before .value-behind .ensures .fails (c .enum-told .given .1))
 
-cast-kept : tie.Need-cast-kept Inv-loop μ-loop
-cast-kept c = omega arith
+cast-place : tie.Need-cast-place Inv-loop μ-loop
+cast-place c = omega arith
 
 mul-kept : tie.Need-mul-kept Inv-loop μ-loop
 mul-kept c = omega arith
@@ -78,7 +78,7 @@ exponents-spec =
     enum-known-e
     enum-told
     returns
-    cast-kept
+    cast-place
     mul-kept
     array-write-kept
     add-k
