@@ -7,6 +7,8 @@
 //   fill            stores them
 //   read_table      the call
 use crate::Answer;
+use crate::LINE;
+use crate::NAMES;
 use crate::separator;
 use text::Read;
 ghost use mathlib.Core.Path.{_≡_};
@@ -47,7 +49,7 @@ fn enough(have: usize, lines: usize) -> bool
     if lines == 0 {
         return true;
     }
-    lines - 1 <= have / 8
+    lines - 1 <= have / LINE
 }
 
 // Word k at a position, with its separator.
@@ -77,7 +79,7 @@ fn in_form(text: &[u8], start: usize) -> bool
         at = next;
         k += 1;
     }
-    k % 8 == 0
+    k % LINE == 0
 }
 
 // Stores the words that stand from a position to the end of a text, and returns how many they are.
@@ -115,15 +117,15 @@ pub fn read_table(text: &[u8], words: &mut [u32]) -> Answer
             count: 0,
         };
     }
-    if !in_form(text, 34) {
+    if !in_form(text, NAMES) {
         return Answer {
             status: 20,
             count: 0,
         };
     }
-    let k = fill(text, 34, words);
+    let k = fill(text, NAMES, words);
     Answer {
         status: 0,
-        count: k / 8,
+        count: k / LINE,
     }
 }

@@ -5,6 +5,8 @@
 //   put_words       writes the words
 //   write_table     the call
 use crate::Answer;
+use crate::LINE;
+use crate::NAMES;
 use crate::separator;
 ghost use mathlib.Core.Path.{_≡_};
 ghost use mathlib.Core.List.{_++_};
@@ -66,7 +68,7 @@ fn put_words(out: &mut [u8], at: usize, words: &[u32]) -> usize
 pub fn write_table(words: &[u32], out: &mut [u8]) -> Answer
     ensures { λ r. ⌜ WriteTable (now (words .entry)) (now (out .entry)) (r .status) (r .count) (now (out .exit)) ⌝ }
 {
-    if words.len() % 8 != 0 {
+    if words.len() % LINE != 0 {
         return Answer {
             status: 21,
             count: 0,
@@ -79,7 +81,7 @@ pub fn write_table(words: &[u32], out: &mut [u8]) -> Answer
         };
     }
     let have = out.len();
-    if !fits(words, 34, have) {
+    if !fits(words, NAMES, have) {
         return Answer {
             status: 16,
             count: 0,

@@ -19,7 +19,8 @@ returns c =
     let t = c .before .before .before .before .before .args .text .now in
     let w = c .before .before .before .before .before .args .words .now in
     let n = length w in
-    read-short t w (short t n (c .before .before .newlines .result) (c .before .enough .result) (c .before .before .newlines .ensures) (c .before .enough .ensures) (not-true (c .before .enough .result) (c .if1 .taken)))
+    let e = c .before in
+    read-short t w (short t n (e .before .newlines .result) (e .enough .result) (e .before .newlines .ensures) (e .enough .ensures) (not-true (e .enough .result) (c .if1 .taken)))
 
 slice-aggregate-starts : tie.Need-slice-aggregate-starts
 slice-aggregate-starts c = search needs
@@ -32,7 +33,8 @@ returns-2 c =
     let t = c .before .before .before .before .before .before .before .before .args .text .now in
     let w = c .before .before .before .before .before .before .before .before .args .words .now in
     let n = length w in
-    read-unstarted t w (long t n (c .before .before .before .before .before .newlines .result) (c .before .before .before .before .enough .result) (c .before .before .before .before .before .newlines .ensures) (c .before .before .before .before .enough .ensures) (not-false (c .before .before .before .before .enough .result) (c .before .before .before .if1 .left))) (λ h. true≢false (sym (c .before .starts .ensures .1 h) ∙ not-true (c .before .starts .result) (c .if2 .taken)))
+    let e = c .before .before .before .before in
+    read-unstarted t w (long t n (e .before .newlines .result) (e .enough .result) (e .before .newlines .ensures) (e .enough .ensures) (not-false (e .enough .result) (c .before .before .before .if1 .left))) (λ h. true≢false (sym (c .before .starts .ensures .1 h) ∙ not-true (c .before .starts .result) (c .if2 .taken)))
 
 in-form-requires : tie.Need-in-form-requires
 in-form-requires c κs = starts-within (c .before .starts .ensures .0 (not-false (c .before .starts .result) (c .if2 .left)))
@@ -42,19 +44,21 @@ returns-3 c =
     let t = c .before .before .before .before .before .before .before .before .before .before .args .text .now in
     let w = c .before .before .before .before .before .before .before .before .before .before .args .words .now in
     let n = length w in
-    read-unformed t w (long t n (c .before .before .before .before .before .before .before .newlines .result) (c .before .before .before .before .before .before .enough .result) (c .before .before .before .before .before .before .before .newlines .ensures) (c .before .before .before .before .before .before .enough .ensures) (not-false (c .before .before .before .before .before .before .enough .result) (c .before .before .before .before .before .if1 .left))) (c .before .in-form .ensures .fails (not-true (c .before .in-form .result) (c .if3 .taken)))
+    let e = c .before .before .before .before .before .before in
+    read-unformed t w (long t n (e .before .newlines .result) (e .enough .result) (e .before .newlines .ensures) (e .enough .ensures) (not-false (e .enough .result) (c .before .before .before .before .before .if1 .left))) (c .before .in-form .ensures .fails (not-true (c .before .in-form .result) (c .if3 .taken)))
 
 fill-requires : tie.Need-fill-requires
 fill-requires c κs =
     let t = c .before .before .before .before .before .before .before .before .before .before .before .args .text .now in
     let w = c .before .before .before .before .before .before .before .before .before .before .before .args .words .now in
     let n = length w in
+    let e = c .before .before .before .before .before .before .before in
     let s = c .before .before .before .before .starts .ensures .0 (not-false (c .before .before .before .before .starts .result) (c .before .before .before .if2 .left)) in
     let f = c .before .before .in-form .ensures .stands (not-false (c .before .before .in-form .result) (c .before .if3 .left)) in
     record {
       table = f .0;
       lines = f .1;
-      room = read-room (f .0) s (f .1) (long t n (c .before .before .before .before .before .before .before .before .newlines .result) (c .before .before .before .before .before .before .before .enough .result) (c .before .before .before .before .before .before .before .before .newlines .ensures) (c .before .before .before .before .before .before .before .enough .ensures) (not-false (c .before .before .before .before .before .before .before .enough .result) (c .before .before .before .before .before .before .if1 .left)));
+      room = read-room (f .0) s (f .1) (long t n (e .before .newlines .result) (e .enough .result) (e .before .newlines .ensures) (e .enough .ensures) (not-false (e .enough .result) (c .before .before .before .before .before .before .if1 .left)));
       within = starts-within s;
     }
 
@@ -66,7 +70,8 @@ returns-4 c =
     let t = c .before .before .before .before .before .before .before .before .before .before .before .before .before .before .args .text .now in
     let w = c .before .before .before .before .before .before .before .before .before .before .before .before .before .before .args .words .now in
     let n = length w in
-    read-done t w (long t n (c .before .before .before .before .before .before .before .before .before .before .before .newlines .result) (c .before .before .before .before .before .before .before .before .before .before .enough .result) (c .before .before .before .before .before .before .before .before .before .before .before .newlines .ensures) (c .before .before .before .before .before .before .before .before .before .before .enough .ensures) (not-false (c .before .before .before .before .before .before .before .before .before .before .enough .result) (c .before .before .before .before .before .before .before .before .before .if1 .left))) (c .before .before .before .before .before .before .before .starts .ensures .0 (not-false (c .before .before .before .before .before .before .before .starts .result) (c .before .before .before .before .before .before .if2 .left))) (c .before .before .fill .ensures)
+    let e = c .before .before .before .before .before .before .before .before .before .before in
+    read-done t w (long t n (e .before .newlines .result) (e .enough .result) (e .before .newlines .ensures) (e .enough .ensures) (not-false (e .enough .result) (c .before .before .before .before .before .before .before .before .before .if1 .left))) (c .before .before .before .before .before .before .before .starts .ensures .0 (not-false (c .before .before .before .before .before .before .before .starts .result) (c .before .before .before .before .before .before .if2 .left))) (c .before .before .fill .ensures)
 
 pub read-table-spec : {M : Type 1} → statement M
 read-table-spec =
