@@ -7,16 +7,16 @@
 --   accepted-below, accepted-unused      the exponents of the words
 use mathlib.Core.Path.{_≡_, refl, sym, ap, subst, _∙_}
 use mathlib.Core.Logic.{inl, inr}
-use mathlib.Core.Bool.{Bool, true, false, _&&_, _||_, not, false≢true}
-use mathlib.Core.List.{List, [], _∷_, _++_}
+use mathlib.Core.Bool.{Bool, true, false, _&&_, _||_, false≢true}
+use mathlib.Core.List.{List, [], _++_}
 use Prim.Native.Nat.{ℕ, zero, suc, _<_, _≤_}
 use native.Mathlib.Omega.{arith}
 use lib.ListN.{length, getD}
 use lib.Dec.{ltb, eqb}
 use borrow.Author.Tests.{ltb-true, eqb-true, not-false}
-use Rattle.definitions.specs.Lists.{sum, allBelow}
+use Rattle.definitions.specs.Lists.{allBelow}
 use Rattle.definitions.specs.Text.{Bytes, largest}
-use Rattle.definitions.specs.Presentation.{Row, Relations, Says, pairs, pairNumber, rowOf, presentation, isPrime, allowed, rowWell, maxGenerators, someNotPrime, tooLarge, misused}
+use Rattle.definitions.specs.Presentation.{Relations, Says, pairNumber, rowOf, presentation, isPrime, allowed, rowWell, maxGenerators, someNotPrime, tooLarge, misused}
 use Rattle.definitions.specs.Answers.{First, says}
 use Rattle.definitions.proofs.Rendering.{rowFormed, wellFormed-formed}
 use Rattle.numbers.proofs.Bools.{and-left, and-right}

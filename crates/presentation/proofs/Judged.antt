@@ -6,26 +6,26 @@
 --   primes-positive             a prime is not 0
 --   concluded-large, concluded-misused, concluded-well     how `Concluded` is reached
 use mathlib.Core.Path.{_≡_, refl, sym, ap, ap₂, subst, _∙_}
-use mathlib.Core.Logic.{_⊎_, inl, inr}
-use mathlib.Core.Bool.{Bool, true, false, _&&_, _||_, not, cond, true≢false, false≢true}
-use mathlib.Core.List.{List, [], _∷_, _++_}
+use mathlib.Core.Logic.{inl, inr}
+use mathlib.Core.Bool.{Bool, true, false, _&&_, _||_, not, cond, false≢true}
+use mathlib.Core.List.{List, [], _++_}
 use Prim.Native.Nat.{ℕ, zero, suc, _*_, _<_, _≤_}
 use native.Mathlib.Omega.{arith}
 use lib.ListN.{length, getD, drop}
 use lib.Dec.{ltb, leb, eqb}
 use borrow.Author.Tests.{lt-ltb, le-ltb, leb-true, leb-false}
-use Rattle.definitions.specs.Lists.{sum, all, allBelow}
+use Rattle.definitions.specs.Lists.{all, allBelow}
 use Rattle.definitions.specs.Text.{Bytes, line, render}
-use Rattle.definitions.specs.Presentation.{Relations, Says, InForm, textOf, presentationNames, pairs, pairNumber, rowOf, presentation, order, isPrime, allowed, maxGenerators, maxOrder, someNotPrime, tooLarge, misused, rowWell}
-use Rattle.definitions.specs.Answers.{First, says}
-use Rattle.definitions.proofs.Rendering.{rowFormed, Formed, wellFormed-formed, formed-wellFormed, line-unique, presentationNames-fields, presentationNames-injective, says-unique}
+use Rattle.definitions.specs.Presentation.{Relations, Says, InForm, textOf, presentationNames, pairs, pairNumber, rowOf, presentation, order, isPrime, maxGenerators, maxOrder, someNotPrime, tooLarge, misused, rowWell}
+use Rattle.definitions.specs.Answers.{says}
+use Rattle.definitions.proofs.Rendering.{rowFormed, wellFormed-formed, formed-wellFormed, line-unique, presentationNames-fields, presentationNames-injective, says-unique}
 use Rattle.numbers.proofs.Lists.{allBelow-intro, allBelow-fails}
 use Rattle.group.proofs.Pairs.{length-pairs, pairNumber-below}
 use Rattle.presentation.specs.declared.Outcome.{Outcome}
 use Rattle.presentation.specs.Lines.{NamesLine, NoNames}
-use Rattle.presentation.specs.Rows.{noRow, rowText, Stored, AllLines, NoLines}
+use Rattle.presentation.specs.Rows.{noRow, rowText, AllLines, NoLines}
 use Rattle.presentation.specs.Conditions.{product, entryWell, rowWells, pairWell, allWell, Primes}
-use Rattle.presentation.specs.Outcome.{Holds, textRefusals, ReadText, Concluded}
+use Rattle.presentation.specs.Outcome.{Holds, ReadText, Concluded}
 use Rattle.presentation.proofs.Primes.{not-prime-small}
 use Rattle.presentation.proofs.Conditions.{product-zero, product-suc, number-within}
 

@@ -1,7 +1,7 @@
 -- The pair of the next line.
 --
 --   next-inner, next-generator, next-first, next-power     the four ways to go on from a pair
-use mathlib.Core.Path.{_≡_, refl, sym, ap, _∙_}
+use mathlib.Core.Path.{_≡_, ap, _∙_}
 use Prim.Native.Nat.{ℕ, suc, _+_, _<_, _≤_}
 use native.Mathlib.Numerals.{add-one}
 use native.Mathlib.Omega.{arith}

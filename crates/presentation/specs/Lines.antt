@@ -5,7 +5,7 @@
 --   headText, HeadLine, NoHead, HeadAt     j, i and p of a line
 --   WordLine, NoWord, WordAt       the exponents and the end of a line
 use mathlib.Core.Path.{_≡_}
-use mathlib.Core.Bool.{Bool, true, false}
+use mathlib.Core.Bool.{true, false}
 use mathlib.Core.List.{List, [], _∷_, _++_}
 use Prim.Native.Nat.{ℕ, suc, _<_, _≤_}
 use lib.ListN.{length, getD, drop}

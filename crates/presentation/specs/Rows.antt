@@ -7,13 +7,13 @@
 --   AllLines, NoLines, LinesAt     what reading all lines says
 use mathlib.Core.Path.{_≡_}
 use mathlib.Core.Bool.{Bool, true, false, _||_, not}
-use mathlib.Core.List.{List, [], _∷_, zipWith, flatMap}
+use mathlib.Core.List.{List, [], zipWith, flatMap}
 use Prim.Native.Nat.{ℕ, _<_, _≤_}
 use lib.ListN.{length, getD, set, drop}
 use lib.Dec.{eqb}
 use Rattle.definitions.specs.Lists.{all}
 use Rattle.definitions.specs.Text.{Bytes, valueLine}
-use Rattle.definitions.specs.Presentation.{Row, Relations, pairs, pairNumber, rowValues, isPrime}
+use Rattle.definitions.specs.Presentation.{Row, pairs, pairNumber, rowValues, isPrime}
 use Rattle.definitions.proofs.Rendering.{rowFormed}
 use Rattle.presentation.specs.declared.lines.Lines.{Lines}
 use Rattle.presentation.specs.Lines.{rowWidth, rowCount}

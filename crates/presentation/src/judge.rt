@@ -10,13 +10,12 @@ use crate::PAIRS;
 use crate::Row;
 use crate::Words;
 ghost use mathlib.Core.Path.{_≡_};
-ghost use mathlib.Core.Bool.{_&&_, _||_};
-ghost use mathlib.Core.List.{[]};
+ghost use mathlib.Core.Bool.{_||_};
 ghost use Prim.Native.Nat.{ℕ, suc, _+_, _<_, _≤_};
 ghost use lib.ListN.{getD};
-ghost use lib.Dec.{ltb, leb, eqb};
+ghost use lib.Dec.{leb, eqb};
 ghost use Rattle.definitions.specs.Lists.{allBelow};
-ghost use Rattle.definitions.specs.Presentation.{pairNumber, allowed, maxOrder};
+ghost use Rattle.definitions.specs.Presentation.{pairNumber, maxOrder};
 ghost use Rattle.presentation.specs.Lines.{rowWidth, rowCount};
 ghost use Rattle.presentation.specs.Conditions.{product, entryWell, rowWells, pairWell, allWell, Primes};
 

@@ -12,9 +12,8 @@
 //   judge                 refusals 13 and 14
 use text::Read;
 ghost use mathlib.Core.Path.{_≡_};
-ghost use mathlib.Core.List.{[]};
-ghost use Prim.Native.Nat.{ℕ, _+_, _<_, _≤_};
-ghost use lib.ListN.{length, getD};
+ghost use Prim.Native.Nat.{ℕ, _<_, _≤_};
+ghost use lib.ListN.{getD};
 ghost use Rattle.definitions.specs.Presentation.{pairNumber};
 ghost use Rattle.presentation.specs.Lines.{rowWidth};
 ghost use Rattle.presentation.specs.Outcome.{Concluded, ReadText};

@@ -7,12 +7,11 @@
 --   written-read, read-written      there and back
 --   read-short, read-unstarted, read-unformed, read-room, read-done     the answers of the reader
 use mathlib.Core.Path.{_≡_, refl, sym, ap, ap₂, _∙_}
-use mathlib.Core.Logic.{_⊎_, inl, inr}
-use mathlib.Core.Bool.{Bool, true, false, _&&_, not, true≢false, false≢true}
-use mathlib.Core.List.{List, [], _∷_, _++_}
-use Prim.Native.Nat.{ℕ, zero, suc, _+_, _*_, _-_, _/_, _%_, _<_, _≤_}
+use mathlib.Core.Logic.{inl, inr}
+use mathlib.Core.Bool.{Bool, true, false, not, true≢false}
+use mathlib.Core.List.{List, _++_}
+use Prim.Native.Nat.{ℕ, _+_, _*_, _-_, _/_, _%_, _<_, _≤_}
 use native.Mathlib.Nat.{div-add-mod'}
-use native.Mathlib.Decide.{decLt}
 use native.Mathlib.Omega.{arith}
 use lib.ListN.{length, take, drop}
 use lib.Seq.{take-append-seam}
@@ -26,7 +25,7 @@ use Rattle.numbers.proofs.Bools.{and-left, and-right, and-intro}
 use Rattle.text.specs.Reading.{StartsAt}
 use Rattle.text.specs.Writing.{put, Wrote}
 use Rattle.text.proofs.Writing.{wrote-more, wrote-as}
-use Rattle.table.specs.Pieces.{pieces, FormLine, FormAt, Room, Filled}
+use Rattle.table.specs.Pieces.{pieces, FormLine, Filled}
 use Rattle.table.proofs.Pieces.{names, tableText-pieces, newlines-table}
 
 -- ---- Texts in the form

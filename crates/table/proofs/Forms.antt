@@ -7,23 +7,21 @@
 --   enough-none, enough-some             room for the lines
 use mathlib.Core.Path.{_≡_, refl, sym, ap, ap₂, subst, _∙_}
 use mathlib.Core.Logic.{_≢_}
-use mathlib.Core.Bool.{Bool, true, false, not, cond, true≢false, false≢true}
+use mathlib.Core.Bool.{Bool, true, false, not, cond, false≢true}
 use mathlib.Core.List.{List, [], _∷_, _++_, append-assoc, append-nil, tail-eq-of-cons-eq}
-use Prim.Native.Nat.{ℕ, zero, suc, _+_, _*_, _-_, _/_, _%_, _<_, _≤_}
-use native.Mathlib.Nat.{le-div-iff-mul-le}
+use Prim.Native.Nat.{ℕ, suc, _+_, _*_, _-_, _/_, _%_, _<_, _≤_}
 use native.Mathlib.Numerals.{add-one}
 use native.Mathlib.Decide.{decLt}
 use native.Mathlib.Omega.{arith}
-use lib.ListN.{length, getD, take, drop, set, length-append, length-take, length-drop, drop-of-length-le, take-append-drop}
-use lib.Seq.{drop-cons, drop-at, set-at, take-suc, take-all, append-snoc, length-take-le, getD-at}
+use lib.ListN.{length, getD, take, drop, set, length-append, length-take, length-drop, drop-of-length-le}
+use lib.Seq.{drop-cons, set-at, take-suc, take-all, append-snoc, length-take-le, getD-at}
 use lib.Dec.{eqb, ltb, leb}
 use borrow.Author.Tests.{eqb-true, eqb-false, lt-ltb, le-ltb, le-leb, lt-leb}
 use Rattle.definitions.specs.Text.{Bytes, largest, decimal, small}
 use Rattle.definitions.specs.Presentation.{lineWords}
 use Rattle.definitions.specs.Answers.{newlines, over}
 use Rattle.definitions.proofs.Rendering.{decimal-nonempty}
-use Rattle.text.specs.Reading.{Ends, ValueAt, NoValue, ReadAt}
-use Rattle.text.specs.declared.Read.{Read}
+use Rattle.text.specs.Reading.{Ends, ValueAt, NoValue}
 use Rattle.text.specs.declared.Read.the-variants.{Value, Nothing}
 use Rattle.text.proofs.Reading.{drop-front, drop-byte, read-known, value-unique}
 use Rattle.text.proofs.Trail.{small-nil, small-at}

@@ -4,17 +4,17 @@
 --   small-none, small-more, small-all, small-fails     every word has at most nine digits
 --   Measured, measured-none, measured-more, measured-over, measured-all     the length of the text
 --   written-none, written-room, written-byte, written-more, written-all     the words written
-use mathlib.Core.Path.{_≡_, refl, sym, ap, subst, _∙_}
-use mathlib.Core.Bool.{Bool, true, false, true≢false, false≢true}
+use mathlib.Core.Path.{_≡_, refl, sym, ap, _∙_}
+use mathlib.Core.Bool.{Bool, true, false}
 use mathlib.Core.List.{List, [], _∷_, _++_, append-assoc}
-use Prim.Native.Nat.{ℕ, zero, suc, _+_, _<_, _≤_}
+use Prim.Native.Nat.{ℕ, _+_, _<_, _≤_}
 use native.Mathlib.Numerals.{add-one}
 use native.Mathlib.Omega.{arith}
 use lib.ListN.{length, getD, take, drop, length-append, take-append-drop}
 use lib.Seq.{take-suc, take-all, length-take-le}
 use lib.Dec.{leb}
 use borrow.Author.Tests.{lt-leb}
-use Rattle.definitions.specs.Text.{Bytes, largest, decimal, small}
+use Rattle.definitions.specs.Text.{largest, decimal, small}
 use Rattle.text.specs.Writing.{Wrote}
 use Rattle.text.proofs.Writing.{wrote-none, wrote-more, wrote-as, wrote-length}
 use Rattle.text.proofs.Trail.{small-nil, small-at}
