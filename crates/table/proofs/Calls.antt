@@ -4,7 +4,7 @@
 --   says-form, form-says      a table text: its names line, and its words to the end
 --   short, long               whether the words are room for the lines, by what `enough` answers
 --   write-part, write-large, write-short, write-done     the answers of the writer
---   written-read, read-written      there and back
+--   written-read, write-then-read, read-then-write      there and back
 --   read-short, read-unstarted, read-unformed, read-room, read-done     the answers of the reader
 use mathlib.Core.Path.{_≡_, refl, sym, ap, ap₂, _∙_}
 use mathlib.Core.Logic.{inl, inr}
@@ -21,6 +21,7 @@ use Rattle.definitions.specs.Text.{Bytes, small}
 use Rattle.definitions.specs.Presentation.{lineWords}
 use Rattle.definitions.specs.Table.{lineCount, tableText, writable}
 use Rattle.definitions.specs.Answers.{First, newlines, over, TableSays, writeRefusals, ReadTable, WriteTable}
+use Rattle.definitions.proofs.Unique.{table-says-unique}
 use Rattle.numbers.proofs.Bools.{and-left, and-right, and-intro}
 use Rattle.text.specs.Reading.{StartsAt}
 use Rattle.text.specs.Writing.{put, Wrote}
@@ -164,7 +165,7 @@ module _ (T : List ℕ) (before : Bytes) where
 
 -- ---- There and back
 
--- what is written of a table is read as that table, and what is read is written as the text it was read from
+-- what is written of a table says that table
 pub written-read : (T : List ℕ) (before : Bytes) (k : ℕ) (after : Bytes) → WriteTable T before 0 k after → TableSays (take k after) T
 unfolding over
 written-read T before k after h =
@@ -179,8 +180,23 @@ written-read T before k after h =
     writes false q (inl w) = absurd (omega (arith, w .1))
     writes false q (inr w) = absurd (w .0 q)
 
-pub read-written : (t : Bytes) (before : List ℕ) (k : ℕ) (after : List ℕ) → ReadTable t before 0 k after
-    → (T : List ℕ) × (after ≡ over before T) × (k ≡ lineCount T) × (tableText T ≡ t)
-read-written t before k after h =
-    let f = h .leaves .finished refl in
-    (f .0, f .3, f .2, sym (f .1 .written))
+-- the words of a table that was written are read back, whatever buffer they are read into
+pub write-then-read : (T : List ℕ) (out : Bytes) (k : ℕ) (written : Bytes) (before : List ℕ) (m : ℕ) (after : List ℕ)
+    → WriteTable T out 0 k written → ReadTable (take k written) before 0 m after → (m ≡ lineCount T) × (after ≡ over before T)
+write-then-read T out k written before m after w r =
+    let f = r .leaves .finished refl in
+    let q : f .0 ≡ T = table-says-unique (take k written) (f .0) T (f .1) (written-read T out k written w) in
+    (f .2 ∙ ap lineCount q, f .3 ∙ ap (over before) q)
+
+-- the text of a table that was read is written back from the words that it was read into
+pub read-then-write : (t : Bytes) (before : List ℕ) (m : ℕ) (after : List ℕ) (out : Bytes) (k : ℕ) (written : Bytes)
+    → ReadTable t before 0 m after → WriteTable (take (lineWords * m) after) out 0 k written → (k ≡ length t) × (written ≡ over out t)
+unfolding over lineCount lineWords
+read-then-write t before m after out k written r w =
+    let f = r .leaves .finished refl in
+    let T = f .0 in
+    let n : 8 * m ≡ length T = omega (arith, f .2, div-add-mod' (length T) 8, writable-parts T (f .1 .formed) .0) in
+    let q : take (8 * m) after ≡ T = ap₂ take n (f .3) ∙ take-append-seam T (drop (length T) before) in
+    let e : tableText (take (8 * m) after) ≡ t = ap tableText q ∙ sym (f .1 .written) in
+    let g = w .leaves .finished refl in
+    (g .0 ∙ ap length e, g .1 ∙ ap (λ (x : Bytes). x ++ drop (length x) out) e)
