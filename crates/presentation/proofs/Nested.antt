@@ -1,4 +1,6 @@
 -- As a field of a struct an array of arrays stands at `map` of the identity over its lists, which is the lists.
+--
+--   rows-same               the two are equal
 use mathlib.Core.Path.{_≡_, ap, _∙_}
 use mathlib.Core.List.{List, map, map-id}
 use Prim.Native.Nat.{ℕ}

@@ -1,8 +1,10 @@
 -- Laws of reading all lines of values.
 --
+--   kept-words-length, kept-ps-length, stored-one     what is kept of one line more
+--   passes-prime, passes-composite     what the test of a p says
 --   Reading                     k lines have been read, and the next is that of (j, i)
 --   reading-none, reading-more  none; one more
---   reading-no-line             the next line is none: the text is not in the form
+--   reading-below, reading-no-line, reading-over      a line is wanted; it is none; more stands behind the last
 --   reading-end, reading-refused     every line has been read; a line was refused
 use mathlib.Core.Path.{_≡_, refl, sym, ap, _∙_}
 use mathlib.Core.Logic.{_≢_}

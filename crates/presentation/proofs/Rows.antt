@@ -5,7 +5,7 @@
 --   NoLine, line-no-head, line-no-word      why no line of a pair stands somewhere
 --   rowText-nil, rowText-one     no rows; one row more
 --   rows-ahead, rows-whole       rows that stand before others are the first of them
---   formed-row                   what the form asks of a row
+--   formed-count, formed-p, formed-small, formed-row      what the form asks of a row
 use mathlib.Core.Path.{_≡_, refl, sym, ap, _∙_}
 use mathlib.Core.Bool.{true, _&&_}
 use mathlib.Core.List.{List, [], _∷_, _++_, flatMap, zipWith, append-assoc, append-nil}

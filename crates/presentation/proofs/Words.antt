@@ -4,6 +4,7 @@
 --   Going                     k exponents have been read
 --   going-none, going-more, going-past      none; one more, kept or not
 --   going-fails, going-stops, going-end     why a word is refused; a whole word
+--   going-as                  what is kept, said otherwise
 use mathlib.Core.Path.{_≡_, refl, sym, ap, subst, _∙_}
 use mathlib.Core.Logic.{_≢_}
 use mathlib.Core.Bool.{true, false, true≢false, false≢true}

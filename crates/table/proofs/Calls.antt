@@ -1,11 +1,12 @@
 -- Laws of the two calls.
 --
 --   writable-parts, writable-whole     what `writable` asks
---   says-form, form-says      a table text: its names line, and its words to the end
---   short, long               whether the words are room for the lines, by what `enough` answers
+--   says-starts, says-form, form-says  a table text: its names line, and its words to the end
+--   starts-within             a text that starts with the names line is as long as that
+--   Short, Long, short, long  whether the words are room for the lines, by what `enough` answers
+--   read-room, read-short, read-unstarted, read-unformed, read-done     the answers of the reader
 --   write-part, write-large, write-short, write-done     the answers of the writer
---   written-read, write-then-read, read-then-write      there and back
---   read-short, read-unstarted, read-unformed, read-room, read-done     the answers of the reader
+--   written-read, write-then-read, read-then-write       there and back
 use mathlib.Core.Path.{_≡_, refl, sym, ap, ap₂, _∙_}
 use mathlib.Core.Logic.{inl, inr}
 use mathlib.Core.Bool.{Bool, true, false, not, true≢false}

@@ -2,8 +2,8 @@
 --
 --   word-none, word-other, word-some     word k at a position
 --   Forming, forming-none, forming-more, forming-fails, forming-end     whether words stand to the end
---   Filling, filling-none, filling-known, filling-more, filling-end     storing them
---   counted-none, counted-more           bytes 10 up to a position
+--   Filling, filling-none, filling-length, filling-below, filling-known, filling-more, filling-end     storing them
+--   Counted, counted-none, counted-more, counted-all     bytes 10 up to a position
 --   enough-none, enough-some             room for the lines
 use mathlib.Core.Path.{_≡_, refl, sym, ap, ap₂, subst, _∙_}
 use mathlib.Core.Logic.{_≢_}

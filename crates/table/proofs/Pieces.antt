@@ -1,11 +1,11 @@
 -- Table text is its names line and its words one by one, each with its separator.
 --
 --   separator-last, separator-inner, separator-within    the byte behind a word
---   pieces-nil, pieces-cons, pieces-append, pieces-one   the clauses; two runs; one more word
---   pieces-ahead             words that stand before others are the first of them
---   rows-pieces, table-pieces, tableText-pieces          the same text by rows and by words
---   names, names-bytes       the names line
---   newlines-append, newlines-table     how many bytes 10 a table text has
+--   pieces-nil, pieces-cons, pieces-append, pieces-single, pieces-one   the clauses; two runs; one word, and one more
+--   Ahead, pieces-ahead      words that stand before others are the first of them
+--   Eights, rows-pieces, table-pieces, tableText-pieces  the same text by rows of eight and by words
+--   names, names-line        the bytes of the names line
+--   newlines-nil, newlines-cons, newlines-table     how many bytes 10 a table text has
 use mathlib.Core.Path.{_≡_, refl, sym, ap, ap₂, subst, _∙_}
 use mathlib.Core.Logic.{_≢_}
 use mathlib.Core.Bool.{cond}

@@ -1,9 +1,9 @@
 -- Laws of writing table text word by word.
 --
---   pieces-turn, pieces-front, turn-room     the first k words, and one more
+--   pieces-turn, pieces-front, turn-length, turn-room     the first k words, and one more
 --   small-none, small-more, small-all, small-fails     every word has at most nine digits
 --   Measured, measured-none, measured-more, measured-over, measured-all     the length of the text
---   written-none, written-room, written-byte, written-more, written-all     the words written
+--   Written, written-none, written-room, written-more, written-all     the words written
 use mathlib.Core.Path.{_≡_, refl, sym, ap, _∙_}
 use mathlib.Core.Bool.{Bool, true, false}
 use mathlib.Core.List.{List, [], _∷_, _++_, append-assoc}

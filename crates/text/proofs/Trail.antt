@@ -3,7 +3,7 @@
 --   fieldTrail-append, fieldTrail-one, line-trail     the same for fields; a line by its first field
 --   trail-nil, trail-cons, trail-one    the clauses; one more value
 --   valueLine-trail              a line of values: the first, the others, byte 10
---   ends-trail, ends-line        what stands behind a value in a line does not go on with a digit
+--   ends-byte, ends-trail        what stands behind a value in a line does not go on with a digit
 --   trail-ahead                  values that stand before others are the first of them
 --   all-one                      a test of every element, one more
 --   small-nil, small-one, small-at     values of at most nine digits
