@@ -20,7 +20,7 @@ ghost use Rattle.presentation.specs.Lines.{rowWidth, rowCount};
 ghost use Rattle.presentation.specs.Conditions.{product, entryWell, rowWells, pairWell, allWell, Primes};
 
 // The number of the pair (j, i).
-pub fn pair_number(j: usize, i: usize) -> usize
+fn pair_number(j: usize, i: usize) -> usize
     requires { ⌜ (j < rowWidth) × (i ≤ j) ⌝ }
     ensures { λ r. ⌜ (r ≡ pairNumber j i) × (r < rowCount) ⌝ }
 {
@@ -86,7 +86,7 @@ fn entry_well(e: u32, p: u32, j: usize, i: usize, k: usize) -> bool
 }
 
 // Whether the word of (j, i) is allowed.
-pub fn row_well(row: &Row, primes: &Row, n: usize, j: usize, i: usize) -> bool
+fn row_well(row: &Row, primes: &Row, n: usize, j: usize, i: usize) -> bool
     requires { ⌜ n ≤ rowWidth ⌝ }
     ensures { λ r. ⌜ r ≡ rowWells (now (row .entry)) (now (primes .entry)) n j i ⌝ }
 {

@@ -63,7 +63,7 @@ pub fn names(text: &[u8]) -> Read
 }
 
 // The p of the line of the pair (j, i), and the position behind it.
-pub fn head(text: &[u8], at: usize, j: u32, i: u32) -> Read
+fn head(text: &[u8], at: usize, j: u32, i: u32) -> Read
     requires { ⌜ (j < largest) × (i ≤ j) ⌝ }
     ensures { λ r. ⌜ HeadAt (now (text .entry)) at j i r ⌝ }
 {
@@ -90,7 +90,7 @@ pub struct Word {
 }
 
 // The n exponents behind the p of a line, and the end of the line.
-pub fn exponents(text: &[u8], at: usize, n: u32) -> Word
+fn exponents(text: &[u8], at: usize, n: u32) -> Word
     requires { ⌜ (at ≤ length (now text)) × Ends (drop at (now text)) ⌝ }
     ensures { λ r. ⌜ WordAt (now (text .entry)) at n r ⌝ }
 {
@@ -133,7 +133,7 @@ pub struct Pair {
 }
 
 // The pair with the next number.
-pub fn next_pair(j: u32, i: u32) -> Pair
+fn next_pair(j: u32, i: u32) -> Pair
     requires { ⌜ (j < largest) × (i ≤ j) ⌝ }
     ensures { λ r. ⌜ (pairNumber (r .j) (r .i) ≡ pairNumber j i + 1) × (r .i ≤ r .j) × (r .j ≤ j + 1) ⌝ }
 {
