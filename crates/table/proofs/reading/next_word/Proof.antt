@@ -29,15 +29,24 @@ separator-requires c κs = search needs
 
 returns-2 : tie.Need-returns-2
 returns-2 c =
-    word-other (c .before .before .before .before .before .before .before .before .args .k) (c .before .before .before .before .before .before .value .ensures .stands _ _ (c .before .before .before .before .v .given .1)) (λ q. c .if1 .taken (c .before .before .byte-at .ensures ∙ q ∙ sym (c .before .separator .ensures)))
+    let args = c .before .before .before .before .before .before .before .before .args in
+    let value = c .before .before .before .before .before .before .value in
+    let v = c .before .before .before .before .v in
+    let byte-at = c .before .before .byte-at in
+    word-other (args .k) (value .ensures .stands _ _ (v .given .1)) (λ q. c .if1 .taken (byte-at .ensures ∙ q ∙ sym (c .before .separator .ensures)))
 
 add-t10 : tie.Need-add-t10
 add-t10 c =
-    omega (arith, byte-within (c .before .before .before .before .before .before .before .before .args .text .now) (c .before .before .before .before .v .given .0 .1 .0) (omega (arith, separator-within (c .before .before .before .before .before .before .before .before .args .k) .0)))
+    let args = c .before .before .before .before .before .before .before .before .args in
+    let v = c .before .before .before .before .v in
+    omega (arith, byte-within (args .text .now) (v .given .0 .1 .0) (omega (arith, separator-within (args .k) .0)))
 
 returns-3 : tie.Need-returns-3
 returns-3 c =
-    word-some (c .before .before .before .before .before .before .before .before .args .k) (c .before .before .before .before .before .before .value .ensures .stands _ _ (c .before .before .before .before .v .given .1)) (omega arith) (byte-within (c .before .before .before .before .before .before .before .before .args .text .now) (c .before .before .before .before .v .given .0 .1 .0) (omega (arith, separator-within (c .before .before .before .before .before .before .before .before .args .k) .0)))
+    let args = c .before .before .before .before .before .before .before .before .args in
+    let value = c .before .before .before .before .before .before .value in
+    let v = c .before .before .before .before .v in
+    word-some (args .k) (value .ensures .stands _ _ (v .given .1)) (omega arith) (byte-within (args .text .now) (v .given .0 .1 .0) (omega (arith, separator-within (args .k) .0)))
 
 pub next-word-spec : {M : Type 1} → statement M
 next-word-spec =

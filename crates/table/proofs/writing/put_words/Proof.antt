@@ -41,7 +41,11 @@ loop-less c = omega arith
 
 loop-again : tie.Need-loop-again Inv-loop μ-loop
 loop-again c =
-    written-more (c .before .before .before .before .before .before .before .before .before .before .before .loop .inv) (omega arith) (c .before .before .before .separator .ensures) (c .before .before .before .before .before .before .before .put-value .ensures) (c .before .before .put-byte .ensures)
+    let loop = c .before .before .before .before .before .before .before .before .before .before .before .loop in
+    let put-value = c .before .before .before .before .before .before .before .put-value in
+    let separator = c .before .before .before .separator in
+    let put-byte = c .before .before .put-byte in
+    written-more (loop .inv) (omega arith) (separator .ensures) (put-value .ensures) (put-byte .ensures)
 
 same-length : tie.Need-same-length Inv-loop μ-loop
 same-length c = wrote-length (c .before .loop .inv .wrote)
