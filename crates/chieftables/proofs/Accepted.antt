@@ -82,14 +82,14 @@ module _ {t : Bytes} where
           decided : (r ≡ true → Consistent (presentation (passed .R))) × (Consistent (presentation (passed .R)) → r ≡ true)
           decided = decides-consistent (passed .R) (passed .said .formed) (passed .primes) (passed .used) _ _ _ held-words r decides
 
-          pub accepted-consistent : r ≡ true → Accepted t o
-          accepted-consistent e = record { answered = accept-consistent none-first (inr (allowed, zero-read)); held = read .held }
+          pub accepted-consistent : r ≡ true → Accepted t (record { status = 0; presentation = o .presentation })
+          accepted-consistent e = record { answered = accept-consistent none-first (inr (allowed, refl)); held = λ z. read .held zero-read }
             where
               allowed : ¬ says t (λ (R : Relations). ¬ Consistent (presentation R))
               allowed (Q, s, h) = h (subst (λ (R : Relations). Consistent (presentation R)) (says-unique t (passed .R) Q (passed .said) s) (decided .0 e))
 
-          pub accepted-inconsistent : r ≡ false → {refused : Outcome} → refused .status ≡ 15 → Accepted t refused
-          accepted-inconsistent e q = record {
-            answered = accept-consistent none-first (inl ((passed .R, passed .said, λ c. false≢true (sym e ∙ decided .1 c)), q));
+          pub accepted-inconsistent : r ≡ false → Accepted t (record { status = 15; presentation = o .presentation })
+          accepted-inconsistent e = record {
+            answered = accept-consistent none-first (inl ((passed .R, passed .said, λ c. false≢true (sym e ∙ decided .1 c)), refl));
             held = λ z. absurd (omega arith);
           }

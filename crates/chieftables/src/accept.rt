@@ -21,7 +21,10 @@ pub fn accepted(text: &[u8]) -> Outcome
     let primes = p.primes;
     let words = presentation::words_of(p);
     if collector::consistency::consistent(&primes, &words, n) {
-        return o;
+        return Outcome {
+            status: 0,
+            presentation: p,
+        };
     }
     Outcome {
         status: 15,

@@ -1,5 +1,5 @@
 -- `accept::accepted` meets its contract: the reader's answer, then that of the consistency test.
-use mathlib.Core.Path.{_≡_, refl}
+use mathlib.Core.Path.{_≡_}
 use native.Mathlib.Omega.{arith}
 use Rattle.chieftables.proofs.Accepted.{ready, accepted-refused, accepted-consistent, accepted-inconsistent}
 use borrow.Author.Needs.{needs}
@@ -31,7 +31,7 @@ returns-3 : tie.Need-returns-3
 returns-3 c =
     let z = c .before .before .before .before .before .before .before .before .read in
     let none : z .result .status ≡ 0 = omega arith in
-    accepted-inconsistent (z .ensures) none (c .before .before .before .before .words-of .ensures) (c .before .consistent .ensures) (c .if2 .left) refl
+    accepted-inconsistent (z .ensures) none (c .before .before .before .before .words-of .ensures) (c .before .consistent .ensures) (c .if2 .left)
 
 pub accepted-spec : {M : Type 1} → statement M
 accepted-spec =
