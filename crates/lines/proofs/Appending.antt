@@ -12,7 +12,8 @@ use mathlib.Core.List.{List, _++_}
 use lib.ListN.{length, take}
 use Rattle.definitions.specs.Lists.{blocks, sum}
 use Rattle.numbers.proofs.Lists.{length-blocks}
-use Rattle.numbers.proofs.Blocks.{sum-below, sum-ext-below, sum-const, blocks-zero, blocks-suc}
+use Rattle.numbers.proofs.Sums.{sum-below, sum-const, first-le}
+use Rattle.numbers.proofs.Blocks.{blocks-zero, blocks-suc}
 use Rattle.text.specs.Writing.{Wrote}
 use Rattle.text.proofs.Writing.{take-put, wrote-none, wrote-more, wrote-length, wrote-as}
 
@@ -41,9 +42,9 @@ module _ {low : ℕ} {f : ℕ → List ℕ} {w₀ : List ℕ} {at₀ : ℕ} wher
   pub going-room : {k : ℕ} {w : List ℕ} {at : ℕ} (n : ℕ) → Going low f w₀ at₀ k w at → k < n → 8 * at₀ + length (blocks n f) ≤ length w₀
       → 8 * at + length (f k) ≤ length w
   going-room {k} {w} {at} n p l r =
-      omega (arith, p .wrote .end, p .len, length-blocks n f, length-blocks k f, sum-below n (λ j. length (f j)) k l)
+      omega (arith, p .wrote .end, p .len, length-blocks n f, length-blocks k f, first-le (λ j. length (f j)) k n l)
 
   pub going-line : {k : ℕ} {w : List ℕ} {at : ℕ} (n : ℕ) → ((j : ℕ) → length (f j) ≡ 8) → Going low f w₀ at₀ k w at → k < n → 8 * at₀ + 8 * n ≤ length w₀
       → 8 * at + 8 ≤ length w
   going-line {k} {w} {at} n one p l r =
-      omega (arith, p .wrote .end, p .len, length-blocks k f, sum-ext-below k (λ j. length (f j)) (λ j. 8) (λ j h. one j), sum-const 8 k)
+      omega (arith, p .wrote .end, p .len, length-blocks k f, sum-below k (λ j. length (f j)) (λ j. 8) (λ j h. one j), sum-const k 8)

@@ -20,7 +20,7 @@ use Rattle.definitions.specs.Presentation.{toNF}
 use Rattle.definitions.specs.Monomial.{Matrix, entry, less, col, act}
 use Rattle.definitions.specs.Table.{wordAt}
 use Rattle.numbers.proofs.Lists.{iter-suc, iter-add, iter-zero}
-use Rattle.numbers.proofs.Blocks.{getD-map-upto}
+use Rattle.numbers.proofs.Blocks.{getD-table}
 use Rattle.formulas.specs.Formulas.{walk}
 use Rattle.text.specs.Writing.{put, Wrote}
 use Rattle.lines.specs.declared.Head.{Head}
@@ -49,7 +49,7 @@ less-above m a b h k =
 
 pub col-matrixIn : (W : List ℕ) (at d k : ℕ) → k < d → col (matrixIn W at d) k ≡ entryIn W (at + k)
 unfolding col
-col-matrixIn W at d k l = getD-map-upto d (λ c. entryIn W (at + c)) k (entry 0 0) l
+col-matrixIn W at d k l = getD-table (λ c. entryIn W (at + c)) d k (entry 0 0) l
 
 pub act-in : (m : ℕ) (W : List ℕ) (at d : ℕ) (x : Entry) → x .row < d
     → act m (matrixIn W at d) x ≡ entry (entryIn W (at + x .row) .row) ((entryIn W (at + x .row) .exp + x .exp) % m)
