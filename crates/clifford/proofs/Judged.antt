@@ -19,7 +19,7 @@ use Rattle.definitions.specs.Presentation.{NF, Presentation, Valid, order, Mul,
 use Rattle.definitions.specs.Monomial.{Matrix, entry, col, product, matrices, valid, sameMatrix, Rep, Level, repOf, image, conjugate}
 use Rattle.definitions.specs.Table.{levelAt}
 use Rattle.definitions.specs.Judgement
-use Rattle.numbers.proofs.Bools.{and-intro}
+use Rattle.numbers.proofs.Bools.{and-intro, or-left, or-right}
 use Rattle.numbers.proofs.Lists.{allBelow-intro, iter-suc}
 use Rattle.numbers.proofs.Sums.{term-le}
 use Rattle.group.specs.Context.{Context, Nf}
@@ -38,16 +38,9 @@ use Rattle.monomial.proofs.Residues.{residues, Residue-path}
 use Rattle.monomial.proofs.Frames.{shows-mul, shows-power, shows-value, shows-map, same-shown, shows-valid}
 use Rattle.monomial.proofs.Schur.{intertwiner-inverse, power-commutes, commuting-fixes, rep-power}
 use Rattle.clifford.specs.Stands.{frame, Stands}
+use Rattle.clifford.proofs.Agreement.{target-listed}
 
 -- ---- Tests of some normal form
-
-or-left : (a b : Bool) → a ≡ true → a || b ≡ true
-or-left true b h = refl
-or-left false b h = absurd (false≢true h)
-
-or-right : (a b : Bool) → b ≡ true → a || b ≡ true
-or-right true b h = refl
-or-right false b h = h
 
 any-left : {A : Type 0} (q : A → Bool) (xs ys : List A) → any q xs ≡ true → any q (xs ++ ys) ≡ true
 unfolding any
@@ -155,10 +148,8 @@ module _ (C : Context) (tests : (k : ℕ) → k < C .P .n → Test C k) (m : ℕ
 
   -- ---- 24
 
-  target-in : (j : ℕ) → i ≤ j → j < n → (r : ℕ) → r < length L → F .target j r < length L
-  target-in j a b r h =
-      let x : Ω = complete .find r 0 h (St .degree-pos r h) in
-      subst (λ z. z < length L) (F .leads j a b x ∙ ap (F .target j) (complete .find-rep r 0 h (St .degree-pos r h))) (complete .rep-below ((F .X j x) .0))
+  abbrev target-in : (j : ℕ) → i ≤ j → j < n → (r : ℕ) → r < length L → F .target j r < length L
+  target-in = target-listed C n m pos i L F St
 
   intertwines-holds : (r j : ℕ) → r < length L → i ≤ j → j < n → Judgement.intertwines P m table i (Rp r) j ≡ true
   unfolding Judgement.intertwines

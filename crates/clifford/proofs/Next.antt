@@ -30,6 +30,7 @@ use Rattle.group.proofs.Level.{level, conjNf}
 use Rattle.monomial.specs.Exponents.{Exponents, Residue}
 use Rattle.monomial.specs.Maps.{Map, maps}
 use Rattle.monomial.specs.Families.{Family}
+use Rattle.monomial.specs.Over.{At}
 use Rattle.monomial.proofs.Maps.{at-one}
 use Rattle.monomial.proofs.Residues.{residues, log}
 use Rattle.clifford.specs.Extension.{Extension}
@@ -232,9 +233,9 @@ module _ (R : Rung) where
       small x (no f) = omega (arith, number-moved R x f, T .context .two i)
 
       up : (j : ℕ) (ij : i < j) (jn : j < T .n) (x : Index R)
-          → Rattle.monomial.specs.Over.At (E R) (base R) (number R) (next-X j x) ((F .X j (base R x)) .0) (ν (S R) m pos F (ready R) j ij jn (rep R (base R x)) (number R x))
+          → At (E R) (base R) (number R) (next-X j x) ((F .X j (base R x)) .0) (ν (S R) m pos F (ready R) j ij jn (rep R (base R x)) (number R x))
           (E R .add ((F .X j (base R x)) .1) (c (S R) m pos F (ready R) j ij jn (rep R (base R x))))
-      up j ij jn x = subst (λ (f : Map (E R) (Index R)). Rattle.monomial.specs.Over.At (E R) (base R) (number R) (f x) ((F .X j (base R x)) .0) (ν (S R) m pos F (ready R) j ij jn (rep R (base R x)) (number R x))
+      up j ij jn x = subst (λ (f : Map (E R) (Index R)). At (E R) (base R) (number R) (f x) ((F .X j (base R x)) .0) (ν (S R) m pos F (ready R) j ij jn (rep R (base R x)) (number R x))
           (E R .add ((F .X j (base R x)) .1) (c (S R) m pos F (ready R) j ij jn (rep R (base R x)))))
           (sym (next-X-is j ij jn)) (unfold led in (record { is-base = refl; is-number = refl; is-exponent = refl }))
 
