@@ -1,0 +1,2 @@
+-- The decision of separation.
+pub mod Blocks

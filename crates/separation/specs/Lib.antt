@@ -1,0 +1,2 @@
+-- What the decision of separation needs.
+pub mod Blocked
