@@ -1,2 +1,3 @@
 -- The decision of separation.
 pub mod Blocks
+pub mod Foreign

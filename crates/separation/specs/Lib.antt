@@ -1,2 +1,3 @@
 -- What the decision of separation needs.
 pub mod Blocked
+pub mod Fair
