@@ -161,7 +161,7 @@ module _ (C : Context) (m : ℕ) (pos : 0 < m) (i : ℕ) (L : Level) (A : Fair (
   abbrev pub Ω : Type 0
   Ω = Index (C .P) m pos i L A
 
-  pub d : Nf C i → Map (residues m pos) (Index (C .P) m pos i L A)
+  unfoldable pub d : Nf C i → Map (residues m pos) (Index (C .P) m pos i L A)
   d x = word (C .P) m pos i L A i (x .0)
 
   model : Model (C .P) i (Map (residues m pos) Ω)

@@ -1,3 +1,5 @@
 -- The decision of separation.
 pub mod Blocks
 pub mod Foreign
+pub mod Cutting
+pub mod Restricted

@@ -1,3 +1,4 @@
 -- What the decision of separation needs.
 pub mod Blocked
 pub mod Fair
+pub mod Restricting
