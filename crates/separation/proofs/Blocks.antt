@@ -6,6 +6,7 @@
 --   step-block, power-block    the generator takes blocks to blocks
 --   power-home                 its p-th power takes every block to itself
 --   short-fixed                a power below the p-th that fixes a block: the generator fixes it
+--   fixed-back, fixed-power, powers-differ      powers and blocks that stay or move
 --   moved-together             at a block that moves nothing separates what has one base
 --   base-step, ratio-step      the generator keeps equal bases equal, and the difference of exponents
 --   fixed-separates            different exponents separate
@@ -115,6 +116,29 @@ module _ {G G⁺ : Type 0} {𝓖 : Mul G} {𝓖⁺ : Mul G⁺} {conj : ℕ → G
       let z : e · e′ ≡ 1 + p · s = omega (arith, r) in
       ap (λ (M : Map 𝓔 Ω⁺). block ((M x) .0)) (sym (power-one (maps-laws 𝓔) Z))
       ∙ sym (power-block 1 _ x (again p s x (power-home x))) ∙ ap block (sym (power-more 1 (p · s) x)) ∙ ap (λ k. block ((Zᵏ k x) .0)) (sym z) ∙ again e e′ x q
+
+  -- where a power leads to a block that stays, the block stayed
+  pub fixed-back : (e : ℕ) → e ≤ p → (x : Ω⁺) → block ((Z ((Zᵏ e x) .0)) .0) ≡ block ((Zᵏ e x) .0) → block ((Z x) .0) ≡ block x
+  fixed-back e a x q =
+      let y : Ω⁺ = (Zᵏ e x) .0 in
+      let z : p - e + e ≡ p = omega arith in
+      let o : 1 · (p - e) ≡ p - e = omega arith in
+      let once : block ((Zᵏ 1 y) .0) ≡ block y = ap (λ (M : Map 𝓔 Ω⁺). block ((M y) .0)) (power-one (maps-laws 𝓔) Z) ∙ q in
+      let stays : block ((Zᵏ (p - e) y) .0) ≡ block y = ap (λ k. block ((Zᵏ k y) .0)) (sym o) ∙ again 1 (p - e) y once in
+      let same : block x ≡ block y = sym (power-home x) ∙ ap (λ k. block ((Zᵏ k x) .0)) (sym z) ∙ ap block (power-more (p - e) e x) ∙ stays in
+      step-block x y same ∙ q ∙ sym same
+
+  -- the powers below the p-th take a block that moves to different blocks
+  pub powers-differ : (x : Ω⁺) → ¬ (block ((Z x) .0) ≡ block x) → (e e′ : ℕ) → e < e′ → e′ < p → block ((Zᵏ e x) .0) ≡ block ((Zᵏ e′ x) .0) → ⊥
+  powers-differ x mv e e′ a b q =
+      let z : e′ - e + e ≡ e′ = omega arith in
+      mv (fixed-back e (omega arith) x (short-fixed (e′ - e) (omega arith) (omega arith) ((Zᵏ e x) .0) (ap block (sym (power-more (e′ - e) e x)) ∙ ap (λ k. block ((Zᵏ k x) .0)) z ∙ sym q)))
+
+  -- a block that stays, stays under every power
+  pub fixed-power : (x : Ω⁺) → block ((Z x) .0) ≡ block x → (e : ℕ) → block ((Zᵏ e x) .0) ≡ block x
+  fixed-power x q e =
+      let o : 1 · e ≡ e = omega arith in
+      ap (λ k. block ((Zᵏ k x) .0)) (sym o) ∙ again 1 e x (ap (λ (M : Map 𝓔 Ω⁺). block ((M x) .0)) (power-one (maps-laws 𝓔) Z) ∙ q)
 
   -- ---- A block that moves
 

@@ -4,6 +4,7 @@
 --   cut-sum                  the blocks lie one behind the other
 --   Cut, cut-at              the block of a column, and what every cut passes
 --   cuts-end                 the last block ends with the columns; how many blocks there are
+--   cut-below, cuts-each, cuts-all      blocks by their number
 use mathlib.Core.Path.{_≡_, refl, sym, _∙_, ap, ap₂, subst}
 use mathlib.Core.Bool.{Bool, true, false, _&&_, cond}
 use mathlib.Core.List.{List, [], _∷_}
@@ -16,7 +17,7 @@ use borrow.Author.Tests.{ltb-true, leb-true}
 use Rattle.definitions.specs.Lists.{sum, allBelow, all}
 use Rattle.definitions.specs.Monomial.{Rep, Level, repOf}
 use Rattle.definitions.specs.Judgement
-use Rattle.numbers.proofs.Bools.{and-left, and-right, cond-lt, cond-ge}
+use Rattle.numbers.proofs.Bools.{and-left, and-right, and-intro, cond-lt, cond-ge}
 use Rattle.numbers.proofs.Sums.{sum-zero, sum-suc, stretch-one, first-le}
 
 module _ (low : Level) (D : Rep) where
@@ -108,3 +109,66 @@ module _ (low : Level) (D : Rep) where
           let z : (k : ℕ) → k ≡ 0 + k = λ k. omega arith in
           ap cut (z _) ∙ ap (λ o. cut (0 + length (Judgement.cutsFrom low D (D .deg) o))) (sym cut-zero)
           ∙ ends (D .deg) 0 (ap (λ o. all q (Judgement.cutsFrom low D (D .deg) o)) cut-zero ∙ h) (omega (arith, cut-zero)) (omega (arith, cut-zero))
+
+  -- ---- Blocks by their number
+
+  counted : (f b k : ℕ) → k < length (Judgement.cutsFrom low D f (cut b)) → cut (b + k) < D .deg
+  counted zero b k l = absurd (none l)
+    where
+      none : k < length (Judgement.cutsFrom low D 0 (cut b)) → ⊥
+      none l = unfold Judgement.cutsFrom in (omega arith)
+  counted (suc f) b k l = go (decLt (cut b) (D .deg)) k l (counted f (suc b))
+    where
+      go : Dec (cut b < D .deg) → (k : ℕ) → k < length (Judgement.cutsFrom low D (suc f) (cut b)) → ((k : ℕ) → k < length (Judgement.cutsFrom low D f (cut (suc b))) → cut (suc b + k) < D .deg) → cut (b + k) < D .deg
+      go (yes s) zero l rec = let z : b + 0 ≡ b = omega arith in subst (λ k. cut k < D .deg) (sym z) s
+      go (yes s) (suc k) l rec =
+          let z : b + suc k ≡ suc b + k = omega arith in
+          let m : suc k < suc (length (Judgement.cutsFrom low D f (cut (suc b)))) = subst (λ xs. suc k < length xs) (from f b s) l in
+          subst (λ k. cut k < D .deg) (sym z) (rec k (omega arith))
+      go (no s) k l rec = let m : k < 0 = subst (λ xs. k < length xs) (from-end (suc f) b (omega arith)) l in absurd (omega arith)
+
+  -- a block begins within the columns
+  pub cut-below : (b : ℕ) → b < length (Judgement.cuts low D) → cut b < D .deg
+  unfolding Judgement.cuts
+  cut-below b l =
+      let z : 0 + b ≡ b = omega arith in
+      subst (λ k. cut k < D .deg) z (counted (D .deg) 0 b (subst (λ o. b < length (Judgement.cutsFrom low D (D .deg) o)) (sym cut-zero) l))
+
+  each : (q : ℕ → Bool) → ((o : ℕ) → q o ≡ true → 0 < repOf low (D .ref 0 o) .deg) → (f b : ℕ) → all q (Judgement.cutsFrom low D f (cut b)) ≡ true → D .deg ≤ cut b + f → (b′ : ℕ) → b ≤ b′ → cut b′ < D .deg → q (cut b′) ≡ true
+  each q pos zero b h e b′ a l = absurd (omega (arith, mono b b′ a))
+    where
+      mono : (b b′ : ℕ) → b ≤ b′ → cut b ≤ cut b′
+      mono b b′ a = go (decLt b b′)
+        where
+          go : Dec (b < b′) → cut b ≤ cut b′
+          go (yes s) = omega (arith, cut-le b b′ s)
+          go (no s) = let z : b ≡ b′ = omega arith in subst (λ k. cut b ≤ cut k) z (omega arith)
+  each q pos (suc f) b h e b′ a l = go (decLt b b′) (each q pos f (suc b))
+    where
+      mono : (b b′ : ℕ) → b < b′ → cut b ≤ cut b′
+      mono b b′ s = omega (arith, cut-le b b′ s)
+
+      here : cut b < D .deg → (q (cut b) ≡ true) × (all q (Judgement.cutsFrom low D f (cut (suc b))) ≡ true)
+      here s = all-cons q (cut b) (Judgement.cutsFrom low D f (cut (suc b))) (ap (all q) (sym (from f b s)) ∙ h)
+
+      go : Dec (b < b′) → (all q (Judgement.cutsFrom low D f (cut (suc b))) ≡ true → D .deg ≤ cut (suc b) + f → (b′ : ℕ) → suc b ≤ b′ → cut b′ < D .deg → q (cut b′) ≡ true) → q (cut b′) ≡ true
+      go (yes s) rec = let (x, y) = here (omega (arith, mono b b′ s)) in rec y (omega (arith, cut-suc b, pos (cut b) x)) b′ s l
+      go (no s) rec = let z : b ≡ b′ = omega arith in subst (λ k. q (cut k) ≡ true) z (here (subst (λ k. cut k < D .deg) (sym z) l) .0)
+
+  -- what every cut passes, block b passes
+  pub cuts-each : (q : ℕ → Bool) → ((o : ℕ) → q o ≡ true → 0 < repOf low (D .ref 0 o) .deg) → all q (Judgement.cuts low D) ≡ true → (b : ℕ) → cut b < D .deg → q (cut b) ≡ true
+  unfolding Judgement.cuts
+  cuts-each q pos h b l = each q pos (D .deg) 0 (ap (λ o. all q (Judgement.cutsFrom low D (D .deg) o)) cut-zero ∙ h) (omega (arith, cut-zero)) b (omega arith) l
+
+  every : (q : ℕ → Bool) → ((b : ℕ) → cut b < D .deg → q (cut b) ≡ true) → (f b : ℕ) → all q (Judgement.cutsFrom low D f (cut b)) ≡ true
+  every q h zero b = unfold Judgement.cutsFrom all in refl
+  every q h (suc f) b = go (decLt (cut b) (D .deg)) (every q h f (suc b))
+    where
+      go : Dec (cut b < D .deg) → all q (Judgement.cutsFrom low D f (cut (suc b))) ≡ true → all q (Judgement.cutsFrom low D (suc f) (cut b)) ≡ true
+      go (yes s) rec = ap (all q) (from f b s) ∙ unfold all in (and-intro (q (cut b)) (all q (Judgement.cutsFrom low D f (cut (suc b)))) (h b s) rec)
+      go (no s) rec = ap (all q) (from-end (suc f) b (omega arith)) ∙ unfold all in refl
+
+  -- what every block passes, every cut passes
+  pub cuts-all : (q : ℕ → Bool) → ((b : ℕ) → cut b < D .deg → q (cut b) ≡ true) → all q (Judgement.cuts low D) ≡ true
+  unfolding Judgement.cuts
+  cuts-all q h = ap (λ o. all q (Judgement.cutsFrom low D (D .deg) o)) (sym cut-zero) ∙ every q h (D .deg) 0
