@@ -2,3 +2,4 @@
 pub mod Blocked
 pub mod Fair
 pub mod Restricting
+pub mod Decision
