@@ -3,3 +3,5 @@ pub mod Blocks
 pub mod Foreign
 pub mod Cutting
 pub mod Restricted
+pub mod Numbers
+pub mod Decision

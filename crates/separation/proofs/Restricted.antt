@@ -92,7 +92,7 @@ module _ (W : Two) where
   unfoldable pub passing : ℕ → ℕ → Bool
   passing r o = Judgement.wholeBlock Low (Rp r) o && Judgement.blockRestricts P m table i (Rp r) o
 
-  all-both : (q q′ : ℕ → Bool) (xs : List ℕ) → all q xs ≡ true → all q′ xs ≡ true → all (λ x. q x && q′ x) xs ≡ true
+  pub all-both : (q q′ : ℕ → Bool) (xs : List ℕ) → all q xs ≡ true → all q′ xs ≡ true → all (λ x. q x && q′ x) xs ≡ true
   unfolding all
   all-both q q′ [] h k = refl
   all-both q q′ (x ∷ xs) h k = and-intro _ _ (and-intro _ _ (and-left (q x) (all q xs) h) (and-left (q′ x) (all q′ xs) k)) (all-both q q′ xs (and-right (q x) (all q xs) h) (and-right (q′ x) (all q′ xs) k))
