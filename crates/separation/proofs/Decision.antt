@@ -6,6 +6,7 @@
 use mathlib.Core.Path.{_≡_, refl, sym, _∙_, ap, ap₂, subst}
 use mathlib.Core.Bool.{Bool, true, false, _&&_, _||_, not, cond}
 use mathlib.Core.List.{List}
+use mathlib.Core.Logic.{_↔_}
 use Prim.Native.Nat.{ℕ, zero, suc, _+_, _-_, _≤_, _<_}
 use native.Mathlib.Omega.{arith}
 use native.Mathlib.Decide.{decLt, ℕ-discrete}
@@ -211,3 +212,133 @@ module _ (W : Two) where
 
     pub quick-separates : (r : ℕ) → r < length (High W) → Judgement.separates (W .C .P) (W .m) (W .table) (suc (W .i)) r ≡ true
     quick-separates r h = separates-intro C m pos table (suc i) fair r h (λ k a. all-reached r k h a) all-separated
+
+  -- ---- 25 gives the quick test
+
+  module _ (sep : (r : ℕ) → r < length (High W) → Judgement.separates (W .C .P) (W .m) (W .table) (suc (W .i)) r ≡ true) where
+    reach : (x y : Ω⁺ W) → x .0 .0 ≡ y .0 .0 → (w : Nf C (suc i)) × ((act w x) .0 ≡ y)
+    reach = reached C tests m pos table (suc i) in-range fair sep
+
+    apart : (x y : Ω⁺ W) → ¬ (x ≡ y) → Sep x y
+    apart = separated C tests m pos table (suc i) in-range fair sep
+
+    -- every block is that of a power below the p-th
+    power-of : (x y : Ω⁺ W) → x .0 .0 ≡ y .0 .0 → (e : ℕ) × (e < P W .p i) × (block W ((Gᵏ W e x) .0) ≡ block W y)
+    power-of x y q =
+        let (w, s) = reach x y q in
+        (w .0 .0, w .1 .0, B.reached-power (S W) (F W) (blocked W) w x ∙ ap (block W) s)
+
+    -- the first block stays: there is one block
+    stays-single : (r : ℕ) (h : r < lenH) → Stays W (first-index W r h) → count W r ≡ 1
+    stays-single r h st = go (decLt 1 (count W r))
+      where
+        x : Ω⁺ W
+        x = first-index W r h
+
+        go : Dec (1 < count W r) → count W r ≡ 1
+        go (yes l) =
+            let y : Ω⁺ W = at-block W r 1 h l in
+            let (e, a, s) = power-of x y refl in
+            let same : block W x ≡ block W y = sym (B.fixed-power (S W) (F W) (blocked W) x st e) ∙ s in
+            let z : place W x .b ≡ 1 = ap (λ z. z .1) same ∙ at-place W r 1 h l .0 in
+            absurd (omega (arith, first-place W r h .0))
+        go (no l) = omega (arith, count-pos W r h)
+
+    -- the first block moves: every block moves, and there are p
+    moves-all : (r : ℕ) (h : r < lenH) → ¬ Stays W (first-index W r h) → (y : Ω⁺ W) → y .0 .0 ≡ r → ¬ Stays W y
+    moves-all r h mv y q st =
+        let x : Ω⁺ W = first-index W r h in
+        let (e, a, s) = power-of x y (sym q) in
+        let z : Ω⁺ W = (Gᵏ W e x) .0 in
+        mv (B.fixed-back (S W) (F W) (blocked W) e (omega arith) x (B.step-block (S W) (F W) (blocked W) z y s ∙ st ∙ sym s))
+
+    moves-count : (r : ℕ) (h : r < lenH) → ¬ Stays W (first-index W r h) → count W r ≡ P W .p i
+    moves-count r h mv =
+        let a : P W .p i ≤ count W r = injects-le (P W .p i) (count W r) _ (powers-inject W r h mv) in
+        let b : count W r ≤ P W .p i = injects-le (count W r) (P W .p i) (back r h) (record {
+          below = λ k l. back-below r h k l (decLt k (count W r));
+          injective = λ j k l l′ q. sym (back-is r h j l (decLt j (count W r))) ∙ ap (λ e. place W ((Gᵏ W e (first-index W r h)) .0) .b) q ∙ back-is r h k l′ (decLt k (count W r));
+        }) in
+        omega arith
+      where
+        -- a power that leads to block k
+        backAt : (r : ℕ) (h : r < lenH) (k : ℕ) → Dec (k < count W r) → ℕ
+        backAt r h k (yes l) = power-of (first-index W r h) (at-block W r k h l) refl .0
+        backAt r h k (no l) = 0
+
+        back : (r : ℕ) (h : r < lenH) → ℕ → ℕ
+        back r h k = backAt r h k (decLt k (count W r))
+
+        back-below : (r : ℕ) (h : r < lenH) (k : ℕ) → k < count W r → (d : Dec (k < count W r)) → backAt r h k d < P W .p i
+        back-below r h k l (yes a) = power-of (first-index W r h) (at-block W r k h a) refl .1
+        back-below r h k l (no a) = absurd (a l)
+
+        back-is : (r : ℕ) (h : r < lenH) (k : ℕ) → k < count W r → (d : Dec (k < count W r)) → place W ((Gᵏ W (backAt r h k d) (first-index W r h)) .0) .b ≡ k
+        back-is r h k l (yes a) = ap (λ z. z .1) (power-of (first-index W r h) (at-block W r k h a) refl .2) ∙ at-place W r k h a .0
+        back-is r h k l (no a) = absurd (a l)
+
+    -- first basis indices of blocks with one reference have one base
+    block-base : (r b r′ b′ : ℕ) (h : r < lenH) (l : b < count W r) (h′ : r′ < lenH) (l′ : b′ < count W r′) → ref r (cut (Low W) (Rp W r) b) ≡ ref r′ (cut (Low W) (Rp W r′) b′)
+        → base W (at-block W r b h l) ≡ base W (at-block W r′ b′ h′ l′)
+    block-base r b r′ b′ h l h′ l′ q =
+        let x : Ω⁺ W = at-block W r b h l in
+        let y : Ω⁺ W = at-block W r′ b′ h′ l′ in
+        base-path x y
+        (base-ref x ∙ ap (λ k. ref r (cut (Low W) (Rp W r) k)) (at-place W r b h l .0) ∙ q ∙ sym (base-ref y ∙ ap (λ k. ref r′ (cut (Low W) (Rp W r′) k)) (at-place W r′ b′ h′ l′ .0)))
+        (base-column x ∙ at-place W r b h l .1 ∙ sym (base-column y ∙ at-place W r′ b′ h′ l′ .1))
+
+    moves-unshared : (r : ℕ) (h : r < lenH) → ¬ Stays W (first-index W r h) → (r′ : ℕ) → r′ < lenH → unshared (P W) table i r r′ ≡ true
+    unfolding unshared
+    moves-unshared r h mv r′ h′ =
+        cuts-all (Low W) (Rp W r) _ (λ b a. cuts-all (Low W) (Rp W r′) _ (λ b′ a′. each b b′ (begins-below W r b h a) (begins-below W r′ b′ h′ a′) (ℕ-discrete r r′) (ℕ-discrete (cut (Low W) (Rp W r) b) (cut (Low W) (Rp W r′) b′))))
+      where
+        other : (b b′ : ℕ) (l : b < count W r) (l′ : b′ < count W r′) → ¬ ((r ≡ r′) × (cut (Low W) (Rp W r) b ≡ cut (Low W) (Rp W r′) b′)) → ¬ (ref r (cut (Low W) (Rp W r) b) ≡ ref r′ (cut (Low W) (Rp W r′) b′))
+        other b b′ l l′ ne q =
+            let x : Ω⁺ W = at-block W r b h l in
+            let y : Ω⁺ W = at-block W r′ b′ h′ l′ in
+            B.moved-together (S W) (F W) (blocked W) x y (block-base r b r′ b′ h l h′ l′ q) (moves-all r h mv x refl) (apart x y (λ e. ne (ap (λ z. z .0 .0) e, ap (λ z. z .0 .1) e)))
+
+        each : (b b′ : ℕ) → b < count W r → b′ < count W r′ → Dec (r ≡ r′) → Dec (cut (Low W) (Rp W r) b ≡ cut (Low W) (Rp W r′) b′)
+            → (eqb r r′ && eqb (cut (Low W) (Rp W r) b) (cut (Low W) (Rp W r′) b′)) || not (eqb (ref r (cut (Low W) (Rp W r) b)) (ref r′ (cut (Low W) (Rp W r′) b′))) ≡ true
+        each b b′ l l′ (yes p) (yes q) = or-left (eqb r r′ && eqb (cut (Low W) (Rp W r) b) (cut (Low W) (Rp W r′) b′)) _ (and-intro _ _ (eq-eqb r r′ p) (eq-eqb _ _ q))
+        each b b′ l l′ (yes p) (no q) = or-right (eqb r r′ && eqb (cut (Low W) (Rp W r) b) (cut (Low W) (Rp W r′) b′)) _ (ap not (ne-eqb _ _ (other b b′ l l′ (λ u. q (u .1)))))
+        each b b′ l l′ (no p) d = or-right (eqb r r′ && eqb (cut (Low W) (Rp W r) b) (cut (Low W) (Rp W r′) b′)) _ (ap not (ne-eqb _ _ (other b b′ l l′ (λ u. p (u .0)))))
+
+    -- two of one block with one reference differ in the exponent of the generator
+    singles-differ : (r r′ : ℕ) (h : r < lenH) (h′ : r′ < lenH) → ¬ (r ≡ r′) → count W r ≡ 1 → count W r′ ≡ 1 → ref r 0 ≡ ref r′ 0 → ¬ (col (Rp W r .matrix i) 0 .exp ≡ col (Rp W r′ .matrix i) 0 .exp)
+    singles-differ r r′ h h′ ne e e′ q s =
+        let x : Ω⁺ W = first-index W r h in
+        let y : Ω⁺ W = first-index W r′ h′ in
+        let only : (r : ℕ) (h : r < lenH) → base W (first-index W r h) .0 .0 ≡ ref r 0
+        = λ r h. base-ref (first-index W r h) ∙ ap (ref r) (ap (cut (Low W) (Rp W r)) (first-place W r h .0) ∙ cut-zero (Low W) (Rp W r)) in
+        let bases : base W x ≡ base W y = base-path x y (only r h ∙ q ∙ sym (only r′ h′)) (base-column x ∙ first-place W r h .1 ∙ sym (base-column y ∙ first-place W r′ h′ .1)) in
+        B.fixed-together (S W) (F W) (blocked W) x y bases (single-stays x e) (single-stays y e′) (Residue-path m _ _ (sym (G-exp W r h) ∙ s ∙ G-exp W r′ h′)) (apart x y (λ z. ne (ap (λ z. z .0 .0) z)))
+
+    parted-holds : (r : ℕ) → r < lenH → parted (P W) table i r ≡ true
+    unfolding parted differs
+    parted-holds r h = go (stays? W (first-index W r h))
+      where
+        differ-or : (r′ : ℕ) → r′ < lenH → count W r ≡ 1 → Dec (r ≡ r′) → Dec (count W r′ ≡ 1) → Dec (ref r 0 ≡ ref r′ 0)
+            → eqb r r′ || not (eqb (count W r′) 1) || (not (eqb (ref r 0) (ref r′ 0)) || not (eqb (col (Rp W r .matrix i) 0 .exp) (col (Rp W r′ .matrix i) 0 .exp))) ≡ true
+        differ-or r′ h′ e (yes p) b c = or-left (eqb r r′ || not (eqb (count W r′) 1)) _ (or-left (eqb r r′) _ (eq-eqb r r′ p))
+        differ-or r′ h′ e (no p) (no b) c = or-left (eqb r r′ || not (eqb (count W r′) 1)) _ (or-right (eqb r r′) _ (ap not (ne-eqb _ _ b)))
+        differ-or r′ h′ e (no p) (yes b) (no c) = or-right (eqb r r′ || not (eqb (count W r′) 1)) _ (or-left (not (eqb (ref r 0) (ref r′ 0))) _ (ap not (ne-eqb _ _ c)))
+        differ-or r′ h′ e (no p) (yes b) (yes c) =
+            or-right (eqb r r′ || not (eqb (count W r′) 1)) _ (or-right (not (eqb (ref r 0) (ref r′ 0))) _ (ap not (ne-eqb _ _ (singles-differ r r′ h h′ p e b c))))
+
+        go : Dec (Stays W (first-index W r h)) → parted (P W) table i r ≡ true
+        go (yes st) =
+            let e : count W r ≡ 1 = stays-single r h st in
+            cond-eq (count W r) 1 _ _ e ∙ allBelow-intro lenH _ (λ r′ h′. differ-or r′ h′ e (ℕ-discrete r r′) (ℕ-discrete (count W r′) 1) (ℕ-discrete (ref r 0) (ref r′ 0)))
+        go (no mv) =
+            let c : count W r ≡ P W .p i = moves-count r h mv in
+            cond-ne (count W r) 1 _ _ (λ z. omega (arith, C .two i))
+            ∙ and-intro _ _ (and-intro _ _ (eq-eqb _ _ c) (moves-outside W r h mv)) (allBelow-intro lenH _ (λ r′ h′. moves-unshared r h mv r′ h′))
+
+    pub separates-quick : quick (W .C .P) (W .table) (W .i) ≡ true
+    unfolding quick
+    separates-quick = allBelow-intro lenH _ parted-holds
+
+  -- the quick test decides 25
+  pub decides : (allBelow (length (High W)) (Judgement.separates (W .C .P) (W .m) (W .table) (suc (W .i))) ≡ true) ↔ (quick (W .C .P) (W .table) (W .i) ≡ true)
+  decides = (λ t. separates-quick (λ r h. allBelow-elim (length (High W)) _ t r h), λ t. allBelow-intro (length (High W)) _ (λ r h. quick-separates t r h))
