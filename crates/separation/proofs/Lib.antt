@@ -5,3 +5,4 @@ pub mod Cutting
 pub mod Restricted
 pub mod Numbers
 pub mod Decision
+pub mod Walk
