@@ -1,7 +1,7 @@
 -- A level that agrees with one that stands, stands too, and is cut into the same blocks.
 --
---   target-listed        an intertwiner of a level that stands leads to a listed representation
---   agree-stands         what stands is told by the lines alone
+--   target-listed        an intertwiner of a level that stands maps to a listed representation
+--   agree-stands         what stands is in the lines alone
 --   agree-restricts      and so are the blocks
 --   agree-words          levels that agree have the same lines
 use mathlib.Core.Path.{_≡_, refl, sym, _∙_, ap, ap₂, subst}
@@ -30,7 +30,7 @@ pub target-listed : (C : Context) (n m : ℕ) (pos : 0 < m) (i : ℕ) (L : Level
     → (j : ℕ) → i ≤ j → j < n → (r : ℕ) → r < length L → F .target j r < length L
 target-listed C n m pos i L {Ω} F St j a b r h =
     let x : Ω = St .complete .find r 0 h (St .degree-pos r h) in
-    subst (λ z. z < length L) (F .leads j a b x ∙ ap (F .target j) (St .complete .find-rep r 0 h (St .degree-pos r h))) (St .complete .rep-below ((F .X j x) .0))
+    subst (λ z. z < length L) (F .maps-to j a b x ∙ ap (F .target j) (St .complete .find-rep r 0 h (St .degree-pos r h))) (St .complete .rep-below ((F .X j x) .0))
 
 module _ (C : Context) (n m : ℕ) (pos : 0 < m) (i : ℕ) (l : i ≤ n) (L M : Level) (A : Agrees n L M) {Ω : Type 0} (F : Family (residues m pos) Ω (level C i) (conjNf C i) i n)
     (St : Stands C n m pos i L F) where
@@ -51,7 +51,7 @@ module _ (C : Context) (n m : ℕ) (pos : 0 < m) (i : ℕ) (l : i ≤ n) (L M : 
   agree-shows : (r s g : ℕ) (B : Map (residues m pos) Ω) → r < length L → g < n → Shows m (frame L (F .rep) column (St .column-below)) r s (repOf L r .matrix g) B → Shows m ΦM r s (repOf M r .matrix g) B
   agree-shows r s g B h a sh = record {
     size = A .size r g h a;
-    leads = sh .leads;
+    maps-to = sh .maps-to;
     shown = λ x e. sym (A .same-column r g (column x) h a (subst (λ z. column x < repOf L z .deg) e (St .column-below x))) ∙ sh .shown x e;
   }
 

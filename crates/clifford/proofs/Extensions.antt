@@ -39,7 +39,7 @@ use Rattle.monomial.proofs.Residues.{residues, Residue-path, add-value, times-v
 use Rattle.monomial.proofs.Frames.{shows-mul, shows-power, shows-value, shows-map, shows-on, shows-scale, same-shown, shown-same}
 use Rattle.clifford.specs.Stands.{frame, Stands, Rung}
 use Rattle.clifford.proofs.Numbering.{P, p, N, deg, rep, τ, S, ready, O, rep-below, firstOf-rep, firstOf-column, target-same}
-use Rattle.clifford.proofs.Defect.{defect, defect-eq, X-leads}
+use Rattle.clifford.proofs.Defect.{defect, defect-eq, X-maps}
 use Rattle.clifford.proofs.Top.{Normed, Y, Y-at, raised, raised-hom, raised-low, raised-top, φ, q, q-eq, fixed-stays}
 use Rattle.clifford.proofs.Step.{Roots, numbered, numbered-zero, Y-numbered-at}
 use Rattle.clifford.proofs.Scalars.{Ready, parts, normed, roots, σ, σ-fixed, q̂, q-first, log-q}
@@ -166,7 +166,7 @@ module _ (R : Rung) where
     literal-target = ap (λ t. t r) (target-same R j)
 
     tr-below : tr < N R
-    tr-below = subst (λ s. s < N R) (F .leads j (omega arith) jn (first r) ∙ ap (F .target j) (first-rep r h)) (rep-below R ((F .X j (first r)) .0))
+    tr-below = subst (λ s. s < N R) (F .maps-to j (omega arith) jn (first r) ∙ ap (F .target j) (first-rep r h)) (rep-below R ((F .X j (first r)) .0))
 
     tr-fixed : τ R tr ≡ tr
     tr-fixed = subst (λ s. τ R (F .target j s) ≡ F .target j s) (first-rep r h) (fixed-stays (S R) F 𝓢 j ij jn (first r) (subst (λ s. τ R s ≡ s) (sym (first-rep r h)) f))

@@ -62,7 +62,7 @@ module _ (G : Setting) where
     rep = λ a. 0;
     target = λ j r. repOf levelZero r .ref j 0;
     inside = λ x a. refl;
-    leads = λ j a b x. zero-ref j;
+    maps-to = λ j a b x. zero-ref j;
     reached = λ a b q. (level (T .context) 0 .one, Unit-prop _ _);
     separated = λ a b ne. absurd (ne (Unit-prop a b));
   }

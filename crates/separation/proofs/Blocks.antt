@@ -8,7 +8,7 @@
 --   short-fixed                a power below the p-th that fixes a block: the generator fixes it
 --   fixed-back, fixed-power, powers-differ      powers and blocks that stay or move
 --   moved-together             at a block that moves nothing separates what has one base
---   base-step, ratio-step      the generator keeps equal bases equal, and the difference of exponents
+--   base-step, ratio-step      the generator fixes the equality of bases, and the difference of exponents
 --   fixed-separates            different exponents separate
 --   fixed-together             equal exponents do not
 --   reaches, reached-power     a basis index is reached exactly if a power of the generator reaches its block
@@ -117,7 +117,7 @@ module _ {G G⁺ : Type 0} {𝓖 : Mul G} {𝓖⁺ : Mul G⁺} {conj : ℕ → G
       ap (λ (M : Map 𝓔 Ω⁺). block ((M x) .0)) (sym (power-one (maps-laws 𝓔) Z))
       ∙ sym (power-block 1 _ x (again p s x (power-home x))) ∙ ap block (sym (power-more 1 (p · s) x)) ∙ ap (λ k. block ((Zᵏ k x) .0)) (sym z) ∙ again e e′ x q
 
-  -- where a power leads to a block that stays, the block stayed
+  -- where a power maps to a block that stays, the block stayed
   pub fixed-back : (e : ℕ) → e ≤ p → (x : Ω⁺) → block ((Z ((Zᵏ e x) .0)) .0) ≡ block ((Zᵏ e x) .0) → block ((Z x) .0) ≡ block x
   fixed-back e a x q =
       let y : Ω⁺ = (Zᵏ e x) .0 in

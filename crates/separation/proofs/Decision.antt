@@ -29,9 +29,9 @@ use Rattle.monomial.proofs.Residues.{residues, Residue-path}
 use Rattle.separation.specs.Decision.{blockCount, blockStarts, reference, outside, unshared, differs, parted, quick}
 use Rattle.separation.proofs.Foreign.{Index, Index-path, d, reached, separated, separates-intro}
 use Rattle.separation.proofs.Cutting.{cut, cut-zero, cut-one, width, Cut, cuts-each, cuts-all}
-use Rattle.separation.proofs.Restricted.{Two, P, Low, High, Rp, S, Ω, Ω⁺, F, passing, all-both, all-pass, wide, place, place-is, base, blocked, block-known}
+use Rattle.separation.proofs.Restricted.{Two, P, Low, High, Rp, S, Ω, Ω⁺, F, passing, all-both, all-pass, wide, locate, locate-is, base, blocked, block-known}
 use Rattle.separation.proofs.Blocks as B
-use Rattle.separation.proofs.Numbers.{count, count-end, starts, passes-at, begins-below, block-below, count-pos, at-block, at-place, first-index, first-place, G, Gᵏ, form-rep, G-rep, Gᵏ-rep, G-exp, block, same-block, Stays, stays?, outside-moves, moves-outside, powers-inject}
+use Rattle.separation.proofs.Numbers.{count, count-end, starts, passes-at, begins-below, block-below, count-pos, at-block, at-located, first-index, first-located, G, Gᵏ, form-rep, G-rep, Gᵏ-rep, G-exp, block, same-block, Stays, stays?, outside-moves, moves-outside, powers-inject}
 
 module _ (W : Two) where
   open Two W using (C, tests, m, pos, table, i, in-range, fair)
@@ -50,11 +50,11 @@ module _ (W : Two) where
 
   -- ---- Bases and references
 
-  base-ref : (x : Ω⁺ W) → base W x .0 .0 ≡ ref (x .0 .0) (cut (Low W) (Rp W (x .0 .0)) (place W x .b))
+  base-ref : (x : Ω⁺ W) → base W x .0 .0 ≡ ref (x .0 .0) (cut (Low W) (Rp W (x .0 .0)) (locate W x .b))
   unfolding base
   base-ref x = refl
 
-  base-column : (x : Ω⁺ W) → base W x .0 .1 ≡ place W x .κ
+  base-column : (x : Ω⁺ W) → base W x .0 .1 ≡ locate W x .κ
   unfolding base
   base-column x = refl
 
@@ -68,7 +68,7 @@ module _ (W : Two) where
 
   -- ---- A representation of one block
 
-  single-block : (x : Ω⁺ W) → count W (x .0 .0) ≡ 1 → place W x .b ≡ 0
+  single-block : (x : Ω⁺ W) → count W (x .0 .0) ≡ 1 → locate W x .b ≡ 0
   single-block x e = omega (arith, block-below W x)
 
   single-stays : (x : Ω⁺ W) → count W (x .0 .0) ≡ 1 → Stays W x
@@ -121,10 +121,10 @@ module _ (W : Two) where
         let r : ℕ = x .0 .0 in
         let r′ : ℕ = y .0 .0 in
         let u = many-says r (x .1 .0) ne .2 r′ (y .1 .0) in
-        let o : ℕ = cut (Low W) (Rp W r) (place W x .b) in
-        let o′ : ℕ = cut (Low W) (Rp W r′) (place W y .b) in
-        let at-x = at-cut r (x .1 .0) (place W x .b) (block-below W x) (λ o. all (λ o′. (eqb r r′ && eqb o o′) || not (eqb (ref r o) (ref r′ o′))) (blockStarts (P W) table i r′)) u in
-        let at-y = at-cut r′ (y .1 .0) (place W y .b) (block-below W y) (λ o′. (eqb r r′ && eqb o o′) || not (eqb (ref r o) (ref r′ o′))) at-x in
+        let o : ℕ = cut (Low W) (Rp W r) (locate W x .b) in
+        let o′ : ℕ = cut (Low W) (Rp W r′) (locate W y .b) in
+        let at-x = at-cut r (x .1 .0) (locate W x .b) (block-below W x) (λ o. all (λ o′. (eqb r r′ && eqb o o′) || not (eqb (ref r o) (ref r′ o′))) (blockStarts (P W) table i r′)) u in
+        let at-y = at-cut r′ (y .1 .0) (locate W y .b) (block-below W y) (λ o′. (eqb r r′ && eqb o o′) || not (eqb (ref r o) (ref r′ o′))) at-x in
         go (or-cases (eqb r r′ && eqb o o′) _ at-y)
       where
         -- a test of every cut, at one
@@ -136,13 +136,13 @@ module _ (W : Two) where
             both : (xs : List ℕ) → all (passing W r) xs ≡ true → all q xs ≡ true → all (λ o. passing W r o && q o) xs ≡ true
             both xs s t = all-both W (passing W r) q xs s t
 
-        go : OneOf (eqb (x .0 .0) (y .0 .0) && eqb (cut (Low W) (Rp W (x .0 .0)) (place W x .b)) (cut (Low W) (Rp W (y .0 .0)) (place W y .b))) (not (eqb (ref (x .0 .0) (cut (Low W) (Rp W (x .0 .0)) (place W x .b))) (ref (y .0 .0) (cut (Low W) (Rp W (y .0 .0)) (place W y .b)))))
+        go : OneOf (eqb (x .0 .0) (y .0 .0) && eqb (cut (Low W) (Rp W (x .0 .0)) (locate W x .b)) (cut (Low W) (Rp W (y .0 .0)) (locate W y .b))) (not (eqb (ref (x .0 .0) (cut (Low W) (Rp W (x .0 .0)) (locate W x .b))) (ref (y .0 .0) (cut (Low W) (Rp W (y .0 .0)) (locate W y .b)))))
             → block W x ≡ block W y
         go (first a) =
             let er : x .0 .0 ≡ y .0 .0 = eqb-true _ _ (and-left (eqb (x .0 .0) (y .0 .0)) _ a) in
-            let eo : cut (Low W) (Rp W (x .0 .0)) (place W x .b) ≡ cut (Low W) (Rp W (y .0 .0)) (place W y .b) = eqb-true _ _ (and-right (eqb (x .0 .0) (y .0 .0)) _ a) in
-            let eb : place W x .b ≡ place W y .b
-            = same-cut (x .0 .0) (place W x .b) (place W y .b) (x .1 .0) (block-below W x) (subst (λ r. place W y .b < count W r) (sym er) (block-below W y)) (eo ∙ ap (λ r. cut (Low W) (Rp W r) (place W y .b)) (sym er)) in
+            let eo : cut (Low W) (Rp W (x .0 .0)) (locate W x .b) ≡ cut (Low W) (Rp W (y .0 .0)) (locate W y .b) = eqb-true _ _ (and-right (eqb (x .0 .0) (y .0 .0)) _ a) in
+            let eb : locate W x .b ≡ locate W y .b
+            = same-cut (x .0 .0) (locate W x .b) (locate W y .b) (x .1 .0) (block-below W x) (subst (λ r. locate W y .b < count W r) (sym er) (block-below W y)) (eo ∙ ap (λ r. cut (Low W) (Rp W r) (locate W y .b)) (sym er)) in
             same-block W x y er eb
         go (second a) = absurd (eqb-false _ _ (not-true _ a) (sym (base-ref x) ∙ ap (λ z. z .0 .0) q ∙ base-ref y))
 
@@ -150,7 +150,7 @@ module _ (W : Two) where
     two-singles : (x y : Ω⁺ W) → count W (x .0 .0) ≡ 1 → count W (y .0 .0) ≡ 1 → base W x ≡ base W y → ¬ (x ≡ y) → Sep x y
     two-singles x y ex ey q ne =
         B.fixed-separates (S W) (F W) (blocked W) x y q (single-stays x ex) (single-stays y ey)
-        (exponents-differ x₀ y₀ x y bases q (same-block W x₀ x refl (first-place W r h .0 ∙ sym (single-block x ex))) (same-block W y₀ y refl (first-place W r′ h′ .0 ∙ sym (single-block y ey)))
+        (exponents-differ x₀ y₀ x y bases q (same-block W x₀ x refl (first-located W r h .0 ∙ sym (single-block x ex))) (same-block W y₀ y refl (first-located W r′ h′ .0 ∙ sym (single-block y ey)))
         (λ e. single-says r h ex r′ h′ other ey refs (G-exp W r h ∙ ap (λ z. z .0) e ∙ sym (G-exp W r′ h′))))
       where
         r : ℕ
@@ -182,7 +182,7 @@ module _ (W : Two) where
         refs = sym (only x ex) ∙ ap (λ z. z .0 .0) q ∙ only y ey
 
         bases : base W x₀ ≡ base W y₀
-        bases = base-path x₀ y₀ (only x₀ ex ∙ refs ∙ sym (only y₀ ey)) (base-column x₀ ∙ first-place W r h .1 ∙ sym (base-column y₀ ∙ first-place W r′ h′ .1))
+        bases = base-path x₀ y₀ (only x₀ ex ∙ refs ∙ sym (only y₀ ey)) (base-column x₀ ∙ first-located W r h .1 ∙ sym (base-column y₀ ∙ first-located W r′ h′ .1))
 
     all-separated : (x y : Ω⁺ W) → ¬ (x ≡ y) → Sep x y
     all-separated x y ne = go (F W .decide (base W x) (base W y)) (ℕ-discrete (count W (x .0 .0)) 1) (ℕ-discrete (count W (y .0 .0)) 1)
@@ -207,7 +207,7 @@ module _ (W : Two) where
         go (no e) =
             let (c, o, u) = many-says r h e in
             let mv : ¬ Stays W x = outside-moves W r h o in
-            let (k, l, s) = injects-onto (P W .p i) (λ e. place W ((Gᵏ W e x) .0) .b) (subst (λ b. Injects (P W .p i) b (λ e. place W ((Gᵏ W e x) .0) .b)) c (powers-inject W r h mv)) (place W y .b) (subst (λ b. place W y .b < b) c (block-below W y)) in
+            let (k, l, s) = injects-onto (P W .p i) (λ e. locate W ((Gᵏ W e x) .0) .b) (subst (λ b. Injects (P W .p i) b (λ e. locate W ((Gᵏ W e x) .0) .b)) c (powers-inject W r h mv)) (locate W y .b) (subst (λ b. locate W y .b < b) c (block-below W y)) in
             B.reaches (S W) (F W) (blocked W) k x y (same-block W ((Gᵏ W k x) .0) y (Gᵏ-rep W k x) s)
 
     pub quick-separates : (r : ℕ) → r < length (High W) → Judgement.separates (W .C .P) (W .m) (W .table) (suc (W .i)) r ≡ true
@@ -219,8 +219,8 @@ module _ (W : Two) where
     reach : (x y : Ω⁺ W) → x .0 .0 ≡ y .0 .0 → (w : Nf C (suc i)) × ((act w x) .0 ≡ y)
     reach = reached C tests m pos table (suc i) in-range fair sep
 
-    apart : (x y : Ω⁺ W) → ¬ (x ≡ y) → Sep x y
-    apart = separated C tests m pos table (suc i) in-range fair sep
+    separate : (x y : Ω⁺ W) → ¬ (x ≡ y) → Sep x y
+    separate = separated C tests m pos table (suc i) in-range fair sep
 
     -- every block is that of a power below the p-th
     power-of : (x y : Ω⁺ W) → x .0 .0 ≡ y .0 .0 → (e : ℕ) × (e < P W .p i) × (block W ((Gᵏ W e x) .0) ≡ block W y)
@@ -240,8 +240,8 @@ module _ (W : Two) where
             let y : Ω⁺ W = at-block W r 1 h l in
             let (e, a, s) = power-of x y refl in
             let same : block W x ≡ block W y = sym (B.fixed-power (S W) (F W) (blocked W) x st e) ∙ s in
-            let z : place W x .b ≡ 1 = ap (λ z. z .1) same ∙ at-place W r 1 h l .0 in
-            absurd (omega (arith, first-place W r h .0))
+            let z : locate W x .b ≡ 1 = ap (λ z. z .1) same ∙ at-located W r 1 h l .0 in
+            absurd (omega (arith, first-located W r h .0))
         go (no l) = omega (arith, count-pos W r h)
 
     -- the first block moves: every block moves, and there are p
@@ -257,11 +257,11 @@ module _ (W : Two) where
         let a : P W .p i ≤ count W r = injects-le (P W .p i) (count W r) _ (powers-inject W r h mv) in
         let b : count W r ≤ P W .p i = injects-le (count W r) (P W .p i) (back r h) (record {
           below = λ k l. back-below r h k l (decLt k (count W r));
-          injective = λ j k l l′ q. sym (back-is r h j l (decLt j (count W r))) ∙ ap (λ e. place W ((Gᵏ W e (first-index W r h)) .0) .b) q ∙ back-is r h k l′ (decLt k (count W r));
+          injective = λ j k l l′ q. sym (back-is r h j l (decLt j (count W r))) ∙ ap (λ e. locate W ((Gᵏ W e (first-index W r h)) .0) .b) q ∙ back-is r h k l′ (decLt k (count W r));
         }) in
         omega arith
       where
-        -- a power that leads to block k
+        -- a power that maps to block k
         backAt : (r : ℕ) (h : r < lenH) (k : ℕ) → Dec (k < count W r) → ℕ
         backAt r h k (yes l) = power-of (first-index W r h) (at-block W r k h l) refl .0
         backAt r h k (no l) = 0
@@ -273,8 +273,8 @@ module _ (W : Two) where
         back-below r h k l (yes a) = power-of (first-index W r h) (at-block W r k h a) refl .1
         back-below r h k l (no a) = absurd (a l)
 
-        back-is : (r : ℕ) (h : r < lenH) (k : ℕ) → k < count W r → (d : Dec (k < count W r)) → place W ((Gᵏ W (backAt r h k d) (first-index W r h)) .0) .b ≡ k
-        back-is r h k l (yes a) = ap (λ z. z .1) (power-of (first-index W r h) (at-block W r k h a) refl .2) ∙ at-place W r k h a .0
+        back-is : (r : ℕ) (h : r < lenH) (k : ℕ) → k < count W r → (d : Dec (k < count W r)) → locate W ((Gᵏ W (backAt r h k d) (first-index W r h)) .0) .b ≡ k
+        back-is r h k l (yes a) = ap (λ z. z .1) (power-of (first-index W r h) (at-block W r k h a) refl .2) ∙ at-located W r k h a .0
         back-is r h k l (no a) = absurd (a l)
 
     -- first basis indices of blocks with one reference have one base
@@ -284,8 +284,8 @@ module _ (W : Two) where
         let x : Ω⁺ W = at-block W r b h l in
         let y : Ω⁺ W = at-block W r′ b′ h′ l′ in
         base-path x y
-        (base-ref x ∙ ap (λ k. ref r (cut (Low W) (Rp W r) k)) (at-place W r b h l .0) ∙ q ∙ sym (base-ref y ∙ ap (λ k. ref r′ (cut (Low W) (Rp W r′) k)) (at-place W r′ b′ h′ l′ .0)))
-        (base-column x ∙ at-place W r b h l .1 ∙ sym (base-column y ∙ at-place W r′ b′ h′ l′ .1))
+        (base-ref x ∙ ap (λ k. ref r (cut (Low W) (Rp W r) k)) (at-located W r b h l .0) ∙ q ∙ sym (base-ref y ∙ ap (λ k. ref r′ (cut (Low W) (Rp W r′) k)) (at-located W r′ b′ h′ l′ .0)))
+        (base-column x ∙ at-located W r b h l .1 ∙ sym (base-column y ∙ at-located W r′ b′ h′ l′ .1))
 
     moves-unshared : (r : ℕ) (h : r < lenH) → ¬ Stays W (first-index W r h) → (r′ : ℕ) → r′ < lenH → unshared (P W) table i r r′ ≡ true
     unfolding unshared
@@ -296,7 +296,7 @@ module _ (W : Two) where
         other b b′ l l′ ne q =
             let x : Ω⁺ W = at-block W r b h l in
             let y : Ω⁺ W = at-block W r′ b′ h′ l′ in
-            B.moved-together (S W) (F W) (blocked W) x y (block-base r b r′ b′ h l h′ l′ q) (moves-all r h mv x refl) (apart x y (λ e. ne (ap (λ z. z .0 .0) e, ap (λ z. z .0 .1) e)))
+            B.moved-together (S W) (F W) (blocked W) x y (block-base r b r′ b′ h l h′ l′ q) (moves-all r h mv x refl) (separate x y (λ e. ne (ap (λ z. z .0 .0) e, ap (λ z. z .0 .1) e)))
 
         each : (b b′ : ℕ) → b < count W r → b′ < count W r′ → Dec (r ≡ r′) → Dec (cut (Low W) (Rp W r) b ≡ cut (Low W) (Rp W r′) b′)
             → (eqb r r′ && eqb (cut (Low W) (Rp W r) b) (cut (Low W) (Rp W r′) b′)) || not (eqb (ref r (cut (Low W) (Rp W r) b)) (ref r′ (cut (Low W) (Rp W r′) b′))) ≡ true
@@ -310,9 +310,9 @@ module _ (W : Two) where
         let x : Ω⁺ W = first-index W r h in
         let y : Ω⁺ W = first-index W r′ h′ in
         let only : (r : ℕ) (h : r < lenH) → base W (first-index W r h) .0 .0 ≡ ref r 0
-        = λ r h. base-ref (first-index W r h) ∙ ap (ref r) (ap (cut (Low W) (Rp W r)) (first-place W r h .0) ∙ cut-zero (Low W) (Rp W r)) in
-        let bases : base W x ≡ base W y = base-path x y (only r h ∙ q ∙ sym (only r′ h′)) (base-column x ∙ first-place W r h .1 ∙ sym (base-column y ∙ first-place W r′ h′ .1)) in
-        B.fixed-together (S W) (F W) (blocked W) x y bases (single-stays x e) (single-stays y e′) (Residue-path m _ _ (sym (G-exp W r h) ∙ s ∙ G-exp W r′ h′)) (apart x y (λ z. ne (ap (λ z. z .0 .0) z)))
+        = λ r h. base-ref (first-index W r h) ∙ ap (ref r) (ap (cut (Low W) (Rp W r)) (first-located W r h .0) ∙ cut-zero (Low W) (Rp W r)) in
+        let bases : base W x ≡ base W y = base-path x y (only r h ∙ q ∙ sym (only r′ h′)) (base-column x ∙ first-located W r h .1 ∙ sym (base-column y ∙ first-located W r′ h′ .1)) in
+        B.fixed-together (S W) (F W) (blocked W) x y bases (single-stays x e) (single-stays y e′) (Residue-path m _ _ (sym (G-exp W r h) ∙ s ∙ G-exp W r′ h′)) (separate x y (λ z. ne (ap (λ z. z .0 .0) z)))
 
     parted-holds : (r : ℕ) → r < lenH → parted (P W) table i r ≡ true
     unfolding parted differs

@@ -136,7 +136,7 @@ module _ (P : Presentation) (m : ℕ) (pos : 0 < m) (i : ℕ) (L : Level) (A : F
   D-shows r k h l = go (decLt k i)
     where
       go : (d : Dec (k < i)) → Shows m foreign-frame r r (repOf L r .matrix k) (step k d)
-      go (yes a) = record { size = A .size r k h l; leads = λ x e. e; shown = λ x e. ap (λ s. col (repOf L s .matrix k) (x .0 .1)) (sym e) }
+      go (yes a) = record { size = A .size r k h l; maps-to = λ x e. e; shown = λ x e. ap (λ s. col (repOf L s .matrix k) (x .0 .1)) (sym e) }
       go (no a) = absurd (a l)
 
   abbrev pub word : (k : ℕ) → NF k → Map (residues m pos) Index
@@ -208,7 +208,7 @@ module _ (C : Context) (tests : (k : ℕ) → k < C .P .n → Test C k) (m : ℕ
       let t = and-left (Judgement.reaches (C .P) m table i (repOf L r) (x .0 .1)) _ (allBelow-elim (repOf L r .deg) _ (separates r h) (x .0 .1) (x .1 .1)) in
       let (w, v, e) = forms-any (C .P) i (λ w. eqb (col (image m (repOf L r) i w) 0 .row) (x .0 .1)) t in
       let sh = form-shows C m pos i L A r h (w, v) in
-      ((w, v), Index-path (C .P) m pos i L A _ x (sh .leads (start x) refl) (ap (λ (y : Entry). y .row) (sym (sh .shown (start x) refl)) ∙ eqb-true _ _ e))
+      ((w, v), Index-path (C .P) m pos i L A _ x (sh .maps-to (start x) refl) (ap (λ (y : Entry). y .row) (sym (sh .shown (start x) refl)) ∙ eqb-true _ _ e))
 
   to-start : (x : X) → (w : Nf C i) × ((act w x) .0 ≡ start x)
   to-start x =
@@ -239,16 +239,16 @@ module _ (C : Context) (tests : (k : ℕ) → k < C .P .n → Test C k) (m : ℕ
       fixes : (x : X) (w : Nf C i) → eqb (col (image m (repOf L (x .0 .0)) i (w .0)) (x .0 .1) .row) (x .0 .1) ≡ true → act w x ≡ (x, (act w x) .1)
       fixes x w e =
           let sh = form-shows C m pos i L A (x .0 .0) (x .1 .0) w in
-          λ o. (Index-path (C .P) m pos i L A ((act w x) .0) x (sh .leads x refl) (ap (λ (y : Entry). y .row) (sym (sh .shown x refl)) ∙ eqb-true _ _ e) o, (act w x) .1)
+          λ o. (Index-path (C .P) m pos i L A ((act w x) .0) x (sh .maps-to x refl) (ap (λ (y : Entry). y .row) (sym (sh .shown x refl)) ∙ eqb-true _ _ e) o, (act w x) .1)
 
       value-is : (x : X) (w : Nf C i) → col (image m (repOf L (x .0 .0)) i (w .0)) (x .0 .1) .exp ≡ (act w x) .1 .0
       value-is x w = ap (λ (y : Entry). y .exp) (form-shows C m pos i L A (x .0 .0) (x .1 .0) w .shown x refl)
 
-      told : (w : NF i) (v : Valid (C .P) i w)
+      by-form : (w : NF i) (v : Valid (C .P) i w)
           → eqb (col (image m (repOf L (x .0 .0)) i w) (x .0 .1) .row) (x .0 .1) && eqb (col (image m (repOf L (y .0 .0)) i w) (y .0 .1) .row) (y .0 .1)
           && not (eqb (col (image m (repOf L (x .0 .0)) i w) (x .0 .1) .exp % m) (col (image m (repOf L (y .0 .0)) i w) (y .0 .1) .exp % m)) ≡ true
           → Separated (residues m pos) X act x y
-      told w v t =
+      by-form w v t =
           let ab = and-left (eqb (col (image m (repOf L (x .0 .0)) i w) (x .0 .1) .row) (x .0 .1) && eqb (col (image m (repOf L (y .0 .0)) i w) (y .0 .1) .row) (y .0 .1)) _ t in
           let c = and-right (eqb (col (image m (repOf L (x .0 .0)) i w) (x .0 .1) .row) (x .0 .1) && eqb (col (image m (repOf L (y .0 .0)) i w) (y .0 .1) .row) (y .0 .1)) _ t in
           record {
@@ -262,7 +262,7 @@ module _ (C : Context) (tests : (k : ℕ) → k < C .P .n → Test C k) (m : ℕ
 
       go : OneOf (eqb (x .0 .0) (y .0 .0) && eqb (x .0 .1) (y .0 .1)) (any (Judgement.tells (C .P) m table i (repOf L (x .0 .0)) (x .0 .1) (repOf L (y .0 .0)) (y .0 .1)) (Judgement.allForms (C .P) i)) → Separated (residues m pos) X act x y
       go (first e) = absurd (ne (Index-path (C .P) m pos i L A x y (eqb-true _ _ (and-left (eqb (x .0 .0) (y .0 .0)) _ e)) (eqb-true _ _ (and-right (eqb (x .0 .0) (y .0 .0)) _ e))))
-      go (second e) = let (w, v, t) = forms-any (C .P) i _ e in told w v t
+      go (second e) = let (w, v, t) = forms-any (C .P) i _ e in by-form w v t
 
   abbrev pub foreign-family : Family (residues m pos) (Index (C .P) m pos i (levelAt (C .P .n) table i) A) (level C i) (conjNf C i) i i
   foreign-family = record {
@@ -273,8 +273,8 @@ module _ (C : Context) (tests : (k : ℕ) → k < C .P .n → Test C k) (m : ℕ
     past = λ j a b x. absurd (omega arith);
     rep = λ x. x .0 .0;
     target = λ j r. r;
-    inside = λ w x. form-shows C m pos i L A (x .0 .0) (x .1 .0) w .leads x refl;
-    leads = λ j a b x. absurd (omega arith);
+    inside = λ w x. form-shows C m pos i L A (x .0 .0) (x .1 .0) w .maps-to x refl;
+    maps-to = λ j a b x. absurd (omega arith);
     reached = reached;
     separated = separated;
   }
@@ -296,10 +296,10 @@ module _ (C : Context) (m : ℕ) (pos : 0 < m) (table : List ℕ) (i : ℕ) (A :
   reach-holds r k h a (w, e) =
       any-forms (C .P) i _ (w .0) (w .1) (eq-eqb _ _ (ap (λ (y : Entry). y .row) (form-shows C m pos i Lv A r h w .shown ((r, 0), (h, A .degree-pos r h)) refl) ∙ ap (λ z. z .0 .1) e))
 
-  told-holds : (r k r′ k′ : ℕ) (h : r < length Lv) (a : k < repOf Lv r .deg) (h′ : r′ < length Lv) (a′ : k′ < repOf Lv r′ .deg)
+  pair-holds : (r k r′ k′ : ℕ) (h : r < length Lv) (a : k < repOf Lv r .deg) (h′ : r′ < length Lv) (a′ : k′ < repOf Lv r′ .deg)
       → Separated (residues m pos) Y acts ((r, k), (h, a)) ((r′, k′), (h′, a′)) → any (Judgement.tells (C .P) m table i (repOf Lv r) k (repOf Lv r′) k′) (Judgement.allForms (C .P) i) ≡ true
   unfolding Judgement.tells
-  told-holds r k r′ k′ h a h′ a′ s =
+  pair-holds r k r′ k′ h a h′ a′ s =
       let y : col (image m (repOf Lv r) i (s .by .0)) k ≡ entry k (s .x .0) = at r k h a (s .by) (s .x) (s .fixes) in
       let y′ : col (image m (repOf Lv r′) i (s .by .0)) k′ ≡ entry k′ (s .y .0) = at r′ k′ h′ a′ (s .by) (s .y) (s .fixes′) in
       any-forms (C .P) i _ (s .by .0) (s .by .1)
@@ -320,5 +320,5 @@ module _ (C : Context) (m : ℕ) (pos : 0 < m) (table : List ℕ) (i : ℕ) (A :
       same-or : (k : ℕ) (a : k < repOf Lv r .deg) (r′ k′ : ℕ) (h′ : r′ < length Lv) (a′ : k′ < repOf Lv r′ .deg) → Dec (r ≡ r′) → Dec (k ≡ k′)
           → (eqb r r′ && eqb k k′) || any (Judgement.tells (C .P) m table i (repOf Lv r) k (repOf Lv r′) k′) (Judgement.allForms (C .P) i) ≡ true
       same-or k a r′ k′ h′ a′ (yes p) (yes q) = or-left (eqb r r′ && eqb k k′) _ (and-intro _ _ (eq-eqb r r′ p) (eq-eqb k k′ q))
-      same-or k a r′ k′ h′ a′ (yes p) (no q) = or-right (eqb r r′ && eqb k k′) _ (told-holds r k r′ k′ h a h′ a′ (sep _ _ (λ e. q (ap (λ z. z .0 .1) e))))
-      same-or k a r′ k′ h′ a′ (no p) d = or-right (eqb r r′ && eqb k k′) _ (told-holds r k r′ k′ h a h′ a′ (sep _ _ (λ e. p (ap (λ z. z .0 .0) e))))
+      same-or k a r′ k′ h′ a′ (yes p) (no q) = or-right (eqb r r′ && eqb k k′) _ (pair-holds r k r′ k′ h a h′ a′ (sep _ _ (λ e. q (ap (λ z. z .0 .1) e))))
+      same-or k a r′ k′ h′ a′ (no p) d = or-right (eqb r r′ && eqb k k′) _ (pair-holds r k r′ k′ h a h′ a′ (sep _ _ (λ e. p (ap (λ z. z .0 .0) e))))

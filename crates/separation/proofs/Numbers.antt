@@ -29,7 +29,7 @@ use Rattle.monomial.proofs.Residues.{residues}
 use Rattle.separation.specs.Decision.{blockCount, outside}
 use Rattle.separation.proofs.Foreign.{Index, Index-path, D, D-shows, d, d-hom, form-shows}
 use Rattle.separation.proofs.Cutting.{cut, cut-zero, cut-le, width, Cut, cut-below, cuts-each, cuts-end}
-use Rattle.separation.proofs.Restricted.{Two, P, Low, High, Rp, S, Ω, Ω⁺, F, passing, all-pass, fits, wide, place, place-is, base, blocked}
+use Rattle.separation.proofs.Restricted.{Two, P, Low, High, Rp, S, Ω, Ω⁺, F, passing, all-pass, fits, wide, locate, locate-is, base, blocked}
 use Rattle.separation.proofs.Blocks.{Z, Zᵏ, powers-differ}
 
 module _ (W : Two) where
@@ -59,8 +59,8 @@ module _ (W : Two) where
       go (no a) (yes e) = absurd (omega (arith, count-end r h, cut-le (Low W) (Rp W r) (count r) b e))
       go (no a) (no e) = let z : b ≡ count r = omega arith in absurd (omega (arith, count-end r h, ap (cut (Low W) (Rp W r)) z))
 
-  pub block-below : (x : Ω⁺ W) → place W x .b < count (x .0 .0)
-  block-below x = begins-below (x .0 .0) (place W x .b) (x .1 .0) (omega (arith, place W x .is, x .1 .1))
+  pub block-below : (x : Ω⁺ W) → locate W x .b < count (x .0 .0)
+  block-below x = begins-below (x .0 .0) (locate W x .b) (x .1 .0) (omega (arith, locate W x .is, x .1 .1))
 
   pub count-pos : (r : ℕ) → r < length (High W) → 0 < count r
   count-pos r h = begins-below r 0 h (subst (λ z. z < Rp W r .deg) (sym (cut-zero (Low W) (Rp W r))) (fair .degree-pos r h))
@@ -69,14 +69,14 @@ module _ (W : Two) where
   abbrev pub at-block : (r b : ℕ) → r < length (High W) → b < count r → Ω⁺ W
   at-block r b h l = ((r, cut (Low W) (Rp W r) b), (h, starts r b l))
 
-  pub at-place : (r b : ℕ) (h : r < length (High W)) (l : b < count r) → (place W (at-block r b h l) .b ≡ b) × (place W (at-block r b h l) .κ ≡ 0)
-  at-place r b h l = place-is W (at-block r b h l) b 0 (wide W r (cut (Low W) (Rp W r) b) (passes-at r b h l)) (omega arith)
+  pub at-located : (r b : ℕ) (h : r < length (High W)) (l : b < count r) → (locate W (at-block r b h l) .b ≡ b) × (locate W (at-block r b h l) .κ ≡ 0)
+  at-located r b h l = locate-is W (at-block r b h l) b 0 (wide W r (cut (Low W) (Rp W r) b) (passes-at r b h l)) (omega arith)
 
   abbrev pub first-index : (r : ℕ) → r < length (High W) → Ω⁺ W
   first-index r h = ((r, 0), (h, fair .degree-pos r h))
 
-  pub first-place : (r : ℕ) (h : r < length (High W)) → (place W (first-index r h) .b ≡ 0) × (place W (first-index r h) .κ ≡ 0)
-  first-place r h = place-is W (first-index r h) 0 0 (wide W r (cut (Low W) (Rp W r) 0) (passes-at r 0 h (count-pos r h))) (omega (arith, cut-zero (Low W) (Rp W r)))
+  pub first-located : (r : ℕ) (h : r < length (High W)) → (locate W (first-index r h) .b ≡ 0) × (locate W (first-index r h) .κ ≡ 0)
+  first-located r h = locate-is W (first-index r h) 0 0 (wide W r (cut (Low W) (Rp W r) 0) (passes-at r 0 h (count-pos r h))) (omega (arith, cut-zero (Low W) (Rp W r)))
 
   -- ---- The generator on top
 
@@ -93,7 +93,7 @@ module _ (W : Two) where
       ∙ ap₂ (maps (residues m pos) (Ω⁺ W) .mul) (power-one (maps-laws (residues m pos)) _) (value-trivial (maps-laws (residues m pos)) (D (P W) m pos (suc i) (High W) fair) i) ∙ maps-laws (residues m pos) .idr _
 
   pub form-rep : (w : Nf C (suc i)) (x : Ω⁺ W) → (d C m pos (suc i) (High W) fair w x) .0 .0 .0 ≡ x .0 .0
-  form-rep w x = form-shows C m pos (suc i) (High W) fair (x .0 .0) (x .1 .0) w .leads x refl
+  form-rep w x = form-shows C m pos (suc i) (High W) fair (x .0 .0) (x .1 .0) w .maps-to x refl
 
   pub G-rep : (x : Ω⁺ W) → (G x) .0 .0 .0 ≡ x .0 .0
   G-rep x = form-rep (top C i) x
@@ -115,18 +115,18 @@ module _ (W : Two) where
   -- ---- Blocks that stay
 
   abbrev pub block : Ω⁺ W → ℕ × ℕ
-  block x = (x .0 .0, place W x .b)
+  block x = (x .0 .0, locate W x .b)
 
-  pub same-block : (x y : Ω⁺ W) → x .0 .0 ≡ y .0 .0 → place W x .b ≡ place W y .b → block x ≡ block y
+  pub same-block : (x y : Ω⁺ W) → x .0 .0 ≡ y .0 .0 → locate W x .b ≡ locate W y .b → block x ≡ block y
   same-block x y p q = λ o. (p o, q o)
 
   abbrev pub Stays : Ω⁺ W → Type 0
   Stays x = block ((G x) .0) ≡ block x
 
   pub stays? : (x : Ω⁺ W) → Dec (Stays x)
-  stays? x = go (ℕ-discrete (place W ((G x) .0) .b) (place W x .b))
+  stays? x = go (ℕ-discrete (locate W ((G x) .0) .b) (locate W x .b))
     where
-      go : Dec (place W ((G x) .0) .b ≡ place W x .b) → Dec (Stays x)
+      go : Dec (locate W ((G x) .0) .b ≡ locate W x .b) → Dec (Stays x)
       go (yes e) = yes (same-block ((G x) .0) x (G-rep x) e)
       go (no e) = no (λ q. e (ap (λ z. z .1) q))
 
@@ -137,10 +137,10 @@ module _ (W : Two) where
   unfolding outside
   outside-moves r h o q =
       let y : Ω⁺ W = (G (first-index r h)) .0 in
-      let b-zero : place W y .b ≡ 0 = ap (λ z. z .1) q ∙ first-place r h .0 in
+      let b-zero : locate W y .b ≡ 0 = ap (λ z. z .1) q ∙ first-located r h .0 in
       let ry : y .0 .0 ≡ r = G-rep (first-index r h) in
-      let inside : place W y .κ < width (Low W) (Rp W r) 0 = subst (λ s. place W y .κ < width (Low W) (Rp W s) 0) ry (subst (λ b. place W y .κ < width (Low W) (Rp W (y .0 .0)) b) b-zero (place W y .inside)) in
-      let col-y : place W y .κ ≡ y .0 .1 = omega (arith, place W y .is, ap (cut (Low W) (Rp W (y .0 .0))) b-zero, cut-zero (Low W) (Rp W (y .0 .0))) in
+      let inside : locate W y .κ < width (Low W) (Rp W r) 0 = subst (λ s. locate W y .κ < width (Low W) (Rp W s) 0) ry (subst (λ b. locate W y .κ < width (Low W) (Rp W (y .0 .0)) b) b-zero (locate W y .inside)) in
+      let col-y : locate W y .κ ≡ y .0 .1 = omega (arith, locate W y .is, ap (cut (Low W) (Rp W (y .0 .0))) b-zero, cut-zero (Low W) (Rp W (y .0 .0))) in
       let far : repOf (Low W) (Rp W r .ref 0 0) .deg ≤ col (Rp W r .matrix i) 0 .row = leb-true _ _ o in
       omega (arith, width-zero r, G-row r h)
 
@@ -157,22 +157,22 @@ module _ (W : Two) where
       go : Dec (col (Rp W r .matrix i) 0 .row < repOf (Low W) (Rp W r .ref 0 0) .deg) → leb (repOf (Low W) (Rp W r .ref 0 0) .deg) (col (Rp W r .matrix i) 0 .row) ≡ true
       go (yes l) =
           let inside : y .0 .1 < width (Low W) (Rp W (y .0 .0)) 0 = subst (λ s. y .0 .1 < width (Low W) (Rp W s) 0) (sym ry) (omega (arith, width-zero r, G-row r h)) in
-          let zero-b : place W y .b ≡ 0 = place-is W y 0 (y .0 .1) inside (omega (arith, cut-zero (Low W) (Rp W (y .0 .0)))) .0 in
-          absurd (mv (same-block y (first-index r h) ry (zero-b ∙ sym (first-place r h .0))))
+          let zero-b : locate W y .b ≡ 0 = locate-is W y 0 (y .0 .1) inside (omega (arith, cut-zero (Low W) (Rp W (y .0 .0)))) .0 in
+          absurd (mv (same-block y (first-index r h) ry (zero-b ∙ sym (first-located r h .0))))
       go (no l) = le-leb (repOf (Low W) (Rp W r .ref 0 0) .deg) (col (Rp W r .matrix i) 0 .row) (omega arith)
 
   -- ---- The powers on a block that moves
 
-  pub powers-inject : (r : ℕ) (h : r < length (High W)) → ¬ Stays (first-index r h) → Injects (P W .p i) (count r) (λ e. place W ((Gᵏ e (first-index r h)) .0) .b)
-  powers-inject r h mv = record { below = λ e l. subst (λ s. place W ((Gᵏ e x) .0) .b < count s) (Gᵏ-rep e x) (block-below ((Gᵏ e x) .0)); injective = λ e e′ l l′ q. go e e′ l l′ q (decLt e e′) (decLt e′ e) }
+  pub powers-inject : (r : ℕ) (h : r < length (High W)) → ¬ Stays (first-index r h) → Injects (P W .p i) (count r) (λ e. locate W ((Gᵏ e (first-index r h)) .0) .b)
+  powers-inject r h mv = record { below = λ e l. subst (λ s. locate W ((Gᵏ e x) .0) .b < count s) (Gᵏ-rep e x) (block-below ((Gᵏ e x) .0)); injective = λ e e′ l l′ q. go e e′ l l′ q (decLt e e′) (decLt e′ e) }
     where
       x : Ω⁺ W
       x = first-index r h
 
-      same : (e e′ : ℕ) → place W ((Gᵏ e x) .0) .b ≡ place W ((Gᵏ e′ x) .0) .b → block ((Gᵏ e x) .0) ≡ block ((Gᵏ e′ x) .0)
+      same : (e e′ : ℕ) → locate W ((Gᵏ e x) .0) .b ≡ locate W ((Gᵏ e′ x) .0) .b → block ((Gᵏ e x) .0) ≡ block ((Gᵏ e′ x) .0)
       same e e′ q = same-block ((Gᵏ e x) .0) ((Gᵏ e′ x) .0) (Gᵏ-rep e x ∙ sym (Gᵏ-rep e′ x)) q
 
-      go : (e e′ : ℕ) → e < P W .p i → e′ < P W .p i → place W ((Gᵏ e x) .0) .b ≡ place W ((Gᵏ e′ x) .0) .b → Dec (e < e′) → Dec (e′ < e) → e ≡ e′
+      go : (e e′ : ℕ) → e < P W .p i → e′ < P W .p i → locate W ((Gᵏ e x) .0) .b ≡ locate W ((Gᵏ e′ x) .0) .b → Dec (e < e′) → Dec (e′ < e) → e ≡ e′
       go e e′ l l′ q (yes a) d = absurd (powers-differ (S W) (F W) (blocked W) x mv e e′ a l′ (same e e′ q))
       go e e′ l l′ q (no a) (yes b) = absurd (powers-differ (S W) (F W) (blocked W) x mv e′ e b l (same e′ e (sym q)))
       go e e′ l l′ q (no a) (no b) = omega arith

@@ -1,7 +1,7 @@
 -- Any table's level that is fair and restricts to a family below is cut into blocks of that family.
 --
 --   Two               two levels of a table, the lower one separated
---   place, base       a basis index of the upper level, in its block; the basis index below
+--   locate, base       a basis index of the upper level, in its block; the basis index below
 --   over-generator    a generator of the lower level acts in a block as below
 --   blocked           the upper level as Blocked over the family of the lower
 use mathlib.Core.Path.{_≡_, refl, sym, _∙_, ap, ap₂, subst}
@@ -116,15 +116,15 @@ module _ (W : Two) where
   pub wide : (r o : ℕ) → passing r o ≡ true → 0 < repOf Low (Rp r .ref 0 o) .deg
   wide r o h = low-fair .degree-pos (Rp r .ref 0 o) (listed r o h)
 
-  pub place : (x : Index (W .C .P) (W .m) (W .pos) (suc (W .i)) (levelAt (W .C .P .n) (W .table) (suc (W .i))) (W .fair)) → Cut Low (Rp (x .0 .0)) (passing (x .0 .0)) (x .0 .1)
-  place x = cut-at Low (Rp (x .0 .0)) (passing (x .0 .0)) (wide (x .0 .0)) (all-pass (x .0 .0) (x .1 .0)) (x .0 .1) (x .1 .1)
+  pub locate : (x : Index (W .C .P) (W .m) (W .pos) (suc (W .i)) (levelAt (W .C .P .n) (W .table) (suc (W .i))) (W .fair)) → Cut Low (Rp (x .0 .0)) (passing (x .0 .0)) (x .0 .1)
+  locate x = cut-at Low (Rp (x .0 .0)) (passing (x .0 .0)) (wide (x .0 .0)) (all-pass (x .0 .0) (x .1 .0)) (x .0 .1) (x .1 .1)
 
   unfoldable pub base : Ω⁺ → Ω
-  base x = let k = place x in ((Rp (x .0 .0) .ref 0 (cut Low (Rp (x .0 .0)) (k .b)), k .κ), (listed (x .0 .0) _ (k .passes), k .inside))
+  base x = let k = locate x in ((Rp (x .0 .0) .ref 0 (cut Low (Rp (x .0 .0)) (k .b)), k .κ), (listed (x .0 .0) _ (k .passes), k .inside))
 
-  -- a place is known by its block and its column there
-  pub place-is : (x : Index (W .C .P) (W .m) (W .pos) (suc (W .i)) (levelAt (W .C .P .n) (W .table) (suc (W .i))) (W .fair)) (b κ : ℕ) → κ < width Low (Rp (x .0 .0)) b → cut Low (Rp (x .0 .0)) b + κ ≡ x .0 .1 → (place x .b ≡ b) × (place x .κ ≡ κ)
-  place-is x b κ l e = cut-one Low (Rp (x .0 .0)) (place x .b) (place x .κ) b κ (place x .inside) l (place x .is ∙ sym e)
+  -- it is known by its block and its column there
+  pub locate-is : (x : Index (W .C .P) (W .m) (W .pos) (suc (W .i)) (levelAt (W .C .P .n) (W .table) (suc (W .i))) (W .fair)) (b κ : ℕ) → κ < width Low (Rp (x .0 .0)) b → cut Low (Rp (x .0 .0)) b + κ ≡ x .0 .1 → (locate x .b ≡ b) × (locate x .κ ≡ κ)
+  locate-is x b κ l e = cut-one Low (Rp (x .0 .0)) (locate x .b) (locate x .κ) b κ (locate x .inside) l (locate x .is ∙ sym e)
 
   -- ---- Generators below act as below
 
@@ -133,11 +133,11 @@ module _ (W : Two) where
   unfolding passing Judgement.blockRestricts
   acts r o k c h l a = allBelow-elim _ _ (allBelow-elim i _ (and-right (Judgement.wholeBlock Low (Rp r) o) _ h) k l) c a
 
-  over-generator : (k : ℕ) → k < i → Over (residues m pos) base (λ x. place x .b) (λ κ. D P m pos i Low low-fair k) (D P m pos (suc i) High fair k)
+  over-generator : (k : ℕ) → k < i → Over (residues m pos) base (λ x. locate x .b) (λ κ. D P m pos i Low low-fair k) (D P m pos (suc i) High fair k)
   unfolding base sameEntry
   over-generator k l x =
       let r : ℕ = x .0 .0 in
-      let q = place x in
+      let q = locate x in
       let o : ℕ = cut Low (Rp r) (q .b) in
       let a : Ω = base x in
       let high = D-shows P m pos (suc i) High fair r k (x .1 .0) (omega arith) in
@@ -149,11 +149,11 @@ module _ (W : Two) where
       = eqb-true _ _ (and-left (eqb (col (Rp r .matrix k) (o + q .κ) .row) _) _ t) ∙ ap (λ (z : Entry). o + z .row) (deep .shown a refl) in
       let exps : col (Rp r .matrix k) (o + q .κ) .exp % m ≡ col (repOf Low (a .0 .0) .matrix k) (q .κ) .exp % m = eqb-true _ _ (and-right (eqb (col (Rp r .matrix k) (o + q .κ) .row) _) _ t) in
       let here : col (Rp r .matrix k) (o + q .κ) ≡ entry (y .0 .1) ((D P m pos (suc i) High fair k x) .1 .0) = ap (col (Rp r .matrix k)) (q .is) ∙ high .shown x refl in
-      let ry : y .0 .0 ≡ r = high .leads x refl in
+      let ry : y .0 .0 ≡ r = high .maps-to x refl in
       let column-y : o + b .0 .1 ≡ y .0 .1 = sym rows ∙ ap (λ (z : Entry). z .row) here in
-      let rb : b .0 .0 ≡ a .0 .0 = deep .leads a refl in
+      let rb : b .0 .0 ≡ a .0 .0 = deep .maps-to a refl in
       let κ-in : b .0 .1 < repOf Low (a .0 .0) .deg = subst (λ s. b .0 .1 < repOf Low s .deg) rb (b .1 .1) in
-      let (eb, eκ) = place-is y (q .b) (b .0 .1) (subst (λ s. b .0 .1 < width Low (Rp s) (q .b)) (sym ry) κ-in) (ap (λ s. cut Low (Rp s) (q .b) + b .0 .1) ry ∙ column-y) in
+      let (eb, eκ) = locate-is y (q .b) (b .0 .1) (subst (λ s. b .0 .1 < width Low (Rp s) (q .b)) (sym ry) κ-in) (ap (λ s. cut Low (Rp s) (q .b) + b .0 .1) ry ∙ column-y) in
       record {
         is-base = Index-path P m pos i Low low-fair (base y) b (ap₂ (λ s e. Rp s .ref 0 (cut Low (Rp s) e)) ry eb ∙ sym rb) eκ;
         is-number = eb;
@@ -164,17 +164,17 @@ module _ (W : Two) where
   unfolding low d
   low-word h = value-suc (maps (residues m pos) Ω⁺) (D P m pos (suc i) High fair) i _ ∙ ap (λ z. maps (residues m pos) Ω⁺ .mul z (value (maps (residues m pos) Ω⁺) (D P m pos (suc i) High fair) i (h .0))) (power-zero (maps (residues m pos) Ω⁺) _) ∙ maps-laws (residues m pos) .idl _
 
-  pub over-low : (h : Nf C i) (x : Ω⁺) → At (residues m pos) base (λ x. place x .b) (d C m pos (suc i) High fair (low C i h) x) ((d C m pos i Low low-fair h (base x)) .0) (place x .b) ((d C m pos i Low low-fair h (base x)) .1)
+  pub over-low : (h : Nf C i) (x : Ω⁺) → At (residues m pos) base (λ x. locate x .b) (d C m pos (suc i) High fair (low C i h) x) ((d C m pos i Low low-fair h (base x)) .0) (locate x .b) ((d C m pos i Low low-fair h (base x)) .1)
   unfolding d
   over-low h x =
-      subst (λ (M : Map (residues m pos) Ω⁺). At (residues m pos) base (λ x. place x .b) (M x) ((word P m pos i Low low-fair i (h .0) (base x)) .0) (place x .b) ((word P m pos i Low low-fair i (h .0) (base x)) .1))
-      (sym (low-word h)) (over-value (residues m pos) base (λ x. place x .b) (λ κ. D P m pos i Low low-fair) (D P m pos (suc i) High fair) i over-generator (h .0) x)
+      subst (λ (M : Map (residues m pos) Ω⁺). At (residues m pos) base (λ x. locate x .b) (M x) ((word P m pos i Low low-fair i (h .0) (base x)) .0) (locate x .b) ((word P m pos i Low low-fair i (h .0) (base x)) .1))
+      (sym (low-word h)) (over-value (residues m pos) base (λ x. locate x .b) (λ κ. D P m pos i Low low-fair) (D P m pos (suc i) High fair) i over-generator (h .0) x)
 
-  pub block-known : (x y : Ω⁺) → base x ≡ base y → _≡_ {A = ℕ × ℕ} (x .0 .0, place x .b) (y .0 .0, place y .b) → x ≡ y
+  pub block-known : (x y : Ω⁺) → base x ≡ base y → _≡_ {A = ℕ × ℕ} (x .0 .0, locate x .b) (y .0 .0, locate y .b) → x ≡ y
   unfolding base
-  block-known x y q e = Index-path P m pos (suc i) High fair x y (ap (λ z. z .0) e) (sym (place x .is) ∙ ap₂ (_+_) (ap (λ z. cut Low (Rp (z .0)) (z .1)) e) (ap (λ z. z .0 .1) q) ∙ place y .is)
+  block-known x y q e = Index-path P m pos (suc i) High fair x y (ap (λ z. z .0) e) (sym (locate x .is) ∙ ap₂ (_+_) (ap (λ z. cut Low (Rp (z .0)) (z .1)) e) (ap (λ z. z .0 .1) q) ∙ locate y .is)
 
-  pub block-one-rep : (x y : Ω⁺) → _≡_ {A = ℕ × ℕ} (x .0 .0, place x .b) (y .0 .0, place y .b) → base x .0 .0 ≡ base y .0 .0
+  pub block-one-rep : (x y : Ω⁺) → _≡_ {A = ℕ × ℕ} (x .0 .0, locate x .b) (y .0 .0, locate y .b) → base x .0 .0 ≡ base y .0 .0
   unfolding base
   block-one-rep x y e = ap (λ z. Rp (z .0) .ref 0 (cut Low (Rp (z .0)) (z .1))) e
 
@@ -187,10 +187,10 @@ module _ (W : Two) where
     hom = d-hom C m pos (suc i) High fair;
     base = base;
     Block = ℕ × ℕ;
-    block = λ x. (x .0 .0, place x .b);
+    block = λ x. (x .0 .0, locate x .b);
     known = block-known;
     one-rep = block-one-rep;
     over-base = λ h x. over-low h x .is-base;
-    over-block = λ h x. λ o. (form-shows C m pos (suc i) High fair (x .0 .0) (x .1 .0) (low C i h) .leads x refl o, over-low h x .is-number o);
+    over-block = λ h x. λ o. (form-shows C m pos (suc i) High fair (x .0 .0) (x .1 .0) (low C i h) .maps-to x refl o, over-low h x .is-number o);
     over-exponent = λ h x. over-low h x .is-exponent;
   }
