@@ -4,6 +4,7 @@
 --   shows-scale                                         a scalar multiple shows a map with a scalar behind it
 --   shows-inverse                                       the inverse shows the inverse map
 --   shows-map, shows-on                                 one matrix shows equal maps
+--   shown-unique                                        a map is shown by one matrix
 --   same-shown, shown-same                              equal maps exactly where the matrices pass as equal
 --   shows-valid                                         what shows a map with an inverse is valid
 use mathlib.Core.Path.{_≡_, refl, sym, _∙_, ap, ap₂, subst}
@@ -14,6 +15,7 @@ use native.Mathlib.Nat.{mod-eq-of-lt, mod-mod, add-mod-mod, zero-add}
 use native.Mathlib.Omega.{arith}
 use lib.Dec.{eqb, ltb}
 use lib.ListN.{length, getD, length-map}
+use lib.Seq.{ext-getD}
 use borrow.Author.Tests.{eqb-true, eq-eqb, lt-ltb}
 use Rattle.definitions.specs.declared.Entry.{Entry}
 use Rattle.definitions.specs.Lists.{upto, allBelow, anyBelow, least}
@@ -138,6 +140,13 @@ module _ (m : ℕ) (pos : 0 < m) {Ω : Type 0} (Φ : Frame Ω) where
         let (a, e, f, g) = shown-at h p k l in
         let same : col M k ≡ col M′ k = g ∙ sym (ap (col M′) (sym f) ∙ q .shown a e) in
         and-intro _ _ (eq-eqb _ _ (ap (λ (x : Entry). x .row) same)) (eq-eqb _ _ (ap (λ (x : Entry). x .exp % m) same))))
+
+    -- a map on a representation is shown by one matrix
+    pub shown-unique : {r s s′ : ℕ} {M M′ : Matrix} {A : Map (residues m pos) Ω} → r < N → Shows m Φ r s M A → Shows m Φ r s′ M′ A → M ≡ M′
+    unfolding col
+    shown-unique {r} {s} {s′} {M} {M′} {A} h p q = ext-getD (entry 0 0) M M′ (p .size ∙ sym (q .size)) (λ k l.
+        let (a, e, f, g) = shown-at h p k l in
+        g ∙ sym (ap (col M′) (sym f) ∙ q .shown a e))
 
     -- the matrices pass as equal: the maps agree on the representation
     pub shown-same : {r s : ℕ} {M M′ : Matrix} {A B : Map (residues m pos) Ω} → Shows m Φ r s M A → Shows m Φ r s M′ B → sameMatrix m M M′ ≡ true → (a : Ω) → Φ .rep a ≡ r → A a ≡ B a
