@@ -4,3 +4,4 @@ pub mod Steps
 pub mod Values
 pub mod Answers
 pub mod Relations
+pub mod Said

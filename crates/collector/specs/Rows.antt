@@ -6,7 +6,7 @@
 --   Generator k r                 r is the row of generator k
 --   Product, Conjugate            what product and conjugation return
 --   Remaining                     how many turns are left, once a period is known
---   Power, Turned                 powers, and conjugates turn after turn
+--   Power, Scaled, Turned         powers, a power times a form, and conjugates turn after turn
 --   Images, Value                 the images of the generators under conjugation by the next; values over them
 use mathlib.Core.Path.{_≡_}
 use mathlib.Core.Bool.{cond}

@@ -1,1 +1,4 @@
 -- Theorems about the definitions.
+pub mod Rendering
+pub mod Starred
+pub mod Unique

@@ -125,18 +125,18 @@ module _ (P : Presentation) (m : ℕ) (T : List ℕ) where
 
   -- ---- 25
 
-  -- some normal form leads basis index 0 to k
+  -- some normal form maps basis index 0 to k
   unfoldable pub reaches : ℕ → Rep → ℕ → Bool
   reaches i D k = any (λ x. eqb (col (image m D i x) 0 .row) k) (allForms P i)
 
-  -- x keeps index k of D and index k′ of D′, with exponents that differ modulo m
+  -- x fixes index k of D and index k′ of D′, with exponents that differ modulo m
   unfoldable pub tells : (i : ℕ) → Rep → ℕ → Rep → ℕ → NF i → Bool
   tells i D k D′ k′ x =
       let y = col (image m D i x) k in
       let y′ = col (image m D′ i x) k′ in
       eqb (y .row) k && eqb (y′ .row) k′ && not (eqb (y .exp % m) (y′ .exp % m))
 
-  -- every index of representation r is reached, and each is told apart from every other index of the level
+  -- every index of representation r is reached, and separated from every other index of the level
   unfoldable pub separates : ℕ → ℕ → Bool
   separates i r =
       let D = repOf (level i) r in

@@ -26,14 +26,14 @@ use Rattle.group.proofs.Level.{Nf-path, level, conjNf, uNf, genNf, low,
 use Rattle.group.proofs.Group.{imageNf, Test, Tested, group, Group}
 use Rattle.group.proofs.Order.{inverse, inverse-left, inverse-right, undo-left}
 use Rattle.group.proofs.Free.{Class, classes, classes-laws, classes-satisfy, genClass, invClass, gen-inv-class, inv-gen-class, class-value, class-joined, free}
-use Rattle.group.proofs.Tests.{test-holds, holds-test}
+use Rattle.group.proofs.Tests.{holds-test, testedBelow}
 
 pub test-level : (P : Presentation) → test P ≡ true → (i : ℕ) → i < P .n → levelTest P i ≡ true
 unfolding test
 test-level P t = allBelow-elim (P .n) (levelTest P) t
 
 unfoldable pub tested : (C : Context) → test (C .P) ≡ true → Tested
-tested C t = record { context = C; n = C .P .n; tests = λ i l. test-holds C i (test-level (C .P) t i l) }
+tested C t = testedBelow C (C .P .n) (test-level (C .P) t)
 
 -- ---- The test gives consistency
 
@@ -50,7 +50,7 @@ module _ (C : Context) (t : test (C .P) ≡ true) where
   T = tested C t
 
   G : Group C n
-  unfolding tested T
+  unfolding testedBelow tested T
   G = group T n (omega arith)
 
   evaluate : Word → Nf C n
@@ -87,15 +87,15 @@ module _ (C : Context) (t : test (C .P) ≡ true) where
   evaluate-word (suc i) x = evaluate-append (replicate (x .0) (gen i)) (word i (x .1)) ∙ ap₂ (_*_) (evaluate-power i (x .0)) (evaluate-word i (x .1))
 
   left : (x : Nf C n) → inverse C n x * x ≡ one
-  unfolding T tested
+  unfolding T tested testedBelow
   left = inverse-left T n (omega arith)
 
   right : (x : Nf C n) → x * inverse C n x ≡ one
-  unfolding T tested
+  unfolding T tested testedBelow
   right = inverse-right T n (omega arith)
 
   undo : (x y : Nf C n) → inverse C n x * (x * y) ≡ y
-  unfolding T tested
+  unfolding T tested testedBelow
   undo = undo-left T n (omega arith)
 
   evaluate-sides : (l r : Word) → Sides P l r → evaluate l ≡ evaluate r

@@ -2,6 +2,7 @@
 --
 --   test-holds      where levelTest is true the equations hold
 --   holds-test      where the equations hold levelTest is true
+--   testedBelow     a context in which levelTest is true below n
 use mathlib.Core.Path.{_≡_, refl, sym, _∙_, ap}
 use mathlib.Core.Bool.{true, _&&_}
 use Prim.Native.Nat.{ℕ, suc, _<_}
@@ -14,7 +15,7 @@ use Rattle.group.specs.Context.{Context, Nf}
 use Rattle.group.proofs.Values.{power-hom, value-hom}
 use Rattle.group.proofs.Clauses.{sameForm-eq, eq-sameForm}
 use Rattle.group.proofs.Level.{Nf-path, level, conjNf, uNf, genNf, forget}
-use Rattle.group.proofs.Group.{imageNf, Test}
+use Rattle.group.proofs.Group.{imageNf, Test, Tested}
 
 module _ (C : Context) (i : ℕ) where
   open Context C using (P)
@@ -82,3 +83,7 @@ module _ (C : Context) (i : ℕ) where
     fixed = ap (λ x. x .0) (t .fixes);
     inner = λ k l. ap (mul P i (P .u i)) (sym (iter-raw _ _)) ∙ ap (λ x. x .0) (t .inner k l);
   })
+
+-- the levels of a context in which the test passes below n
+unfoldable pub testedBelow : (C : Context) (n : ℕ) → ((i : ℕ) → i < n → levelTest (C .P) i ≡ true) → Tested
+testedBelow C n t = record { context = C; n = n; tests = λ i l. test-holds C i (t i l) }

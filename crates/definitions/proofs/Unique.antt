@@ -1,0 +1,145 @@
+-- One input has at most one result, for each of the five calls: answer, count and the caller's whole buffer. (That there
+-- is a result is what the proved functions show.)
+--
+--   first-unique               the first condition that applies has one number
+--   words-of-rows              the words of whole lines are those of their rows
+--   table-says-unique          a table text is that of one table
+--   accept-unique, build-unique, check-unique, read-unique, write-unique      the calls
+use mathlib.Core.Path.{_≡_, refl, sym, _∙_, ap, subst}
+use mathlib.Core.Logic.{_⊎_, inl, inr}
+use mathlib.Core.Bool.{Bool, true, false}
+use mathlib.Core.List.{List, [], _∷_, _++_, map, append-nil, append-assoc}
+use Prim.Native.Nat.{ℕ, zero, suc, _+_, _*_, _/_, _%_, _<_}
+use native.Mathlib.Nat.{div-add-mod'}
+use native.Mathlib.Decide.{ℕ-discrete}
+use native.Mathlib.Omega.{arith}
+use lib.ListN.{length, take, drop}
+use lib.Seq.{take-add, take-all}
+use lib.Dec.{eqb}
+use borrow.Author.Tests.{eqb-true}
+use Rattle.definitions.specs.Lists.{upto, blocks}
+use Rattle.definitions.specs.Text.{Bytes, render, small}
+use Rattle.definitions.specs.Presentation.{lineWords, Relations, Says, presentation}
+use Rattle.definitions.specs.Table.{lineCount, tableNames, rowsOf, tableText, writable}
+use Rattle.definitions.specs.Steps.{tableOf}
+use Rattle.definitions.specs.Answers.{First, says, presentationRefusals, buildRefusals, checkRefusals, readRefusals, writeRefusals, TableSays, over, Leaves, Accept, Build, Check, ReadTable, WriteTable}
+use Rattle.definitions.proofs.Rendering.{Plain, Field, Fields, Each, and-left, render-injective, says-unique}
+
+-- ---- Answers
+
+pub first-unique : (cs : List (ℕ × Type 0)) (a b : ℕ) → First cs a → First cs b → a ≡ b
+first-unique [] a b p q = p ∙ sym q
+first-unique (c ∷ cs) a b (inl p) (inl q) = p .1 ∙ sym (q .1)
+first-unique (c ∷ cs) a b (inl p) (inr q) = absurd (q .0 (p .0))
+first-unique (c ∷ cs) a b (inr p) (inl q) = absurd (p .0 (q .0))
+first-unique (c ∷ cs) a b (inr p) (inr q) = first-unique cs a b (p .1) (q .1)
+
+-- what a finished call leaves
+abbrev Determined : (ℕ → List ℕ → Type 0) → Type 0
+Determined F = (k k′ : ℕ) (w w′ : List ℕ) → F k w → F k′ w′ → (k ≡ k′) × (w ≡ w′)
+
+leaves-unique : (F : ℕ → List ℕ → Type 0) → Determined F → (before : List ℕ) (a a′ : ℕ) → a ≡ a′ → (k k′ : ℕ) (w w′ : List ℕ)
+    → Leaves F before a k w → Leaves F before a′ k′ w′ → (k ≡ k′) × (w ≡ w′)
+leaves-unique F det before a a′ e k k′ w w′ p q = go (ℕ-discrete a 0)
+  where
+    go : Dec (a ≡ 0) → (k ≡ k′) × (w ≡ w′)
+    go (yes z) = det k k′ w w′ (p .finished z) (q .finished (sym e ∙ z))
+    go (no z) =
+        let x = p .refused z in
+        let y = q .refused (λ z′. z (e ∙ z′)) in
+        (x .0 ∙ sym (y .0), x .1 ∙ sym (y .1))
+
+-- ---- Table text
+
+-- rows behind each other
+unfoldable pub join : List (List ℕ) → List ℕ
+join [] = []
+join (r ∷ rs) = r ++ join rs
+
+join-snoc : (rs : List (List ℕ)) (r : List ℕ) → join (rs ++ (r ∷ [])) ≡ join rs ++ r
+unfolding join
+join-snoc [] r = append-nil r
+join-snoc (x ∷ rs) r = ap (λ t. x ++ t) (join-snoc rs r) ∙ sym (append-assoc x (join rs) r)
+
+map-snoc : {A B : Type 0} (f : A → B) (xs : List A) (x : A) → map f (xs ++ (x ∷ [])) ≡ map f xs ++ (f x ∷ [])
+map-snoc f [] x = refl
+map-snoc f (y ∷ xs) x = ap (λ t. f y ∷ t) (map-snoc f xs x)
+
+join-blocks : (f : ℕ → List ℕ) (k : ℕ) → join (map f (upto k)) ≡ blocks k f
+unfolding join upto blocks
+join-blocks f zero = refl
+join-blocks f (suc k) = ap join (map-snoc f (upto k) k) ∙ join-snoc (map f (upto k)) (f k) ∙ ap (λ t. t ++ f k) (join-blocks f k)
+
+blocks-take : (w : ℕ) (T : List ℕ) (k : ℕ) → blocks k (λ l. take w (drop (w * l) T)) ≡ take (w * k) T
+unfolding blocks
+blocks-take w T zero = let e : 0 ≡ w * 0 = omega arith in ap (λ n. take n T) e
+blocks-take w T (suc k) =
+    let e : w * k + w ≡ w * suc k = omega arith in
+    ap (λ t. t ++ take w (drop (w * k) T)) (blocks-take w T k) ∙ sym (take-add (w * k) w T) ∙ ap (λ n. take n T) e
+
+pub words-of-rows : (T : List ℕ) → length T % lineWords ≡ 0 → join (rowsOf T) ≡ T
+unfolding rowsOf lineCount lineWords
+words-of-rows T h =
+    let e : lineWords * (length T / lineWords) ≡ length T = omega (arith, div-add-mod' (length T) 8) in
+    join-blocks _ (length T / lineWords) ∙ blocks-take lineWords T (length T / lineWords) ∙ ap (λ n. take n T) e ∙ take-all (length T) T (omega arith)
+
+letters : (b : ℕ) → 32 < b → Plain b
+letters b l = (λ q. omega arith, λ q. omega arith)
+
+-- every byte of the names line is a letter
+tableNames-fields : Fields tableNames
+unfolding tableNames
+tableNames-fields = search (letters, arith)
+
+whole : (T : List ℕ) → writable T ≡ true → length T % lineWords ≡ 0
+unfolding writable
+whole T h = eqb-true (length T % lineWords) 0 (and-left (eqb (length T % lineWords) 0) (small T) h)
+
+pub table-says-unique : (t : Bytes) (T T′ : List ℕ) → TableSays t T → TableSays t T′ → T ≡ T′
+unfolding tableText
+table-says-unique t T T′ p q =
+    let rows = render-injective tableNames (rowsOf T) (rowsOf T′) tableNames-fields (sym (p .written) ∙ q .written) in
+    sym (words-of-rows T (whole T (p .formed))) ∙ ap join rows ∙ words-of-rows T′ (whole T′ (q .formed))
+
+-- ---- The calls
+
+pub accept-unique : (t : Bytes) (a a′ : ℕ) → Accept t a → Accept t a′ → a ≡ a′
+accept-unique t a a′ = first-unique (presentationRefusals t) a a′
+
+pub check-unique : (t : Bytes) (T : List ℕ) (a a′ : ℕ) → Check t T a → Check t T a′ → a ≡ a′
+check-unique t T a a′ = first-unique (checkRefusals t T) a a′
+
+-- answer, count and buffer
+abbrev Same : (a a′ k k′ : ℕ) (w w′ : List ℕ) → Type 0
+Same a a′ k k′ w w′ = (a ≡ a′) × (k ≡ k′) × (w ≡ w′)
+
+pub build-unique : (t : Bytes) (before : List ℕ) (a a′ k k′ : ℕ) (w w′ : List ℕ) → Build t before a k w → Build t before a′ k′ w′
+    → Same a a′ k k′ w w′
+build-unique t before a a′ k k′ w w′ p q =
+    let e = first-unique (buildRefusals t (length before)) a a′ (p .answered) (q .answered) in
+    let r = leaves-unique _ determined before a a′ e k k′ w w′ (p .leaves) (q .leaves) in
+    (e, r .0, r .1)
+  where
+    determined : Determined (λ k w. says t (λ R. let T = tableOf (presentation R) in (k ≡ lineCount T) × (w ≡ over before T)))
+    determined k k′ w w′ x y =
+        let e : tableOf (presentation (x .0)) ≡ tableOf (presentation (y .0)) = ap (λ R. tableOf (presentation R)) (says-unique t (x .0) (y .0) (x .1) (y .1)) in
+        (x .2 .0 ∙ ap lineCount e ∙ sym (y .2 .0), x .2 .1 ∙ ap (over before) e ∙ sym (y .2 .1))
+
+pub read-unique : (t : Bytes) (before : List ℕ) (a a′ k k′ : ℕ) (w w′ : List ℕ) → ReadTable t before a k w → ReadTable t before a′ k′ w′
+    → Same a a′ k k′ w w′
+read-unique t before a a′ k k′ w w′ p q =
+    let e = first-unique (readRefusals t (length before)) a a′ (p .answered) (q .answered) in
+    let r = leaves-unique _ determined before a a′ e k k′ w w′ (p .leaves) (q .leaves) in
+    (e, r .0, r .1)
+  where
+    determined : Determined (λ k w. (T : List ℕ) × TableSays t T × (k ≡ lineCount T) × (w ≡ over before T))
+    determined k k′ w w′ x y =
+        let e = table-says-unique t (x .0) (y .0) (x .1) (y .1) in
+        (x .2 ∙ ap lineCount e ∙ sym (y .2), x .3 ∙ ap (over before) e ∙ sym (y .3))
+
+pub write-unique : (T : List ℕ) (before : Bytes) (a a′ k k′ : ℕ) (w w′ : Bytes) → WriteTable T before a k w → WriteTable T before a′ k′ w′
+    → Same a a′ k k′ w w′
+write-unique T before a a′ k k′ w w′ p q =
+    let e = first-unique (writeRefusals T (length before)) a a′ (p .answered) (q .answered) in
+    let r = leaves-unique _ (λ k k′ w w′ x y. (x .0 ∙ sym (y .0), x .1 ∙ sym (y .1))) before a a′ e k k′ w w′ (p .leaves) (q .leaves) in
+    (e, r .0, r .1)

@@ -1,0 +1,2 @@
+-- A level as closed formulas of the level below.
+pub mod Formulas

@@ -1,0 +1,25 @@
+-- `block_entry` reads one line.
+use mathlib.Core.Path.{_≡_, ap, ap₂, _∙_}
+use Prim.Native.Nat.{_+_, _%_}
+use Rattle.definitions.specs.declared.Entry.{Entry}
+use Rattle.definitions.specs.Monomial.{entry}
+use borrow.Author.Needs.{needs}
+use Rattle.lines.proofs.block_entry.Statement.{statement}
+use Rattle.lines.proofs.block_entry.Tie as tie
+
+column-requires : tie.Need-column-requires
+column-requires c κs = search needs
+
+add-t9 : tie.Need-add-t9
+add-t9 c = search needs
+
+add-mod-requires : tie.Need-add-mod-requires
+add-mod-requires c κs = search needs
+
+returns : tie.Need-returns
+returns c = let z = c .before .before .before .before in
+    let e = c .before .before .column .ensures .0 in
+    ap₂ entry (ap (λ (x : Entry). z .args .ro + x .row) e) (c .add-mod .ensures .0 ∙ ap (λ (x : Entry). (x .exp + z .args .c) % z .args .m) e)
+
+pub block-entry-spec : {M : Type 1} → statement M
+block-entry-spec = tie.close (tie.spec column-requires add-t9 add-mod-requires returns)

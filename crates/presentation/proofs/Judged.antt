@@ -1,0 +1,243 @@
+-- The answers to a whole text: what it says, and which refusals apply to that.
+--
+--   unnamed, unlined            no names line or no lines: the text is not in the form
+--   relationsOf, says-them      the relations that the lines say
+--   refused-form, not-prime, too-many, concluded     the answers 11, 12, 13, and what `Concluded` says
+--   primes-positive             a prime is not 0
+--   concluded-large, concluded-misused, concluded-well     how `Concluded` is reached
+--   accept-refused, accept-consistent  the same answers as the call that also asks 15
+use mathlib.Core.Path.{_≡_, refl, sym, ap, ap₂, subst, _∙_}
+use mathlib.Core.Logic.{_⊎_, inl, inr}
+use mathlib.Core.Bool.{Bool, true, false, _&&_, _||_, not, cond, true≢false, false≢true}
+use mathlib.Core.List.{List, [], _∷_, _++_}
+use Prim.Native.Nat.{ℕ, zero, suc, _*_, _<_, _≤_}
+use native.Mathlib.Omega.{arith}
+use lib.ListN.{length, getD, drop}
+use lib.Dec.{ltb, leb, eqb}
+use borrow.Author.Tests.{lt-ltb, le-ltb, leb-true, leb-false}
+use Rattle.definitions.specs.Lists.{sum, all, allBelow}
+use Rattle.definitions.specs.Text.{Bytes, line, render}
+use Rattle.definitions.specs.Presentation.{Relations, Says, InForm, textOf, presentationNames, pairs, pairNumber, rowOf, presentation, order, isPrime, allowed, maxGenerators, maxOrder, someNotPrime, tooLarge, misused, rowWell}
+use Rattle.definitions.specs.Consistency.{Consistent}
+use Rattle.definitions.specs.Answers.{First, says, Accept}
+use Rattle.definitions.proofs.Rendering.{rowFormed, Formed, wellFormed-formed, formed-wellFormed, line-unique, presentationNames-fields, presentationNames-injective, says-unique}
+use Rattle.numbers.proofs.Lists.{allBelow-intro}
+use Rattle.group.proofs.Pairs.{length-pairs, pairNumber-below}
+use Rattle.presentation.specs.declared.Outcome.{Outcome}
+use Rattle.presentation.specs.Lines.{NamesLine, NoNames}
+use Rattle.presentation.specs.Rows.{noRow, rowText, Stored, AllLines, NoLines}
+use Rattle.presentation.specs.Conditions.{product, entryWell, rowWells, pairWell, allWell, Primes}
+use Rattle.presentation.specs.Outcome.{Holds, textRefusals, ReadText, Concluded}
+use Rattle.presentation.proofs.Primes.{not-prime-small}
+use Rattle.presentation.proofs.Conditions.{allBelow-fails, product-zero, product-suc, number-within}
+
+-- ---- Texts that are not in the form
+
+text-parts : (R : Relations) → textOf R ≡ line (presentationNames (R .n)) ++ rowText (R .n) (R .rows)
+unfolding textOf render rowText
+text-parts R = refl
+
+pub unnamed : {t : Bytes} → NoNames t → ¬ InForm t
+unnamed h (R, s) =
+    let f = wellFormed-formed R (s .formed) in
+    h .none (R .n) (rowText (R .n) (R .rows)) (f .some) (f .few) (s .written ∙ text-parts R)
+
+pub unlined : {t : Bytes} {n next : ℕ} → NamesLine t n next → NoLines t next n → ¬ InForm t
+unlined {t} {n} {next} nm h (R, s) =
+    let f = wellFormed-formed R (s .formed) in
+    let u = line-unique (presentationNames n) (presentationNames (R .n)) (drop next t) (rowText (R .n) (R .rows))
+    (presentationNames-fields n) (presentationNames-fields (R .n)) (sym (nm .text) ∙ s .written ∙ text-parts R) in
+    let q : R .n ≡ n = sym (presentationNames-injective n (R .n) (u .0)) in
+    h .none (R .rows) (f .one-each ∙ ap (λ (m : ℕ). length (pairs m)) q) (subst (λ (m : ℕ). all (rowFormed m) (R .rows) ≡ true) q (f .formed-each))
+    (u .1 ∙ ap (λ (m : ℕ). rowText m (R .rows)) q)
+
+-- ---- Texts that are in the form
+
+-- a test that the relations of a text fail fails for whatever the text says
+unsaid : {t : Bytes} {R : Relations} (f : Relations → Bool) → Says t R → f R ≡ false → ¬ says t (λ (Q : Relations). f Q ≡ true)
+unsaid {t} {R} f s q (Q, h, w) = false≢true (sym q ∙ ap f (says-unique t R Q s h) ∙ w)
+
+allBelow-ext : (n : ℕ) (q r : ℕ → Bool) → ((k : ℕ) → k < n → q k ≡ r k) → allBelow n q ≡ allBelow n r
+unfolding allBelow
+allBelow-ext zero q r h = refl
+allBelow-ext (suc n) q r h = ap₂ (λ (a b : Bool). a && b) (allBelow-ext n q r (λ k l. h k (omega arith))) (h n (omega arith))
+
+order-zero : (R : Relations) → order (presentation R) 0 ≡ 1
+unfolding order
+order-zero R = refl
+
+order-suc : (R : Relations) (m : ℕ) → order (presentation R) (suc m) ≡ rowOf R m m .p * order (presentation R) m
+unfolding order presentation
+order-suc R m = refl
+
+module _ {t : Bytes} {n next : ℕ} (nm : NamesLine t n next) {words : List (List ℕ)} {ps : List ℕ} {flag : Bool} (al : AllLines t next n words ps flag) where
+  abbrev pub relationsOf : Relations
+  relationsOf = record { n = n; rows = al .rows }
+
+  pub says-them : Says t relationsOf
+  says-them =
+      record {
+        formed = formed-wellFormed relationsOf (record { some = nm .some; few = nm .few; one-each = al .count; formed-each = al .formed });
+        written = nm .text ∙ ap (λ (xs : Bytes). line (presentationNames n) ++ xs) (al .text) ∙ sym (text-parts relationsOf);
+      }
+
+  in-form : ¬ ¬ InForm t
+  in-form h = h (relationsOf, says-them)
+
+  -- ---- The primes
+
+  all-prime : flag ≡ true → someNotPrime relationsOf ≡ false
+  unfolding someNotPrime presentation rowOf
+  all-prime q = ap not (allBelow-intro n (λ j. isPrime (getD (al .rows) (pairNumber j j) noRow .p)) (al .prime q))
+
+  pub not-prime : flag ≡ false → {o : Outcome} → o .status ≡ 12 → ReadText t o
+  unfolding someNotPrime presentation rowOf
+  not-prime q e =
+      let c = al .composite q in
+      let w : someNotPrime relationsOf ≡ true = ap not (allBelow-fails n (λ j. isPrime (getD (al .rows) (pairNumber j j) noRow .p)) (c .0) (c .1) (c .2)) in
+      record { answered = inr (in-form, inl ((relationsOf, says-them, w), e)); held = λ z. absurd (omega arith) }
+
+  pub primes-positive : flag ≡ true → n ≤ 12 → (j : ℕ) → j < n → 0 < getD ps (pairNumber j j) 0
+  primes-positive q few j l =
+      let r : getD ps (pairNumber j j) 0 ≡ getD (al .rows) (pairNumber j j) noRow .p =
+      al .stored .p-kept (pairNumber j j) (omega (arith, al .count, length-pairs n, pairNumber-below n j j (omega arith) l)) (number-within j j (omega arith) (omega arith)) in
+      pick (getD (al .rows) (pairNumber j j) noRow .p) (al .prime q j l) r
+    where
+      pick : (p : ℕ) → isPrime p ≡ true → getD ps (pairNumber j j) 0 ≡ p → 0 < getD ps (pairNumber j j) 0
+      pick zero h r = absurd (false≢true (sym (not-prime-small 0 (omega arith)) ∙ h))
+      pick (suc p) h r = omega arith
+
+  -- ---- More than twelve generators
+
+  pub too-many : flag ≡ true → 12 < n → {o : Outcome} → o .status ≡ 13 → ReadText t o
+  unfolding tooLarge maxGenerators
+  too-many q l e =
+      let w : tooLarge relationsOf ≡ true = ap (λ (b : Bool). b || ltb maxOrder (order (presentation relationsOf) n)) (lt-ltb 12 n l) in
+      record {
+        answered = inr (in-form, inr (unsaid someNotPrime says-them (all-prime q), inl ((relationsOf, says-them, w), e)));
+        held = λ z. absurd (omega arith);
+      }
+
+  -- ---- At most twelve
+
+  module _ (few : n ≤ 12) {primes : List ℕ} (are : Primes ps n primes) where
+    row-within : (j i : ℕ) → j < n → i ≤ j → pairNumber j i < length (al .rows)
+    row-within j i l m = omega (arith, al .count, length-pairs n, pairNumber-below n j i m l)
+
+    row-kept : (j i : ℕ) → j < n → i ≤ j → pairNumber j i < 78
+    row-kept j i l m = number-within j i (omega arith) m
+
+    p-is : (j i : ℕ) → j < n → i ≤ j → getD ps (pairNumber j i) 0 ≡ rowOf relationsOf j i .p
+    unfolding rowOf
+    p-is j i l m = al .stored .p-kept (pairNumber j i) (row-within j i l m) (row-kept j i l m)
+
+    prime-is : (j : ℕ) → j < n → getD primes j 0 ≡ rowOf relationsOf j j .p
+    prime-is j l = are .each j l ∙ p-is j j l (omega arith)
+
+    word-is : (j i : ℕ) → j < n → i ≤ j → (k : ℕ) → k < 12 → getD (getD words (pairNumber j i) []) k 0 ≡ getD (rowOf relationsOf j i .word) k 0
+    unfolding rowOf
+    word-is j i l m k b = al .stored .word-kept (pairNumber j i) (row-within j i l m) (row-kept j i l m) k b
+
+    order-is : (m : ℕ) → m ≤ n → order (presentation relationsOf) m ≡ product primes m
+    order-is zero l = order-zero relationsOf ∙ sym (product-zero primes)
+    order-is (suc m) l =
+        order-suc relationsOf m ∙ ap₂ (λ (a b : ℕ). a * b) (sym (prime-is m l)) (order-is m (omega arith)) ∙ sym (product-suc primes m)
+
+    too-large : tooLarge relationsOf ≡ ltb maxOrder (product primes n)
+    unfolding tooLarge maxGenerators
+    too-large =
+        ap (λ (b : Bool). b || ltb maxOrder (order (presentation relationsOf) n)) (le-ltb 12 n few)
+        ∙ ap (ltb maxOrder) (order-is n (omega arith))
+
+    pair-is : (j i : ℕ) → j < n → i ≤ j → pairWell words ps primes n j i ≡ rowWell relationsOf j i
+    unfolding pairWell rowWells rowWell presentation
+    pair-is j i l m =
+        ap₂ (λ (a b : Bool). a && b) (ap (λ (p : ℕ). eqb i j || eqb p 0) (p-is j i l m))
+        (allBelow-ext n _ _ (λ k b. ap₂ (λ (e p : ℕ). entryWell e p j i k) (word-is j i l m k (omega arith)) (prime-is k b)))
+
+    misused-is : misused relationsOf ≡ not (allWell words ps primes n)
+    unfolding misused
+    misused-is = ap not (sym (allBelow-ext n _ _ (λ j l. allBelow-ext (suc j) _ _ (λ i b. pair-is j i l (omega arith)))))
+
+    held-by : (o : Outcome) → (o .presentation .n ≡ n) × (o .presentation .primes ≡ primes) × (o .presentation .words ≡ words) → Holds relationsOf (o .presentation)
+    unfolding maxGenerators
+    held-by o k =
+        record {
+          count = k .0;
+          few = few;
+          prime-held = λ j l. ap (λ (xs : List ℕ). getD xs j 0) (k .1) ∙ prime-is j l;
+          word-held = λ j i l m c b. ap (λ (w : List (List ℕ)). getD (getD w (pairNumber j i) []) c 0) (k .2) ∙ word-is j i l m c b;
+        }
+
+  pub concluded : flag ≡ true → n ≤ 12 → {o : Outcome} → Concluded n words ps o → ReadText t o
+  concluded q few {o} h = pick (leb (product (h .primes) n) maxOrder) (allWell words ps (h .primes) n) refl refl (h .number)
+    where
+      not12 : ¬ says t (λ (R : Relations). someNotPrime R ≡ true)
+      not12 = unsaid someNotPrime says-them (all-prime q)
+
+      large : (b : Bool) → leb (product (h .primes) n) maxOrder ≡ b → tooLarge relationsOf ≡ not b
+      large true w = too-large few (h .are) ∙ le-ltb maxOrder (product (h .primes) n) (leb-true (product (h .primes) n) maxOrder w)
+      large false w = too-large few (h .are) ∙ lt-ltb maxOrder (product (h .primes) n) (leb-false (product (h .primes) n) maxOrder w)
+
+      not13 : leb (product (h .primes) n) maxOrder ≡ true → ¬ says t (λ (R : Relations). tooLarge R ≡ true)
+      not13 w = unsaid tooLarge says-them (large true w)
+
+      pick : (a b : Bool) → leb (product (h .primes) n) maxOrder ≡ a → allWell words ps (h .primes) n ≡ b
+          → o .status ≡ cond a (cond b 0 14) 13 → ReadText t o
+      pick false b x y e =
+          record { answered = inr (in-form, inr (not12, inl ((relationsOf, says-them, large false x), e))); held = λ z. absurd (omega arith) }
+      pick true false x y e =
+          record {
+            answered = inr (in-form, inr (not12, inr (not13 x, inl ((relationsOf, says-them, misused-is few (h .are) ∙ ap not y), e))));
+            held = λ z. absurd (omega arith);
+          }
+      pick true true x y e =
+          record {
+            answered = inr (in-form, inr (not12, inr (not13 x, inr (unsaid misused says-them (misused-is few (h .are) ∙ ap not y), e))));
+            held = λ z. (relationsOf, says-them, held-by few (h .are) o (h .kept z));
+          }
+
+-- ---- Answers
+
+pub refused-form : {t : Bytes} → ¬ InForm t → {o : Outcome} → o .status ≡ 11 → ReadText t o
+refused-form h e = record { answered = inl (h, e); held = λ z. absurd (omega arith) }
+
+-- the call that also asks 15 answers the same, and 15 is asked where none of these applies
+pub accept-refused : {t : Bytes} {a : ℕ} → First (textRefusals t) a → (a ≡ 0 → ⊥) → Accept t a
+accept-refused (inl h) n = inl h
+accept-refused (inr (h, inl k)) n = inr (h, inl k)
+accept-refused (inr (h, inr (k, inl l))) n = inr (h, inr (k, inl l))
+accept-refused (inr (h, inr (k, inr (l, inl m)))) n = inr (h, inr (k, inr (l, inl m)))
+accept-refused (inr (h, inr (k, inr (l, inr (m, e))))) n = absurd (n e)
+
+pub accept-consistent : {t : Bytes} {a : ℕ} → First (textRefusals t) 0 → First ((15, says t (λ (R : Relations). ¬ Consistent (presentation R))) ∷ []) a → Accept t a
+accept-consistent (inl h) f = absurd (omega (arith, h .1))
+accept-consistent (inr (h, inl k)) f = absurd (omega (arith, k .1))
+accept-consistent (inr (h, inr (k, inl l))) f = absurd (omega (arith, l .1))
+accept-consistent (inr (h, inr (k, inr (l, inl m)))) f = absurd (omega (arith, m .1))
+accept-consistent (inr (h, inr (k, inr (l, inr (m, e))))) f = inr (h, inr (k, inr (l, inr (m, f))))
+
+-- ---- What was kept
+
+module _ {n : ℕ} {words : List (List ℕ)} {ps primes : List ℕ} (are : Primes ps n primes) {o : Outcome} where
+  pub concluded-large : leb (product primes n) maxOrder ≡ false → o .status ≡ 13 → Concluded n words ps o
+  concluded-large h e =
+      record { primes = primes; are = are; number = e ∙ sym (ap (λ (b : Bool). cond b (cond (allWell words ps primes n) 0 14) 13) h); kept = λ z. absurd (omega arith) }
+
+  module _ (fits : leb (product primes n) maxOrder ≡ true) where
+    pub concluded-misused : allWell words ps primes n ≡ false → o .status ≡ 14 → Concluded n words ps o
+    concluded-misused h e = record {
+      primes = primes;
+      are = are;
+      number = e ∙ sym (ap₂ (λ (a b : Bool). cond a (cond b 0 14) 13) fits h);
+      kept = λ z. absurd (omega arith);
+    }
+
+    pub concluded-well : allWell words ps primes n ≡ true → o .status ≡ 0
+        → (o .presentation .n ≡ n) × (o .presentation .primes ≡ primes) × (o .presentation .words ≡ words) → Concluded n words ps o
+    concluded-well h e k = record {
+      primes = primes;
+      are = are;
+      number = e ∙ sym (ap₂ (λ (a b : Bool). cond a (cond b 0 14) 13) fits h);
+      kept = λ z. k;
+    }

@@ -1,0 +1,58 @@
+-- The order, then the words.
+use mathlib.Core.Path.{refl, sym, _∙_}
+use native.Mathlib.Omega.{arith}
+use borrow.Author.Tests.{not-true, not-false}
+use Rattle.presentation.proofs.Judged.{concluded-large, concluded-misused, concluded-well}
+use borrow.Author.Needs.{needs}
+use Rattle.presentation.proofs.conclude.Statement.{statement}
+use Rattle.presentation.proofs.conclude.Tie as tie
+
+primes-of-requires : tie.Need-primes-of-requires
+primes-of-requires c κs = search needs
+
+order-fits-requires : tie.Need-order-fits-requires
+order-fits-requires c κs =
+    (omega arith, λ j l. omega (arith, c .before .primes-of .ensures .each j l, c .before .before .before .pre .1 j l))
+
+refused-requires : tie.Need-refused-requires
+refused-requires c κs = search needs
+
+returns : tie.Need-returns
+returns c =
+    let f = c .before .before .order-fits in
+    concluded-large (c .before .before .before .before .primes-of .ensures) (sym (f .ensures) ∙ not-true (f .result) (c .before .if1 .taken)) (c .refused .ensures)
+
+well-requires : tie.Need-well-requires
+well-requires c κs = search needs
+
+refused-requires-2 : tie.Need-refused-requires-2
+refused-requires-2 c κs = search needs
+
+returns-2 : tie.Need-returns-2
+returns-2 c =
+    let f = c .before .before .before .before .before .before .before .order-fits in
+    let w = c .before .before .well in
+    concluded-misused (c .before .before .before .before .before .before .before .before .before .primes-of .ensures) (sym (f .ensures) ∙ not-false (f .result) (c .before .before .before .before .before .before .if1 .left)) (sym (w .ensures) ∙ not-true (w .result) (c .before .if2 .taken)) (c .refused2 .ensures)
+
+make-requires : tie.Need-make-requires
+make-requires c κs = search needs
+
+returns-3 : tie.Need-returns-3
+returns-3 c =
+    let f = c .before .before .before .before .before .before .before .order-fits in
+    let w = c .before .before .well in
+    concluded-well (c .before .before .before .before .before .before .before .before .before .primes-of .ensures) (sym (f .ensures) ∙ not-false (f .result) (c .before .before .before .before .before .before .if1 .left)) (sym (w .ensures) ∙ not-false (w .result) (c .before .if2 .left)) refl (c .make .ensures)
+
+pub conclude-spec : {M : Type 1} → statement M
+conclude-spec =
+    tie.close
+    (tie.spec
+    primes-of-requires
+    order-fits-requires
+    refused-requires
+    returns
+    well-requires
+    refused-requires-2
+    returns-2
+    make-requires
+    returns-3)

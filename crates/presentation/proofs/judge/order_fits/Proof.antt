@@ -1,0 +1,70 @@
+-- The order so far is the product of the primes so far, and at most the ceiling.
+use mathlib.Core.Path.{_≡_, sym}
+use Prim.Native.Nat.{_+_, _*_, _-_, _≤_}
+use native.Mathlib.Nat.{mul-le-mul}
+use native.Mathlib.Omega.{arith}
+use Rattle.presentation.specs.Conditions.{product}
+use Rattle.presentation.proofs.Conditions.{product-zero, product-turn, order-exceeds, order-within}
+use Rattle.presentation.proofs.judge.order_fits.Statement.{statement}
+use Rattle.presentation.proofs.judge.order_fits.Tie as tie
+
+abbrev Inv-loop : tie.InvT-loop
+Inv-loop primes n order₀ j₀ order j = (order ≡ product primes j) × (order ≤ 4096) × (j ≤ n)
+
+abbrev μ-loop : tie.MeasureT-loop
+μ-loop primes n order₀ j₀ order j = n - j
+
+loop-holds : tie.Need-loop-holds Inv-loop μ-loop
+loop-holds c = (sym (product-zero (c .args .primes .now)), omega arith, omega arith)
+
+mul-up : tie.Need-mul-up Inv-loop μ-loop
+mul-up c = omega arith
+
+element-copy-out-up : tie.Need-element-copy-out-up Inv-loop μ-loop
+element-copy-out-up c = omega arith
+
+up-requires : tie.Need-up-requires Inv-loop μ-loop
+up-requires c κs = tt
+
+mul-order : tie.Need-mul-order Inv-loop μ-loop
+mul-order c =
+    omega (arith, mul-le-mul {n₁ = c .before .before .before .loop .order} {m₁ = c .up .result} {n₂ = 4096} {m₂ = 4294967296} (omega arith) (omega arith))
+
+returns : tie.Need-returns Inv-loop μ-loop
+returns c =
+    let a = c .before .before .before .before .before .args in
+    sym (order-exceeds (a .primes .now) (c .before .before .before .before .loop .j + 1) (a .n) (c .before .before .before .before .loop .order * c .before .up .result) (omega arith) (c .before .before .before .before .before .pre .1) (product-turn (a .primes .now) (c .before .before .before .before .loop .j) (c .before .before .before .before .loop .order) (c .before .up .result) (c .before .before .before .before .loop .inv .0) (c .before .up .ensures .0)) (omega arith))
+
+add-j : tie.Need-add-j Inv-loop μ-loop
+add-j c = omega arith
+
+loop-less : tie.Need-loop-less Inv-loop μ-loop
+loop-less c = omega arith
+
+loop-again : tie.Need-loop-again Inv-loop μ-loop
+loop-again c =
+    let a = c .before .before .before .before .before .args in
+    (product-turn (a .primes .now) (c .before .before .before .before .loop .j) (c .before .before .before .before .loop .order) (c .before .up .result) (c .before .before .before .before .loop .inv .0) (c .before .up .ensures .0), omega arith, omega arith)
+
+returns-2 : tie.Need-returns-2 Inv-loop μ-loop
+returns-2 c =
+    let a = c .before .before .args in
+    let h = c .before .loop .inv in
+    sym (order-within (a .primes .now) (c .before .loop .j) (a .n) (c .before .loop .order) (omega arith) (h .0) (h .1))
+
+pub order-fits-spec : {M : Type 1} → statement M
+order-fits-spec =
+    tie.close
+    (tie.spec
+    Inv-loop
+    μ-loop
+    loop-holds
+    mul-up
+    element-copy-out-up
+    up-requires
+    mul-order
+    returns
+    add-j
+    loop-less
+    loop-again
+    returns-2)

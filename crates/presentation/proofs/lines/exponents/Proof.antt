@@ -1,0 +1,90 @@
+-- The exponents are read one by one: `Going` is what has been read.
+use mathlib.Core.Path.{_∙_}
+use mathlib.Core.Logic.{⊎-elim}
+use Prim.Native.Nat.{_-_}
+use borrow.Author.Needs.{needs}
+use native.Mathlib.Omega.{arith}
+use Rattle.text.proofs.Reading.{byte-within}
+use Rattle.presentation.proofs.Words.{Going, going-none, going-more, going-past, going-fails, going-stops, going-end, going-as}
+use Rattle.presentation.proofs.lines.exponents.Statement.{statement}
+use Rattle.presentation.proofs.lines.exponents.Tie as tie
+
+abbrev Inv-loop : tie.InvT-loop
+Inv-loop text at n kept₀ next₀ k₀ kept next k = Going text at n k next kept
+
+abbrev μ-loop : tie.MeasureT-loop
+μ-loop text at n kept₀ next₀ k₀ kept next k = n - k
+
+loop-holds : tie.Need-loop-holds Inv-loop μ-loop
+loop-holds c = going-none (c .before .pre .0) (c .before .pre .1)
+
+value-behind-requires : tie.Need-value-behind-requires Inv-loop μ-loop
+value-behind-requires c κs = omega arith
+
+enum-known-e : tie.Need-enum-known-e Inv-loop μ-loop
+enum-known-e c = search needs
+
+enum-told : tie.Need-enum-told Inv-loop μ-loop
+enum-told c = search needs
+
+returns : tie.Need-returns Inv-loop μ-loop
+returns c =
+    going-fails (c .before .before .before .before .loop .inv) (omega arith) (c .before .before .value-behind .ensures .fails (c .enum-told .given .1))
+
+cast-kept : tie.Need-cast-kept Inv-loop μ-loop
+cast-kept c = omega arith
+
+mul-kept : tie.Need-mul-kept Inv-loop μ-loop
+mul-kept c = omega arith
+
+array-write-kept : tie.Need-array-write-kept Inv-loop μ-loop
+array-write-kept c = omega arith
+
+add-k : tie.Need-add-k Inv-loop μ-loop
+add-k c = omega arith
+
+loop-less : tie.Need-loop-less Inv-loop μ-loop
+loop-less c = omega arith
+
+loop-again : tie.Need-loop-again Inv-loop μ-loop
+loop-again c =
+    let h = c .before .before .before .before .before .before .loop .inv in
+    let v = c .before .before .before .before .value-behind .ensures .stands _ _ (c .before .before .e .given .1) in
+    ⊎-elim (λ w. going-as (w .1) (going-more h (omega arith) (omega (arith, w .0)) v)) (λ w. going-as (w .1) (going-past h (omega arith) (omega (arith, w .0)) v)) (c .if1 .came)
+
+byte-at-requires : tie.Need-byte-at-requires Inv-loop μ-loop
+byte-at-requires c κs = tt
+
+returns-2 : tie.Need-returns-2 Inv-loop μ-loop
+returns-2 c =
+    going-stops (c .before .before .before .loop .inv) (omega arith) (λ q. c .if2 .taken (c .before .byte-at .ensures ∙ q))
+
+add-t19 : tie.Need-add-t19 Inv-loop μ-loop
+add-t19 c =
+    omega (arith, byte-within (c .before .before .before .before .before .args .text .now) (c .before .before .before .loop .next) (omega arith))
+
+returns-3 : tie.Need-returns-3 Inv-loop μ-loop
+returns-3 c =
+    going-end (c .before .before .before .loop .inv) (omega arith) (omega arith) (byte-within (c .before .before .before .before .before .args .text .now) (c .before .before .before .loop .next) (omega arith))
+
+pub exponents-spec : {M : Type 1} → statement M
+exponents-spec =
+    tie.close
+    (tie.spec
+    Inv-loop
+    μ-loop
+    loop-holds
+    value-behind-requires
+    enum-known-e
+    enum-told
+    returns
+    cast-kept
+    mul-kept
+    array-write-kept
+    add-k
+    loop-less
+    loop-again
+    byte-at-requires
+    returns-2
+    add-t19
+    returns-3)

@@ -1,0 +1,39 @@
+-- Two stores, or none.
+use mathlib.Core.Path.{refl}
+use native.Mathlib.Omega.{arith}
+use borrow.Author.Needs.{needs}
+use Rattle.presentation.proofs.lines.keep.Statement.{statement}
+use Rattle.presentation.proofs.lines.keep.Tie as tie
+
+mul-e : tie.Need-mul-e
+mul-e c = search needs
+
+element-set-from-e : tie.Need-element-set-from-e
+element-set-from-e c = search needs
+
+mul-ps : tie.Need-mul-ps
+mul-ps c = search needs
+
+element-write-ps : tie.Need-element-write-ps
+element-write-ps c = search needs
+
+returns : tie.Need-returns
+returns c =
+    record {
+      kept-word = λ l. refl;
+      kept-p = λ l. refl;
+      past-word = λ l. absurd (omega arith);
+      past-p = λ l. absurd (omega arith);
+    }
+
+returns-2 : tie.Need-returns-2
+returns-2 c =
+    record {
+      kept-word = λ l. absurd (omega arith);
+      kept-p = λ l. absurd (omega arith);
+      past-word = λ l. refl;
+      past-p = λ l. refl;
+    }
+
+pub keep-spec : {M : Type 1} → statement M
+keep-spec = tie.close (tie.spec mul-e element-set-from-e mul-ps element-write-ps returns returns-2)

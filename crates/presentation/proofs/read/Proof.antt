@@ -1,0 +1,95 @@
+-- One answer for each way through.
+use mathlib.Core.Path.{refl}
+use native.Mathlib.Omega.{arith}
+use borrow.Author.Tests.{not-true, not-false}
+use Rattle.presentation.proofs.Judged.{unnamed, unlined, refused-form, not-prime, primes-positive, too-many, concluded}
+use borrow.Author.Needs.{needs}
+use Rattle.presentation.proofs.read.Statement.{statement}
+use Rattle.presentation.proofs.read.Tie as tie
+
+names-requires : tie.Need-names-requires
+names-requires c κs = search needs
+
+enum-known-n : tie.Need-enum-known-n
+enum-known-n c = search needs
+
+enum-told : tie.Need-enum-told
+enum-told c = search needs
+
+refused-requires : tie.Need-refused-requires
+refused-requires c κs = search needs
+
+returns : tie.Need-returns
+returns c =
+    refused-form (unnamed (c .before .before .before .names .ensures .fails (c .before .enum-told .given .1))) (c .refused .ensures)
+
+read-lines-requires : tie.Need-read-lines-requires
+read-lines-requires c κs =
+    let m = c .before .before .before .before .before .names .ensures .stands _ _ (c .before .before .before .n .given .1) in
+    (m .within, m .few, refl, refl)
+
+refused-requires-2 : tie.Need-refused-requires-2
+refused-requires-2 c κs = search needs
+
+returns-2 : tie.Need-returns-2
+returns-2 c =
+    let m = c .before .before .before .before .before .before .before .before .names .ensures .stands _ _ (c .before .before .before .before .before .before .n .given .1) in
+    let l = c .before .before .read-lines in
+    refused-form (unlined m (l .ensures .fails (not-true (l .result .ok) (c .before .if1 .taken)))) (c .refused2 .ensures)
+
+refused-requires-3 : tie.Need-refused-requires-3
+refused-requires-3 c κs = search needs
+
+returns-3 : tie.Need-returns-3
+returns-3 c =
+    let m = c .before .before .before .before .before .before .before .before .before .names .ensures .stands _ _ (c .before .before .before .before .before .before .before .n .given .1) in
+    let l = c .before .before .before .read-lines in
+    let a = l .ensures .stands (not-false (l .result .ok) (c .before .before .if1 .left)) in
+    not-prime m a (not-true (l .result .primes) (c .before .if2 .taken)) (c .refused3 .ensures)
+
+refused-requires-4 : tie.Need-refused-requires-4
+refused-requires-4 c κs = search needs
+
+returns-4 : tie.Need-returns-4
+returns-4 c =
+    let m = c .before .before .before .before .before .before .before .before .before .before .names .ensures .stands _ _ (c .before .before .before .before .before .before .before .before .n .given .1) in
+    let l = c .before .before .before .before .read-lines in
+    let a = l .ensures .stands (not-false (l .result .ok) (c .before .before .before .if1 .left)) in
+    too-many m a (not-false (l .result .primes) (c .before .before .if2 .left)) (omega arith) (c .refused4 .ensures)
+
+cast-conclude : tie.Need-cast-conclude
+cast-conclude c = search needs
+
+conclude-requires : tie.Need-conclude-requires
+conclude-requires c κs =
+    let m = c .before .before .before .before .before .before .before .before .before .names .ensures .stands _ _ (c .before .before .before .before .before .before .before .n .given .1) in
+    let l = c .before .before .before .read-lines in
+    let a = l .ensures .stands (not-false (l .result .ok) (c .before .before .if1 .left)) in
+    (omega arith, primes-positive m a (not-false (l .result .primes) (c .before .if2 .left)) (omega arith))
+
+returns-5 : tie.Need-returns-5
+returns-5 c =
+    let m = c .before .before .before .before .before .before .before .before .before .before .names .ensures .stands _ _ (c .before .before .before .before .before .before .before .before .n .given .1) in
+    let l = c .before .before .before .before .read-lines in
+    let a = l .ensures .stands (not-false (l .result .ok) (c .before .before .before .if1 .left)) in
+    concluded m a (not-false (l .result .primes) (c .before .before .if2 .left)) (omega arith) (c .conclude .ensures)
+
+pub read-spec : {M : Type 1} → statement M
+read-spec =
+    tie.close
+    (tie.spec
+    names-requires
+    enum-known-n
+    enum-told
+    refused-requires
+    returns
+    read-lines-requires
+    refused-requires-2
+    returns-2
+    refused-requires-3
+    returns-3
+    refused-requires-4
+    returns-4
+    cast-conclude
+    conclude-requires
+    returns-5)

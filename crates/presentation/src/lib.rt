@@ -1,0 +1,101 @@
+// The read presentation, and the reader of presentation text (refusals 11 to 14).
+//
+//   Presentation          n, the primes, and the words in rows of rows
+//   make, words_of        the two functions that touch the rows as a field
+//   Outcome, refused      what reading leaves: a refusal, or 0 and the presentation
+//   conclude              refusals 13 and 14 on what was kept of at most twelve generators
+//   read                  the reader
+//   prime                 primality of a value
+//   lines                 the lines of a text
+//   judge                 refusals 13 and 14
+use text::Read;
+ghost use mathlib.Core.Path.{_≡_};
+ghost use mathlib.Core.List.{[]};
+ghost use Prim.Native.Nat.{ℕ, _+_, _<_, _≤_};
+ghost use lib.ListN.{length, getD};
+ghost use Rattle.definitions.specs.Presentation.{pairNumber};
+ghost use Rattle.presentation.specs.Outcome.{Concluded, ReadText};
+
+pub mod judge;
+pub mod lines;
+pub mod prime;
+
+// The read presentation. Row r of the words has the exponents of the pair with number r.
+pub struct Presentation {
+    pub n: usize,
+    pub primes: [u32; 12],
+    pub words: [[u32; 12]; 78],
+}
+
+pub fn make(n: usize, primes: [u32; 12], words: [[u32; 12]; 78]) -> Presentation
+    ensures { λ r. ⌜ (r .n ≡ n) × (r .primes ≡ primes) × (r .words ≡ words) ⌝ }
+{
+    Presentation { n, primes, words }
+}
+
+pub fn words_of(p: Presentation) -> [[u32; 12]; 78]
+    ensures { λ r. ⌜ r ≡ p .words ⌝ }
+{
+    p.words
+}
+
+// What reading a text leaves: the number of a refusal, or 0 and the presentation.
+pub struct Outcome {
+    pub status: u32,
+    pub presentation: Presentation,
+}
+
+// A refusal, with no generators.
+fn refused(status: u32) -> Outcome
+    ensures { λ r. ⌜ r .status ≡ status ⌝ }
+{
+    let presentation = make(0, [0u32; 12], [[0u32; 12]; 78]);
+    Outcome {
+        status,
+        presentation,
+    }
+}
+
+// Refusals 13 and 14 on what was kept of a text with n generators.
+fn conclude(n: usize, words: [[u32; 12]; 78], ps: [u32; 78]) -> Outcome
+    requires { ⌜ n ≤ 12 ⌝ }
+    requires { ⌜ ((j : ℕ) → j < n → 0 < getD ps (pairNumber j j) 0) ⌝ }
+    ensures { λ r. ⌜ Concluded n words ps r ⌝ }
+{
+    let primes = judge::primes_of(&ps, n);
+    if !judge::order_fits(&primes, n) {
+        return refused(13);
+    }
+    if !judge::well(&words, &ps, &primes, n) {
+        return refused(14);
+    }
+    let presentation = make(n, primes, words);
+    Outcome {
+        status: 0,
+        presentation,
+    }
+}
+
+// The presentation that a text says, or the first refusal of 11 to 14.
+pub fn read(text: &[u8]) -> Outcome
+    ensures { λ r. ⌜ ReadText (now (text .entry)) r ⌝ }
+{
+    let Read::Value(n, at) = lines::names(text) else {
+        return refused(11);
+    };
+    let mut words = [[0u32; 12]; 78];
+    let mut ps = [0u32; 78];
+    let l = lines::read_lines(text, at, n, &mut words, &mut ps);
+    let ok = l.ok;
+    if !ok {
+        return refused(11);
+    }
+    let primes = l.primes;
+    if !primes {
+        return refused(12);
+    }
+    if 12 < n {
+        return refused(13);
+    }
+    conclude(n as usize, words, ps)
+}

@@ -1,0 +1,66 @@
+-- Laws of a level that stands in words.
+--
+--   first-zero, first-next     where representations begin
+--   first-room, matrix-room    there is a line at the beginning of a representation, and of a matrix
+--   orbits                     the orbits of the generator on top
+--   Filled, filled-none, filled-more      an array filled up to an index
+use mathlib.Core.Path.{_≡_, refl, ap, ap₂, sym, _∙_, subst}
+use Prim.Native.Nat.{ℕ, zero, suc, _+_, _*_, _<_, _≤_}
+use native.Mathlib.Numerals.{add-one}
+use native.Mathlib.Omega.{arith}
+use mathlib.Core.List.{List}
+use native.Mathlib.Decide.{ℕ-discrete}
+use lib.ListN.{length, getD, set}
+use lib.Seq.{getD-set-same, getD-set-other}
+use Rattle.definitions.specs.Table.{wordAt}
+use Rattle.numbers.proofs.Orbits.{Orbits}
+use Rattle.lines.specs.Lines.{Holds}
+use Rattle.survey.specs.declared.Frame.{Frame}
+use Rattle.survey.specs.Below.{firstOf, degOf, matrixOf, targetOf, Stands}
+
+module _ (f : Frame) (W : List ℕ) where
+  pub first-zero : firstOf f W 0 ≡ f .base
+  unfolding firstOf
+  first-zero = refl
+
+  pub first-next : (r : ℕ) → firstOf f W (r + 1) ≡ firstOf f W r + f .gens * degOf f W r
+  unfolding firstOf
+  first-next r = ap (firstOf f W) (add-one r)
+
+  module _ (S : Stands f W) where
+    pub matrix-room : (g r : ℕ) → g < f .gens → r < f .reps → 8 * matrixOf f W g r + 8 ≤ length W
+    matrix-room g r a b = let h : 8 * (matrixOf f W g r + degOf f W r) ≤ length W = S .valid r b g a .fits in omega (arith, S .wide r b .0)
+
+    pub first-room : (r : ℕ) → r < f .reps → 8 * firstOf f W r + 8 ≤ length W
+    first-room r b = omega (arith, matrix-room 0 r (omega (arith, S .gens .0)) b)
+
+    pub first-below : (r : ℕ) → r < f .reps → firstOf f W r + f .gens * degOf f W r ≤ f .end
+    first-below r b = subst (λ z. z ≤ f .end) (ap (firstOf f W) (sym (add-one r)) ∙ first-next r) (S .inside r b)
+
+    -- the orbits of the generator on top
+    unfoldable pub orbits : Orbits
+    orbits = record {
+      N = f .reps;
+      p = f .p;
+      τ = targetOf f W (f .top);
+      two = S .prime .0;
+      units = S .units;
+      inside = λ r l. S .target r l (f .top) (omega arith) (S .gens .0) .0;
+      home = S .cycle;
+    }
+
+-- ---- Arrays
+
+-- an array filled up to r
+abbrev pub Filled : List ℕ → (ℕ → ℕ) → ℕ → Type 0
+Filled a g r = (k : ℕ) → k < r → getD a k 0 ≡ g k
+
+pub filled-none : (a : List ℕ) (g : ℕ → ℕ) → Filled a g 0
+filled-none a g k l = absurd (omega arith)
+
+pub filled-more : (a : List ℕ) (g : ℕ → ℕ) (r x : ℕ) → r < length a → x ≡ g r → Filled a g r → Filled (set a r x) g (r + 1)
+filled-more a g r x l e h k m = go (ℕ-discrete k r)
+  where
+    go : Dec (k ≡ r) → getD (set a r x) k 0 ≡ g k
+    go (yes q) = ap (λ z. getD (set a r x) z 0) q ∙ getD-set-same a r x 0 l ∙ e ∙ ap g (sym q)
+    go (no q) = getD-set-other a r k x 0 q ∙ h k (omega arith)

@@ -1,0 +1,3 @@
+-- Laws of a level that stands in words.
+pub mod Level
+pub mod Marking

@@ -1,0 +1,2 @@
+-- A level of a table as it stands in words.
+pub mod Below

@@ -1,0 +1,157 @@
+// What is to be known of a level before the next is written: where its representations begin, the orbits of the generator
+// on top, the numbers of what they give, and the constants that close each orbit.
+ghost use mathlib.Core.Path.{_≡_};
+ghost use Prim.Native.Nat.{ℕ, _+_, _*_, _%_, _≤_, _<_};
+ghost use lib.ListN.{length, getD, set};
+ghost use Rattle.definitions.specs.Presentation.{Presentation};
+ghost use Rattle.survey.specs.Below.{firstOf, degOf, matrixOf, targetOf, leaderIn, positionIn, Stands, Array, Lines, Marked, MarkedTo};
+
+// What a level is made with: the modulus, the generator on top (from 0), how many generators there are, the prime of the
+// one on top, the first line of the level below, how many representations that has, and the line behind it.
+pub struct Frame {
+    pub m: u32,
+    pub top: u32,
+    pub gens: u32,
+    pub p: u32,
+    pub base: usize,
+    pub reps: u32,
+    pub end: usize,
+}
+
+// Element r of an array, as an index.
+pub fn element(a: &[u32], r: u32) -> u32
+    requires { ⌜ r < length (now a) ⌝ }
+    ensures { λ x. ⌜ x ≡ getD (now (a .entry)) r 0 ⌝ }
+{
+    a[r as usize]
+}
+
+// The degree of representation r.
+pub fn degree(low: &[u32], first: &[u32], f: Frame, r: u32) -> u32
+    requires { ⌜ Stands f (now low) × Lines f (now low) (now first) × (r < f .reps) ⌝ }
+    ensures { λ d. ⌜ d ≡ degOf f (now (low .entry)) r ⌝ }
+{
+    let s = element(first, r);
+    lines::word_at(low, lines::up(s), 2)
+}
+
+// The line at which generator g of representation r begins.
+pub fn matrix_line(low: &[u32], first: &[u32], f: Frame, g: u32, r: u32) -> usize
+    requires { ⌜ Stands f (now low) × Lines f (now low) (now first) × (r < f .reps) × (g < f .gens) ⌝ }
+    ensures { λ x. ⌜ x ≡ matrixOf f (now (low .entry)) g r ⌝ }
+{
+    let s = lines::up(element(first, r));
+    let d = lines::word_at(low, s, 2);
+    s + lines::up(g) * lines::up(d)
+}
+
+// Where the intertwiner of generator j leads representation r.
+pub fn target(low: &[u32], first: &[u32], f: Frame, j: u32, r: u32) -> u32
+    requires { ⌜ Stands f (now low) × Lines f (now low) (now first) × (r < f .reps) × (f .top ≤ j) × (j < f .gens) ⌝ }
+    ensures { λ x. ⌜ (x ≡ targetOf f (now (low .entry)) j r) × (x < f .reps) ⌝ }
+{
+    let at = matrix_line(low, first, f, j, r);
+    lines::word_at(low, at, 4)
+}
+
+// The line behind representation r, which begins at line s.
+pub fn next_line(low: &[u32], f: Frame, r: u32, s: usize) -> usize
+    requires { ⌜ Stands f (now low) × (r < f .reps) × (s ≡ firstOf f (now low) r) ⌝ }
+    ensures { λ x. ⌜ x ≡ firstOf f (now (low .entry)) (r + 1) ⌝ }
+{
+    let d = lines::word_at(low, s, 2);
+    s + lines::up(f.gens) * lines::up(d)
+}
+
+// Stores x at r.
+pub fn store(a: &mut [u32], r: u32, x: u32)
+    requires { ⌜ r < length (now a) ⌝ }
+    ensures { λ _. ⌜ now (a .exit) ≡ set (now (a .entry)) r x ⌝ }
+{
+    a[r as usize] = x;
+}
+
+// Fills the array of first lines.
+pub fn find_lines(low: &[u32], first: &mut [u32], f: Frame)
+    requires { ⌜ Stands f (now low) × (f .reps ≤ length (now first)) ⌝ }
+    ensures { λ _. ⌜ Lines f (now (low .entry)) (now (first .exit)) × (length (now (first .exit)) ≡ length (now (first .entry))) ⌝ }
+{
+    let mut s = f.base;
+    let reps = f.reps;
+    for r in 0..reps {
+        store(first, r, s as u32);
+        s = next_line(low, f, r, s);
+    }
+}
+
+// Marks representation q as element k of the orbit of r, unless it is marked; `reps` stands for unmarked.
+pub fn mark(leaders: &mut [u32], places: &mut [u32], reps: u32, r: u32, q: u32, k: u32)
+    requires { ⌜ (q < length (now leaders)) × (q < length (now places)) ⌝ }
+    ensures { λ _. ⌜ Marked (now (leaders .entry)) (now (places .entry)) reps r q k (now (leaders .exit)) (now (places .exit)) ⌝ }
+{
+    if element(leaders, q) == reps {
+        store(leaders, q, r);
+        store(places, q, k);
+    }
+}
+
+// Marks the orbit of r, none of which is marked.
+pub fn mark_orbit(
+    low: &[u32],
+    first: &[u32],
+    leaders: &mut [u32],
+    places: &mut [u32],
+    f: Frame,
+    r: u32,
+)
+    requires { ⌜ Stands f (now low) × Lines f (now low) (now first) × (r < f .reps) × (leaderIn f (now low) r ≡ r) ⌝ }
+    requires { ⌜ MarkedTo f (now low) (now leaders) (now places) r 0 ⌝ }
+    ensures { λ _. ⌜ MarkedTo f (now (low .entry)) (now (leaders .exit)) (now (places .exit)) r (f .p) × (length (now (leaders .exit)) ≡ length (now (leaders .entry))) × (length (now (places .exit)) ≡ length (now (places .entry))) ⌝ }
+{
+    let mut q = r;
+    let p = f.p;
+    for k in 0..p {
+        mark(leaders, places, f.reps, r, q, k);
+        q = target(low, first, f, f.top, q);
+    }
+}
+
+// Marks the orbit of r if r begins one.
+pub fn mark_from(
+    low: &[u32],
+    first: &[u32],
+    leaders: &mut [u32],
+    places: &mut [u32],
+    f: Frame,
+    r: u32,
+)
+    requires { ⌜ Stands f (now low) × Lines f (now low) (now first) × (r < f .reps) ⌝ }
+    requires { ⌜ MarkedTo f (now low) (now leaders) (now places) r 0 ⌝ }
+    ensures { λ _. ⌜ MarkedTo f (now (low .entry)) (now (leaders .exit)) (now (places .exit)) (r + 1) 0 × (length (now (leaders .exit)) ≡ length (now (leaders .entry))) × (length (now (places .exit)) ≡ length (now (places .entry))) ⌝ }
+{
+    if element(leaders, r) == f.reps {
+        mark_orbit(low, first, leaders, places, f, r);
+    }
+}
+
+// Fills an array with x below n.
+pub fn clear(a: &mut [u32], n: u32, x: u32)
+    requires { ⌜ n ≤ length (now a) ⌝ }
+    ensures { λ _. ⌜ (length (now (a .exit)) ≡ length (now (a .entry))) × ((k : ℕ) → k < n → getD (now (a .exit)) k 0 ≡ x) ⌝ }
+{
+    for k in 0..n {
+        store(a, k, x);
+    }
+}
+
+// Fills the arrays of leaders and positions.
+pub fn mark_orbits(low: &[u32], first: &[u32], leaders: &mut [u32], places: &mut [u32], f: Frame)
+    requires { ⌜ Stands f (now low) × Lines f (now low) (now first) × (f .reps ≤ length (now leaders)) × (f .reps ≤ length (now places)) ⌝ }
+    ensures { λ _. ⌜ Array f (now (low .entry)) (now (leaders .exit)) (leaderIn f (now (low .entry))) × Array f (now (low .entry)) (now (places .exit)) (positionIn f (now (low .entry))) ⌝ }
+{
+    let reps = f.reps;
+    clear(leaders, reps, reps);
+    for r in 0..reps {
+        mark_from(low, first, leaders, places, f, r);
+    }
+}

@@ -1,0 +1,80 @@
+-- The digits are read one by one: `Run` is what has been read.
+use Prim.Native.Nat.{_-_}
+use borrow.Author.Needs.{needs}
+use native.Mathlib.Omega.{arith}
+use lib.ListN.{length}
+use Rattle.text.proofs.Reading.{Run, run-one, run-within, run-more, run-past, run-end, run-none, digit-within}
+use Rattle.text.proofs.value.Statement.{statement}
+use Rattle.text.proofs.value.Tie as tie
+
+abbrev Inv-loop : tie.InvT-loop
+Inv-loop text at v₀ i₀ d₀ v i d = Run text at v i d
+
+abbrev μ-loop : tie.MeasureT-loop
+μ-loop text at v₀ i₀ d₀ v i d = length text - i
+
+digit-at-requires : tie.Need-digit-at-requires Inv-loop μ-loop
+digit-at-requires c κs = search needs
+
+returns : tie.Need-returns Inv-loop μ-loop
+returns c = run-none (c .before .digit-at .ensures) (omega arith)
+
+add-i : tie.Need-add-i Inv-loop μ-loop
+add-i c = omega (arith, digit-within (c .before .digit-at .ensures) (omega arith))
+
+digit-at-requires-2 : tie.Need-digit-at-requires-2 Inv-loop μ-loop
+digit-at-requires-2 c κs = search needs
+
+loop-holds : tie.Need-loop-holds Inv-loop μ-loop
+loop-holds c =
+    run-one (c .before .before .digit-at .ensures) (omega arith) (c .digit-at2 .ensures)
+
+returns-2 : tie.Need-returns-2 Inv-loop μ-loop
+returns-2 c = run-past (c .before .before .loop .inv) (omega arith) (λ p. omega arith)
+
+returns-3 : tie.Need-returns-3 Inv-loop μ-loop
+returns-3 c = run-past (c .before .before .before .loop .inv) (omega arith) (λ p. omega arith)
+
+mul-v : tie.Need-mul-v Inv-loop μ-loop
+mul-v c = omega arith
+
+add-v : tie.Need-add-v Inv-loop μ-loop
+add-v c = omega arith
+
+add-i-2 : tie.Need-add-i-2 Inv-loop μ-loop
+add-i-2 c = omega (arith, run-within (c .before .before .before .loop .inv) (omega arith))
+
+digit-at-requires-3 : tie.Need-digit-at-requires-3 Inv-loop μ-loop
+digit-at-requires-3 c κs = search needs
+
+loop-less : tie.Need-loop-less Inv-loop μ-loop
+loop-less c =
+    omega (arith, run-within (c .before .before .before .before .loop .inv) (omega arith))
+
+loop-again : tie.Need-loop-again Inv-loop μ-loop
+loop-again c =
+    run-more (c .before .before .before .before .loop .inv) (omega arith) (omega arith) (omega arith) (c .digit-at3 .ensures)
+
+returns-4 : tie.Need-returns-4 Inv-loop μ-loop
+returns-4 c = run-end (c .before .loop .inv) (omega arith)
+
+pub value-spec : {M : Type 1} → statement M
+value-spec =
+    tie.close
+    (tie.spec
+    Inv-loop
+    μ-loop
+    digit-at-requires
+    returns
+    add-i
+    digit-at-requires-2
+    loop-holds
+    returns-2
+    returns-3
+    mul-v
+    add-v
+    add-i-2
+    digit-at-requires-3
+    loop-less
+    loop-again
+    returns-4)
