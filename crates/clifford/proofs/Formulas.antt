@@ -1,5 +1,6 @@
 -- The steps without searches and without inverses: what a builder computes instead.
 --
+--   less-back, less-over      differences modulo m
 --   l-formula          l is a quotient of one exponent, at column 0
 --   last-formula       the last block of an induction is an intertwiner times one scalar
 use mathlib.Core.Path.{_≡_, refl, sym, _∙_, ap, ap₂, subst}
@@ -37,14 +38,14 @@ module _ (R : Rung) where
   open Exponents (residues m pos) using (add, nil, neg)
 
   -- x + y less y is x
-  less-back : (x y : Residue m) → less m ((add x y) .0) (y .0) ≡ x .0
+  pub less-back : (x y : Residue m) → less m ((add x y) .0) (y .0) ≡ x .0
   less-back x y = less-value m pos (add x y) y ∙ ap (λ z. z .0) (E R .assoc x y (neg y) ∙ ap (add x) (E R .negr y) ∙ E R .comm _ _ ∙ E R .idl x)
 
   -- x less y + x is the negative of y
-  less-over : (x y : Residue m) → less m (x .0) ((add y x) .0) ≡ (neg y) .0
+  pub less-over : (x y : Residue m) → less m (x .0) ((add y x) .0) ≡ (neg y) .0
   less-over x y = less-value m pos x (add y x) ∙ ap (λ z. z .0) (neg-of (E R) y _ (sym (E R .assoc y x _) ∙ E R .negr (add y x)))
 
-  share-is : m / p R ≡ R .share
+  pub share-is : m / p R ≡ R .share
   share-is = div-eq-of-eq-mul-right (omega (arith, T .context .two i)) (R .split)
 
   -- ---- l

@@ -1,0 +1,2 @@
+-- The closed formulas are the steps.
+pub mod Entries
