@@ -1,2 +1,4 @@
 -- The closed formulas are the steps.
 pub mod Entries
+pub mod Extended
+pub mod Induced

@@ -1,0 +1,1 @@
+-- Inductions by closed formulas.
