@@ -132,11 +132,11 @@ module _ (R : Rung) where
     plain-shows : Shows m (Ψ R) r s (Steps.blockIntertwiner (P R) m i L j r (λ b. 0)) (F .X j)
     plain-shows = intertwiner-shows (λ b. 0) (λ a e. (refl, sym (ap (λ z. z % m) (add-zero _) ∙ mod-eq-of-lt ((F .X j a) .1 .1))))
 
-    left-shows : Shows m (Ψ R) r s (Steps.leftSide (P R) m i L j r) (F .X j *′ φ (S R) F (𝓢 R) j ij jn)
+    pub left-shows : Shows m (Ψ R) r (leader (O R) (F .target j r)) (Steps.leftSide (P R) m i L j r) (F .X j *′ φ (S R) F (𝓢 R) j ij jn)
     unfolding Steps.leftSide
     left-shows = shows-mul m pos (Ψ R) plain-shows conj-shows
 
-    right-shows : Shows m (Ψ R) r s (Steps.rightSide (P R) m i L j r) (Y (S R) F (𝓢 R) *′ F .X j)
+    pub right-shows : Shows m (Ψ R) r (leader (O R) (F .target j r)) (Steps.rightSide (P R) m i L j r) (Y (S R) F (𝓢 R) *′ F .X j)
     unfolding Steps.rightSide
     right-shows =
         subst (λ t. Shows m (Ψ R) r s (product m (Steps.blockCycle (P R) m i L t) (Steps.blockIntertwiner (P R) m i L j r (λ b. 0))) (Y (S R) F (𝓢 R) *′ F .X j))
@@ -144,14 +144,14 @@ module _ (R : Rung) where
         (shows-mul m pos (Ψ R) (cycle-shows R s s-below s-moved s-own) plain-shows)
 
     -- the first column of block b
-    member-of : ℕ → Ω
+    unfoldable pub member-of : ℕ → Ω
     member-of b = first R (iter (τ R) b r)
 
-    member-rep : (b : ℕ) → rep R (member-of b) ≡ iter (τ R) b r
+    pub member-rep : (b : ℕ) → rep R (member-of b) ≡ iter (τ R) b r
     unfolding member-of
     member-rep b = first-rep R (iter (τ R) b r) (iter-below (O R) b r h)
 
-    member-leader : (b : ℕ) → leaderAt (member-of b) ≡ r
+    pub member-leader : (b : ℕ) → leader (O R) (rep R (member-of b)) ≡ r
     member-leader b = ap (leader (O R)) (member-rep b) ∙ leader-iter (O R) b r h ∙ own
 
     member-wide : (b : ℕ) → b < p R → wide R (member-of b) ≡ b * d
@@ -160,7 +160,7 @@ module _ (R : Rung) where
         of (member-of b) (member-leader b) .wide-is
         ∙ ap₂ (λ x y. x * d + y) (ap (position (O R)) (member-rep b) ∙ position-of R r h mv own b l) (firstOf-column R (iter (τ R) b r) (decLt (iter (τ R) b r) (N R))) ∙ add-zero _
 
-    at-block : {t : ℕ} {M : Matrix} {B : Map (E R) Ω} → Shows m (Ψ R) r t M B → (b : ℕ) → b < p R → col M (b * d) ≡ entry (wide R ((B (member-of b)) .0)) ((B (member-of b)) .1 .0)
+    pub at-block : {t : ℕ} {M : Matrix} {B : Map (E R) Ω} → Shows m (Ψ R) r t M B → (b : ℕ) → b < p R → col M (b * deg R r) ≡ entry (wide R ((B (member-of b)) .0)) ((B (member-of b)) .1 .0)
     at-block {t} {M} sh b l = ap (col M) (sym (member-wide b l)) ∙ sh .shown (member-of b) (member-leader b)
 
     -- ---- The blocks along generator i

@@ -51,7 +51,7 @@ module _ (R : Rung) where
   shift-part : (r : ℕ) → r < N R → τ R r ≡ r → Fm.shift (Sc R) r / p R ≡ σ (S R) m pos F (ready R) r .0
   shift-part r h f = ap (λ z. z / p R) (shift-is R r h) ∙ sym (ap (λ z. z .0) (σ-fixed (S R) m pos F (ready R) r f) ∙ part-value m pos _ _)
 
-  plus-move : (k : Residue m) (a : Ω) (x e : Residue m) → (((add x e) .0) + k .0) % m ≡ (add (add x k) e) .0
+  pub plus-move : (k : Residue m) (a : Ω) (x e : Residue m) → (((add x e) .0) + k .0) % m ≡ (add (add x k) e) .0
   plus-move k a x e = sym (add-value m pos (add x e) k) ∙ ap (λ z. z .0) (turn x e k)
     where
       turn : (x e k : Residue m) → add (add x e) k ≡ add (add x k) e
