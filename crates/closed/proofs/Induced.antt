@@ -3,9 +3,8 @@
 --   plus-shows            generator i on an entry of an orbit that moves
 --   cycle-moves           the same, with the number of the block
 --   conjugate-entry       column 0 of a block, moved by the conjugate of generator i
---   left-same, right-same, block-same, scalar-same      the scalars found along generator i
---   scalars               the scalar of a block is that of the steps
---   matrix-low, matrix-top, matrix-up      the matrices of an induction
+--   block-is, block-same  the blocks along generator i
+--   left-same             the left side of the equation that forces the scalars
 use mathlib.Core.Path.{_≡_, refl, sym, _∙_, ap, ap₂, subst, fun-ext}
 use mathlib.Core.Bool.{Bool, true, cond}
 use mathlib.Core.List.{List, _++_, map}
@@ -181,7 +180,7 @@ module _ (R : Rung) where
           ap (λ (x : Moved). x .block) (conjugate-entry b l .0)
           ∙ ap (position (O R)) (φ-maps (S R) F (𝓢 R) j ij jn (mem b) ∙ ap (iter (τ R) A) (first-rep R s (iter-below (O R) b r h)) ∙ iter-add (τ R) b A r) ∙ position-mod R r h mv own (b + A)
 
-      block-is : (t : ℕ) → Fm.blockAt (Sc R) j r t ≡ (A * t) % p R
+      pub block-is : (t : ℕ) → Fm.blockAt (Sc R) j r t ≡ (suc (P R .w i j .0) * t) % p R
       unfolding Fm.blockAt
       block-is zero = let z : A * 0 ≡ 0 = omega arith in sym (ap (λ k. k % p R) z ∙ zero-mod (p R))
       block-is (suc t) =
@@ -195,7 +194,7 @@ module _ (R : Rung) where
       unfolding move
       move-pair B D a = sym (at-mul (E R) B D a)
 
-      left-same : (b : ℕ) → b < p R → Fm.leftAt (Sc R) j r b ≡ col (Steps.leftSide (P R) m i L j r) (b * deg R r) .exp
+      pub left-same : (b : ℕ) → b < p R → Fm.leftAt (Sc R) j r b ≡ col (Steps.leftSide (P R) m i L j r) (b * deg R r) .exp
       unfolding Fm.leftAt held member-of
       left-same b l =
           let (a, e) = conjugate-entry b l in
@@ -203,16 +202,3 @@ module _ (R : Rung) where
           ap (λ (x : Moved). act m (repOf L (Fm.orbit (Sc R) r (x .block)) .matrix j) (x .at) .exp) a ∙ ap (λ t. act m (repOf L t .matrix j) (stand R z) .exp) (orbit-back z e)
           ∙ ap (λ (x : Entry). x .exp) (act-shows R (stands .intertwines j (omega arith) jn (rep R (z .0)) (rep-below R (z .0))) z refl) ∙ stand-exp R _ ∙ ap (λ y. y .1 .0) (move-pair (F .X j) φo (mem b))
           ∙ sym (ap (λ (x : Entry). x .exp) (at-block R j ij jn r h mv own (left-shows R j ij jn r h mv own) b l))
-
-      -- the orbit to which generator j maps
-      abbrev s : ℕ
-      s = leader (O R) (F .target j r)
-
-      s-below : s < N R
-      s-below = leader-below (O R) (F .target j r) (target-below R j ij jn r h)
-
-      s-moved : ¬ (τ R s ≡ s)
-      s-moved = leader-moved (O R) (F .target j r) (target-below R j ij jn r h) (target-moved R j ij jn r h mv)
-
-      s-own : leader (O R) s ≡ s
-      s-own = leader-leader (O R) (F .target j r) (target-below R j ij jn r h)

@@ -2,3 +2,5 @@
 pub mod Entries
 pub mod Extended
 pub mod Induced
+pub mod Scalar
+pub mod Closed

@@ -1,0 +1,1 @@
+-- The closed formulas are the steps.
