@@ -4,3 +4,4 @@ pub mod Extended
 pub mod Induced
 pub mod Scalar
 pub mod Closed
+pub mod Table
