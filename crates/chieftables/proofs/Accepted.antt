@@ -1,19 +1,18 @@
 -- From the reader's answer to that of the call.
 --
---   Passed t P        what is known of a text that none of 11 to 14 refuses, and of the presentation P read from it
---   passed            the reader's answer 0 says so
---   ready             such a presentation is in range for the consistency test
+--   passed            the reader's answer 0 says that none of 11 to 14 applies
+--   ready             the presentation is then in range for the consistency test
 --   accepted-refused, accepted-consistent, accepted-inconsistent     the answers 11 to 14, 0, and 15
 use mathlib.Core.Path.{_≡_, refl, sym, subst, _∙_}
-use mathlib.Core.Logic.{_⊎_, inl, inr}
+use mathlib.Core.Logic.{inl, inr}
 use mathlib.Core.Bool.{Bool, true, false, false≢true}
 use mathlib.Core.List.{List}
-use Prim.Native.Nat.{ℕ, zero}
+use Prim.Native.Nat.{ℕ}
 use native.Mathlib.Omega.{arith}
 use Rattle.definitions.specs.Text.{Bytes}
 use Rattle.definitions.specs.Presentation.{Relations, Says, maxGenerators, presentation, someNotPrime, tooLarge, misused}
 use Rattle.definitions.specs.Consistency.{Consistent}
-use Rattle.definitions.specs.Answers.{First, says, Accept}
+use Rattle.definitions.specs.Answers.{First, says}
 use Rattle.definitions.proofs.Rendering.{says-unique}
 use Rattle.presentation.specs.declared.Presentation.{Presentation}
 use Rattle.presentation.specs.declared.Outcome.{Outcome}
@@ -22,17 +21,9 @@ use Rattle.presentation.proofs.Judged.{accept-refused, accept-consistent}
 use Rattle.collector.specs.Rows.{Ready}
 use Rattle.collector.specs.Answers.{Holds as Held, Decides}
 use Rattle.collector.proofs.Relations.{holds-ready, decides-consistent}
-use Rattle.chieftables.specs.Accepted.{Accepted}
+use Rattle.chieftables.specs.Accepted.{Passed, Sound, Accepted}
 
 -- ---- What is known behind the reader
-
-pub record Passed (t : Bytes) (P : Presentation) : Type 0 where
-  pub R : Relations
-  pub said : Says t R
-  pub primes : someNotPrime R ≡ false
-  pub fits : tooLarge R ≡ false
-  pub used : misused R ≡ false
-  pub held : Holds R P
 
 -- both crates say that primes and words are those of R
 held-of : {R : Relations} {P : Presentation} → Holds R P → Held R (P .n) (P .primes) (P .words)
@@ -62,7 +53,7 @@ module _ {t : Bytes} where
 
   module _ {o : Outcome} (read : ReadText t o) where
     pub accepted-refused : ¬ (o .status ≡ 0) → Accepted t o
-    accepted-refused h = record { answered = accept-refused (read .answered) h; held = read .held }
+    accepted-refused h = record { answered = accept-refused (read .answered) h; sound = λ z. absurd (h z) }
 
     module _ (zero-read : o .status ≡ 0) where
       none-first : First (textRefusals t) 0
@@ -83,7 +74,11 @@ module _ {t : Bytes} where
           decided = decides-consistent (passed .R) (passed .said .formed) (passed .primes) (passed .used) _ _ _ held-words r decides
 
           pub accepted-consistent : r ≡ true → Accepted t (record { status = 0; presentation = o .presentation })
-          accepted-consistent e = record { answered = accept-consistent none-first (inr (allowed, refl)); held = λ z. read .held zero-read }
+          accepted-consistent e =
+              record {
+                answered = accept-consistent none-first (inr (allowed, refl));
+                sound = λ z. record { passed = passed; consistent = decided .0 e };
+              }
             where
               allowed : ¬ says t (λ (R : Relations). ¬ Consistent (presentation R))
               allowed (Q, s, h) = h (subst (λ (R : Relations). Consistent (presentation R)) (says-unique t (passed .R) Q (passed .said) s) (decided .0 e))
@@ -91,5 +86,5 @@ module _ {t : Bytes} where
           pub accepted-inconsistent : r ≡ false → Accepted t (record { status = 15; presentation = o .presentation })
           accepted-inconsistent e = record {
             answered = accept-consistent none-first (inl ((passed .R, passed .said, λ c. false≢true (sym e ∙ decided .1 c)), refl));
-            held = λ z. absurd (omega arith);
+            sound = λ z. absurd (omega arith);
           }
