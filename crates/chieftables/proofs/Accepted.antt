@@ -6,7 +6,7 @@
 use mathlib.Core.Path.{_≡_, refl, sym, subst, _∙_}
 use mathlib.Core.Logic.{inl, inr}
 use mathlib.Core.Bool.{Bool, true, false, false≢true}
-use mathlib.Core.List.{List}
+use mathlib.Core.List.{List, [], _∷_}
 use Prim.Native.Nat.{ℕ}
 use native.Mathlib.Omega.{arith}
 use Rattle.definitions.specs.Text.{Bytes}
@@ -17,11 +17,15 @@ use Rattle.definitions.proofs.Rendering.{says-unique}
 use Rattle.presentation.specs.declared.Presentation.{Presentation}
 use Rattle.presentation.specs.declared.Outcome.{Outcome}
 use Rattle.presentation.specs.Outcome.{Holds, textRefusals, ReadText}
-use Rattle.presentation.proofs.Judged.{accept-refused, accept-consistent}
+use Rattle.presentation.proofs.Accepted.{refused-first, read-first}
 use Rattle.collector.specs.Rows.{Ready}
 use Rattle.collector.specs.Answers.{Holds as Held, Decides}
 use Rattle.collector.proofs.Relations.{holds-ready, decides-consistent}
 use Rattle.chieftables.specs.Accepted.{Passed, Sound, Accepted}
+
+-- 15, the one refusal behind the reader's
+abbrev inconsistent : Bytes → List (ℕ × Type 0)
+inconsistent t = (15, says t (λ (R : Relations). ¬ Consistent (presentation R))) ∷ []
 
 -- ---- What is known behind the reader
 
@@ -53,7 +57,7 @@ module _ {t : Bytes} where
 
   module _ {o : Outcome} (read : ReadText t o) where
     pub accepted-refused : ¬ (o .status ≡ 0) → Accepted t o
-    accepted-refused h = record { answered = accept-refused (read .answered) h; sound = λ z. absurd (h z) }
+    accepted-refused h = record { answered = refused-first (inconsistent t) (read .answered) h; sound = λ z. absurd (h z) }
 
     module _ (zero-read : o .status ≡ 0) where
       none-first : First (textRefusals t) 0
@@ -76,7 +80,7 @@ module _ {t : Bytes} where
           pub accepted-consistent : r ≡ true → Accepted t (record { status = 0; presentation = o .presentation })
           accepted-consistent e =
               record {
-                answered = accept-consistent none-first (inr (allowed, refl));
+                answered = read-first (inconsistent t) none-first (inr (allowed, refl));
                 sound = λ z. record { passed = passed; consistent = decided .0 e };
               }
             where
@@ -85,6 +89,6 @@ module _ {t : Bytes} where
 
           pub accepted-inconsistent : r ≡ false → Accepted t (record { status = 15; presentation = o .presentation })
           accepted-inconsistent e = record {
-            answered = accept-consistent none-first (inl ((passed .R, passed .said, λ c. false≢true (sym e ∙ decided .1 c)), refl));
+            answered = read-first (inconsistent t) none-first (inl ((passed .R, passed .said, λ c. false≢true (sym e ∙ decided .1 c)), refl));
             sound = λ z. absurd (omega arith);
           }
