@@ -1,6 +1,7 @@
 -- A level that agrees with one that stands, stands too, and is cut into the same blocks.
 --
---   agree-stands         what stands is told by the lines alone
+--   target-listed        an intertwiner of a level that stands maps to a listed representation
+--   agree-stands         what stands is in the lines alone
 --   agree-restricts      and so are the blocks
 --   agree-words          levels that agree have the same lines
 use mathlib.Core.Path.{_≡_, refl, sym, _∙_, ap, ap₂, subst}
@@ -25,6 +26,12 @@ use Rattle.monomial.proofs.Residues.{residues}
 use Rattle.clifford.specs.Stands.{frame, Stands, Restricts}
 use Rattle.clifford.proofs.Lines.{Agrees}
 
+pub target-listed : (C : Context) (n m : ℕ) (pos : 0 < m) (i : ℕ) (L : Level) {Ω : Type 0} (F : Family (residues m pos) Ω (level C i) (conjNf C i) i n) → Stands C n m pos i L F
+    → (j : ℕ) → i ≤ j → j < n → (r : ℕ) → r < length L → F .target j r < length L
+target-listed C n m pos i L {Ω} F St j a b r h =
+    let x : Ω = St .complete .find r 0 h (St .degree-pos r h) in
+    subst (λ z. z < length L) (F .maps-to j a b x ∙ ap (F .target j) (St .complete .find-rep r 0 h (St .degree-pos r h))) (St .complete .rep-below ((F .X j x) .0))
+
 module _ (C : Context) (n m : ℕ) (pos : 0 < m) (i : ℕ) (l : i ≤ n) (L M : Level) (A : Agrees n L M) {Ω : Type 0} (F : Family (residues m pos) Ω (level C i) (conjNf C i) i n)
     (St : Stands C n m pos i L F) where
   open Stands St using (column, complete)
@@ -44,14 +51,9 @@ module _ (C : Context) (n m : ℕ) (pos : 0 < m) (i : ℕ) (l : i ≤ n) (L M : 
   agree-shows : (r s g : ℕ) (B : Map (residues m pos) Ω) → r < length L → g < n → Shows m (frame L (F .rep) column (St .column-below)) r s (repOf L r .matrix g) B → Shows m ΦM r s (repOf M r .matrix g) B
   agree-shows r s g B h a sh = record {
     size = A .size r g h a;
-    leads = sh .leads;
+    maps-to = sh .maps-to;
     shown = λ x e. sym (A .same-column r g (column x) h a (subst (λ z. column x < repOf L z .deg) e (St .column-below x))) ∙ sh .shown x e;
   }
-
-  target-in : (j : ℕ) → i ≤ j → j < n → (r : ℕ) → r < length L → F .target j r < length L
-  target-in j a b r h =
-      let x : Ω = complete .find r 0 h (St .degree-pos r h) in
-      subst (λ z. z < length L) (F .leads j a b x ∙ ap (F .target j) (complete .find-rep r 0 h (St .degree-pos r h))) (complete .rep-below ((F .X j x) .0))
 
   pub agree-stands : Stands C n m pos i M F
   agree-stands = record {
@@ -69,7 +71,7 @@ module _ (C : Context) (n m : ℕ) (pos : 0 < m) (i : ℕ) (l : i ≤ n) (L M : 
     refers = λ j a b r h c d. sym (A .same-ref r j c (here r h) b (column-in r c (here r h) d)) ∙ St .refers j a b r (here r h) c (column-in r c (here r h) d);
     nonempty = subst (λ z. 0 < z) (A .same-length) (St .nonempty);
     degree-pos = λ r h. subst (λ z. 0 < z) (A .same-degree r (here r h)) (St .degree-pos r (here r h));
-    degree-target = λ j a b r h. sym (A .same-degree (F .target j r) (target-in j a b r (here r h))) ∙ St .degree-target j a b r (here r h) ∙ A .same-degree r (here r h);
+    degree-target = λ j a b r h. sym (A .same-degree (F .target j r) (target-listed C n m pos i L F St j a b r (here r h))) ∙ St .degree-target j a b r (here r h) ∙ A .same-degree r (here r h);
     squares = ap (λ z. sum z (λ r. repOf M r .deg * repOf M r .deg)) (sym (A .same-length)) ∙ sum-below (length L) _ (λ r. repOf L r .deg * repOf L r .deg) (λ r h. ap (λ d. d * d) (sym (A .same-degree r h))) ∙ St .squares;
   }
 

@@ -25,7 +25,7 @@ use Rattle.clifford.specs.Stands.{frame, Stands, Restricts, Rung}
 use Rattle.clifford.proofs.Numbering.{P, p, N, deg, rep, τ, O, rep-below, orbit-same, made, next, made-of, made-of-fixed, degree-iter}
 use Rattle.clifford.proofs.Indices.{Index, base, number, mk, next-rep, wide, wide-below, next-frame, next-complete, next-find, next-below, degree-fixed, degree-moved, Found}
 use Rattle.clifford.proofs.Extensions.{first}
-use Rattle.clifford.proofs.Next.{target-fixed, target-moved, next-target, next-X, next-X-is, led, family}
+use Rattle.clifford.proofs.Next.{target-fixed, target-moved, next-target, next-X, next-X-is, mapped, family}
 use Rattle.clifford.proofs.Inductions.{lift-col, lift-length, orb, orb-below, orb-degree}
 use Rattle.clifford.proofs.Rise.{Extended, Induced, at-source, extension-low, extension-base, induction-low, induction-base, next-represents, next-intertwines, next-refers}
 use Rattle.clifford.proofs.Squares.{next-squares}
@@ -64,26 +64,26 @@ module _ (R : Rung) where
   next-degree-target j ij jn r′ h =
       let o = next-find R r′ 0 h (next-degree-pos r′ h) in
       let x : Index R = o .index in
-      ap (λ r. repOf (next R) (next-target R j r) .deg) (sym (o .is-rep)) ∙ ap (λ r. repOf (next R) r .deg) (sym (family R .leads j ij jn x))
-      ∙ go x (next-X R j x .0) (ap (λ f. base R ((f x) .0)) (next-X-is R j ij jn) ∙ led-base x) (ℕ-discrete (τ R (rep R (base R x))) (rep R (base R x))) ∙ ap (λ r. repOf (next R) r .deg) (o .is-rep)
+      ap (λ r. repOf (next R) (next-target R j r) .deg) (sym (o .is-rep)) ∙ ap (λ r. repOf (next R) r .deg) (sym (family R .maps-to j ij jn x))
+      ∙ go x (next-X R j x .0) (ap (λ f. base R ((f x) .0)) (next-X-is R j ij jn) ∙ mapped-base x) (ℕ-discrete (τ R (rep R (base R x))) (rep R (base R x))) ∙ ap (λ r. repOf (next R) r .deg) (o .is-rep)
     where
-      led-base : (x : Index R) → base R ((led R j ij jn x) .0) ≡ (F .X j (base R x)) .0
-      led-base x = unfold led in refl
+      mapped-base : (x : Index R) → base R ((mapped R j ij jn x) .0) ≡ (F .X j (base R x)) .0
+      mapped-base x = unfold mapped in refl
 
       go : (x y : Index R) → base R y ≡ (F .X j (base R x)) .0 → Dec (τ R (rep R (base R x)) ≡ rep R (base R x)) → repOf (next R) (next-rep R y) .deg ≡ repOf (next R) (next-rep R x) .deg
       go x y e d =
           let r : ℕ = rep R (base R x) in
           let h : r < N R = rep-below R (base R x) in
-          let ry : rep R (base R y) ≡ F .target j r = ap (rep R) e ∙ F .leads j (omega arith) jn (base R x) in
+          let ry : rep R (base R y) ≡ F .target j r = ap (rep R) e ∙ F .maps-to j (omega arith) jn (base R x) in
           let same : deg R (rep R (base R y)) ≡ deg R r = ap (deg R) ry ∙ stands .degree-target j (omega arith) jn r h in
           split r h ry same d
         where
           split : (r : ℕ) (h : r < N R) → rep R (base R y) ≡ F .target j r → deg R (rep R (base R y)) ≡ deg R (rep R (base R x)) → Dec (τ R (rep R (base R x)) ≡ rep R (base R x))
               → repOf (next R) (next-rep R y) .deg ≡ repOf (next R) (next-rep R x) .deg
           split r h ry same (yes f) =
-              degree-fixed R y (subst (λ s. τ R s ≡ s) (sym (ap (rep R) e ∙ F .leads j (omega arith) jn (base R x))) (target-fixed R j ij jn (rep R (base R x)) (rep-below R (base R x)) f)) ∙ same ∙ sym (degree-fixed R x f)
+              degree-fixed R y (subst (λ s. τ R s ≡ s) (sym (ap (rep R) e ∙ F .maps-to j (omega arith) jn (base R x))) (target-fixed R j ij jn (rep R (base R x)) (rep-below R (base R x)) f)) ∙ same ∙ sym (degree-fixed R x f)
           split r h ry same (no f) =
-              degree-moved R y (λ g. target-moved R j ij jn (rep R (base R x)) (rep-below R (base R x)) f (subst (λ s. τ R s ≡ s) (ap (rep R) e ∙ F .leads j (omega arith) jn (base R x)) g))
+              degree-moved R y (λ g. target-moved R j ij jn (rep R (base R x)) (rep-below R (base R x)) f (subst (λ s. τ R s ≡ s) (ap (rep R) e ∙ F .maps-to j (omega arith) jn (base R x)) g))
               ∙ ap (λ d. p R * d) same ∙ sym (degree-moved R x f)
 
   pub next-stands : Stands (T .context) (T .n) m pos (suc i) (next R) (family R)

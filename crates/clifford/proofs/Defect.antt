@@ -4,7 +4,7 @@
 --   inverse-image, X-inverse            images of group elements and intertwiners have inverses
 --   target-period                       an intertwiner moves the representations by a permutation of finite order
 --   defect, defect-eq, defect-const     X^p = defect · D(u)
---   target-home                         X^p leads every representation home
+--   target-home                         X^p maps every representation home
 --   defect-step, defect-power           the defect is constant along an orbit of representations
 --   last-block                          X at the last of an orbit, less the defect, is D(u) less the way there
 --   root                                where X fixes a representation, p times something is the defect, up to an
@@ -55,14 +55,14 @@ module _ {G G⁺ : Type 0} {𝓖 : Mul G} {𝓖⁺ : Mul G⁺} {conj : ℕ → G
 
   pub target-period : (j : ℕ) → i ≤ j → j < n → (a : Ω) → iter (target j) (S .period j) (rep a) ≡ rep a
   target-period j h h′ a =
-      sym (rep-power F (target j) (X j) (F .leads j h h′) (S .period j) a)
+      sym (rep-power F (target j) (X j) (F .maps-to j h h′) (S .period j) a)
       ∙ ap rep (commuting-fixes F (pow (X j) (S .period j)) (power-commutes F (X j) (conj j) (F .past j h h′) (S .period j) (S .conj-period j h h′)) a)
 
   pub X-past : (x : G) → X i * d (f x) ≡ d x * X i
   X-past = F .past i (omega arith) (S .in-range)
 
-  pub X-leads : (a : Ω) → rep ((X i a) .0) ≡ τ (rep a)
-  X-leads = F .leads i (omega arith) (S .in-range)
+  pub X-maps : (a : Ω) → rep ((X i a) .0) ≡ τ (rep a)
+  X-maps = F .maps-to i (omega arith) (S .in-range)
 
   -- ---- The defect
 
@@ -85,7 +85,7 @@ module _ {G G⁺ : Type 0} {𝓖 : Mul G} {𝓖⁺ : Mul G⁺} {conj : ℕ → G
   defect-const a b q = ratio-const F alike a b (F .inside u a ∙ q ∙ sym (F .inside u b))
 
   pub target-home : (a : Ω) → iter τ p (rep a) ≡ rep a
-  target-home a = sym (rep-power F τ (X i) X-leads p a) ∙ ap (λ s. rep (s .0)) (defect-eq a) ∙ F .inside u a
+  target-home a = sym (rep-power F τ (X i) X-maps p a) ∙ ap (λ s. rep (s .0)) (defect-eq a) ∙ F .inside u a
 
   pub defect-step : (a : Ω) → defect ((X i a) .0) ≡ defect a
   defect-step a =
@@ -156,7 +156,7 @@ module _ {G G⁺ : Type 0} {𝓖 : Mul G} {𝓖⁺ : Mul G⁺} {conj : ℕ → G
 
   pub root : (a : Ω) → τ (rep a) ≡ rep a → (x : E) × (z : E) × (add (defect a) x ≡ times 𝓔 p z) × (times 𝓔 (S .order) x ≡ nil)
   root a fx =
-      let (w, e) = F .reached ((X i a) .0) a (X-leads a ∙ fx) in
+      let (w, e) = F .reached ((X i a) .0) a (X-maps a ∙ fx) in
       let h : G = f w in
       let z : E = add ((d w ((X i a) .0)) .1) ((X i a) .1) in
       let fixes : (X i * d h) a ≡ (a, z) = column 𝓔 (X-past w) a ∙ at-mul 𝓔 (d w) (X i) a ∙ pair 𝓔 e refl in

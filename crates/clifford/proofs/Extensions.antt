@@ -39,7 +39,7 @@ use Rattle.monomial.proofs.Residues.{residues, Residue-path, add-value, times-v
 use Rattle.monomial.proofs.Frames.{shows-mul, shows-power, shows-value, shows-map, shows-on, shows-scale, same-shown, shown-same}
 use Rattle.clifford.specs.Stands.{frame, Stands, Rung}
 use Rattle.clifford.proofs.Numbering.{P, p, N, deg, rep, τ, S, ready, O, rep-below, firstOf-rep, firstOf-column, target-same}
-use Rattle.clifford.proofs.Defect.{defect, defect-eq, X-leads}
+use Rattle.clifford.proofs.Defect.{defect, defect-eq, X-maps}
 use Rattle.clifford.proofs.Top.{Normed, Y, Y-at, raised, raised-hom, raised-low, raised-top, φ, q, q-eq, fixed-stays}
 use Rattle.clifford.proofs.Step.{Roots, numbered, numbered-zero, Y-numbered-at}
 use Rattle.clifford.proofs.Scalars.{Ready, parts, normed, roots, σ, σ-fixed, q̂, q-first, log-q}
@@ -166,7 +166,7 @@ module _ (R : Rung) where
     literal-target = ap (λ t. t r) (target-same R j)
 
     tr-below : tr < N R
-    tr-below = subst (λ s. s < N R) (F .leads j (omega arith) jn (first r) ∙ ap (F .target j) (first-rep r h)) (rep-below R ((F .X j (first r)) .0))
+    tr-below = subst (λ s. s < N R) (F .maps-to j (omega arith) jn (first r) ∙ ap (F .target j) (first-rep r h)) (rep-below R ((F .X j (first r)) .0))
 
     tr-fixed : τ R tr ≡ tr
     tr-fixed = subst (λ s. τ R (F .target j s) ≡ F .target j s) (first-rep r h) (fixed-stays (S R) F 𝓢 j ij jn (first r) (subst (λ s. τ R s ≡ s) (sym (first-rep r h)) f))
@@ -178,11 +178,16 @@ module _ (R : Rung) where
     unfolding φ
     φ-zero = ap (λ g. g (conjNf C (suc i) j (top C i))) (numbered-zero (S R) F 𝓢 ρ)
 
-    left : Shows m Φ r tr (product m (repOf L r .matrix j) (conjugate m (P R) (Steps.extensionBase (P R) m i L r 0) i j)) (F .X j *′ φ (S R) F 𝓢 j ij jn)
-    left = shows-mul m pos Φ Xj (shows-map m pos Φ (conjugate-shows Φ (numbered (S R) F 𝓢 ρ 0) (Steps.extensionBase (P R) m i L r 0) r refl (base-shows r 0 h f) j ij jn) φ-zero)
+    pub left-shows : Shows m Φ r (F .target j r) (product m (repOf L r .matrix j) (conjugate m (P R) (Steps.extensionBase (P R) m i L r 0) i j)) (F .X j *′ φ (S R) F 𝓢 j ij jn)
+    left-shows = shows-mul m pos Φ Xj (shows-map m pos Φ (conjugate-shows Φ (numbered (S R) F 𝓢 ρ 0) (Steps.extensionBase (P R) m i L r 0) r refl (base-shows r 0 h f) j ij jn) φ-zero)
 
     right : (k : ℕ) → Shows m Φ r tr (product m (Steps.extended (P R) m i L tr k) (repOf L r .matrix j)) (Y (S R) F (numbered (S R) F 𝓢 ρ k) *′ F .X j)
     right k = shows-mul m pos Φ (extended-shows tr k tr-below tr-fixed) Xj
+
+    -- extension 0 has the scalars of the family
+    pub right-shows-zero : Shows m Φ r (F .target j r) (product m (Steps.extended (P R) m i L (Steps.target (P R) m i L j r) 0) (repOf L r .matrix j)) (Y (S R) F 𝓢 *′ F .X j)
+    right-shows-zero = subst (λ s. Shows m Φ r tr (product m (Steps.extended (P R) m i L s 0) (repOf L r .matrix j)) (Y (S R) F 𝓢 *′ F .X j)) (sym literal-target)
+        (shows-map m pos Φ (right 0) (ap (λ z. z *′ F .X j) (sym (raised-top (S R) F (numbered (S R) F 𝓢 ρ 0)) ∙ ap (λ g. g (top C i)) (numbered-zero (S R) F 𝓢 ρ) ∙ raised-top (S R) F 𝓢)))
 
     ε^ : ℕ → Residue m
     ε^ k = times E k (ρ .ε)
@@ -213,13 +218,13 @@ module _ (R : Rung) where
     l-is =
         ap (λ s. least (p R) (λ k. sameMatrix m (product m (repOf L r .matrix j) (conjugate m (P R) (Steps.extensionBase (P R) m i L r 0) i j)) (product m (Steps.extended (P R) m i L s k) (repOf L r .matrix j)))) literal-target
         ∙ least-is (p R) _ (log m pos (parts (S R) m pos F (ready R)) qr) (log-below m pos _ qr)
-        (same-shown m pos Φ complete h left (shows-on m pos Φ (right _) (agree _ log-is)))
+        (same-shown m pos Φ complete h left-shows (shows-on m pos Φ (right _) (agree _ log-is)))
         (λ k l e. unit-injective m pos (parts (S R) m pos F (ready R)) k _ l (log-below m pos _ qr) (one k e ∙ sym log-is))
       where
         one : (k : ℕ) → sameMatrix m (product m (repOf L r .matrix j) (conjugate m (P R) (Steps.extensionBase (P R) m i L r 0) i j)) (product m (Steps.extended (P R) m i L tr k) (repOf L r .matrix j)) ≡ true
             → ε^ k ≡ qr
         one k e =
             let a : Ω = first r in
-            let line = sym (right-at k a) ∙ sym (shown-same m pos Φ complete left (right k) e a (first-rep r h)) ∙ q-eq (S R) F 𝓢 j ij jn a in
+            let line = sym (right-at k a) ∙ sym (shown-same m pos Φ complete left-shows (right k) e a (first-rep r h)) ∙ q-eq (S R) F 𝓢 j ij jn a in
             cancel E (((Y (S R) F 𝓢 *′ F .X j) a) .1) _ _ (E .comm _ _ ∙ ap (λ z. z .1) line ∙ E .comm _ _)
             ∙ sym (q-first (S R) m pos F (ready R) j ij jn a) ∙ ap (q̂ (S R) m pos F (ready R) j ij jn) (first-rep r h)

@@ -32,8 +32,8 @@ module _ (R : Rung) where
   open Rung R using (T, m, pos, i, L, Ω, F, stands)
   open Stands (R .stands) using (column, column-below, complete)
 
-  abbrev lead : Ω → ℕ
-  lead a = leader (O R) (rep R a)
+  abbrev leaderAt : Ω → ℕ
+  leaderAt a = leader (O R) (rep R a)
 
   abbrev pub Index : Type 0
   Index = (x : Ω × ℕ) × (x .1 < made R (leader (O R) (rep R (x .0))))
@@ -92,7 +92,7 @@ module _ (R : Rung) where
   pub rep-moved : (x : Index) → ¬ (τ R (rep R (base x)) ≡ rep R (base x)) → repOf (next R) (next-rep x) ≡ Steps.induction (T .context .P) m i L (leader (O R) (rep R (base x)))
   unfolding next-rep
   rep-moved x f =
-      given-moved R (lead (base x)) (number x) (leader-below (O R) (rep R (base x)) (rep-below R (base x))) (leader-moved (O R) (rep R (base x)) (rep-below R (base x)) f)
+      given-moved R (leaderAt (base x)) (number x) (leader-below (O R) (rep R (base x)) (rep-below R (base x))) (leader-moved (O R) (rep R (base x)) (rep-below R (base x)) f)
       (leader-leader (O R) (rep R (base x)) (rep-below R (base x))) (number-moved x f)
 
   pub degree-fixed : (x : Index) → τ R (rep R (base x)) ≡ rep R (base x) → repOf (next R) (next-rep x) .deg ≡ deg R (rep R (base x))
@@ -114,7 +114,7 @@ module _ (R : Rung) where
 
   pub next-below : (x : Index) → next-rep x < length (next R)
   unfolding next-rep
-  next-below x = subst (λ s. sum (lead (base x)) (made R) + number x < s) (sym (next-length R)) (stretch-below (made R) (lead (base x)) (number x) (N R) (x .1) (leader-below (O R) (rep R (base x)) (rep-below R (base x))))
+  next-below x = subst (λ s. sum (leaderAt (base x)) (made R) + number x < s) (sym (next-length R)) (stretch-below (made R) (leaderAt (base x)) (number x) (N R) (x .1) (leader-below (O R) (rep R (base x)) (rep-below R (base x))))
 
   abbrev pub next-frame : Frame Index
   next-frame = frame (next R) next-rep (λ x. wide (base x)) wide-below
@@ -143,16 +143,16 @@ module _ (R : Rung) where
               let c-below : c < deg R s = subst (λ z. c < z) d l in
               let a : Ω = complete .find s c (o .s-below) c-below in
               let e : rep R a ≡ s = complete .find-rep s c (o .s-below) c-below in
-              let q : lead a ≡ s = ap (leader (O R)) e ∙ o .leads in
+              let q : leaderAt a ≡ s = ap (leader (O R)) e ∙ o .own in
               record {
                 index = mk a (o .κ) (subst (λ z. o .κ < made R z) (sym q) (o .κ-below));
                 is-rep = ap (λ z. sum z (made R) + o .κ) q ∙ o .is;
                 is-column = wide-fixed a (subst (λ z. τ R z ≡ z) (sym e) f) ∙ complete .find-column s c (o .s-below) c-below;
               }
           split (no f) =
-              let zero-κ : o .κ ≡ 0 = let b : o .κ < 1 = subst (λ z. o .κ < z) (made-leader R s f (o .leads)) (o .κ-below) in omega arith in
+              let zero-κ : o .κ ≡ 0 = let b : o .κ < 1 = subst (λ z. o .κ < z) (made-leader R s f (o .own)) (o .κ-below) in omega arith in
               let d : repOf (next R) r .deg ≡ p R * deg R s
-              = ap (λ r. repOf (next R) r .deg) (sym (o .is)) ∙ ap (λ (D : Rep). D .deg) (given-moved R s (o .κ) (o .s-below) f (o .leads) zero-κ) in
+              = ap (λ r. repOf (next R) r .deg) (sym (o .is)) ∙ ap (λ (D : Rep). D .deg) (given-moved R s (o .κ) (o .s-below) f (o .own) zero-κ) in
               let d-pos : 0 < deg R s = stands .degree-pos s (o .s-below) in
               let b : ℕ = c / deg R s in
               let b-below : b < p R = div-lt-iff-lt-mul d-pos .1 (subst (λ z. c < z) d l) in
@@ -162,9 +162,9 @@ module _ (R : Rung) where
               let c-below : c % deg R s < deg R t = subst (λ z. c % deg R s < z) (sym dt) (mod-lt c d-pos) in
               let a : Ω = complete .find t (c % deg R s) t-below c-below in
               let e : rep R a ≡ t = complete .find-rep t (c % deg R s) t-below c-below in
-              let tl : leader (O R) t ≡ s = leader-iter (O R) b s (o .s-below) ∙ o .leads in
+              let tl : leader (O R) t ≡ s = leader-iter (O R) b s (o .s-below) ∙ o .own in
               let tm : ¬ (τ R t ≡ t) = iter-moved (O R) b s (o .s-below) f in
-              let q : lead a ≡ s = ap (leader (O R)) e ∙ tl in
+              let q : leaderAt a ≡ s = ap (leader (O R)) e ∙ tl in
               let am : ¬ Fixed a = λ g. tm (subst (λ z. τ R z ≡ z) e g) in
               let ps : position (O R) (rep R a) ≡ b = ap (position (O R)) e ∙ position-is (O R) t b t-below tm b-below (ap (iter (τ R) b) tl) in
               record {
@@ -177,7 +177,7 @@ module _ (R : Rung) where
   pub next-known : (x y : Index) → next-rep x ≡ next-rep y → wide (base x) ≡ wide (base y) → x ≡ y
   unfolding next-rep
   next-known x y q w =
-      let (e, n) = stretch-one (made R) (lead (base x)) (number x) (lead (base y)) (number y) (x .1) (y .1) q in
+      let (e, n) = stretch-one (made R) (leaderAt (base x)) (number x) (leaderAt (base y)) (number y) (x .1) (y .1) q in
       Index-path x y (go e (ℕ-discrete (τ R (rep R (base x))) (rep R (base x))) (ℕ-discrete (τ R (rep R (base y))) (rep R (base y)))) n
     where
       a : Ω
@@ -186,14 +186,14 @@ module _ (R : Rung) where
       b : Ω
       b = base y
 
-      apart : (a b : Ω) → lead a ≡ lead b → Fixed a → ¬ Fixed b → ⊥
-      apart a b e f g = leader-moved (O R) (rep R b) (rep-below R b) g (subst (λ z. τ R z ≡ z) (sym (leader-fixed (O R) (rep R a) (rep-below R a) f) ∙ e) f)
+      separate : (a b : Ω) → leaderAt a ≡ leaderAt b → Fixed a → ¬ Fixed b → ⊥
+      separate a b e f g = leader-moved (O R) (rep R b) (rep-below R b) g (subst (λ z. τ R z ≡ z) (sym (leader-fixed (O R) (rep R a) (rep-below R a) f) ∙ e) f)
 
-      go : lead a ≡ lead b → Dec (Fixed a) → Dec (Fixed b) → a ≡ b
+      go : leaderAt a ≡ leaderAt b → Dec (Fixed a) → Dec (Fixed b) → a ≡ b
       go e (yes f) (yes g) =
           complete .known a b (sym (leader-fixed (O R) (rep R a) (rep-below R a) f) ∙ e ∙ leader-fixed (O R) (rep R b) (rep-below R b) g) (sym (wide-fixed a f) ∙ w ∙ wide-fixed b g)
-      go e (yes f) (no g) = absurd (apart a b e f g)
-      go e (no f) (yes g) = absurd (apart b a (sym e) g f)
+      go e (yes f) (no g) = absurd (separate a b e f g)
+      go e (no f) (yes g) = absurd (separate b a (sym e) g f)
       go e (no f) (no g) =
           let d : ℕ = deg R (rep R a) in
           let same : deg R (rep R b) ≡ d = sym (degree-leader R (rep R b) (rep-below R b)) ∙ ap (deg R) (sym e) ∙ degree-leader R (rep R a) (rep-below R a) in

@@ -43,8 +43,8 @@ use Rattle.monomial.proofs.Schur.{rep-power}
 use Rattle.clifford.specs.Stands.{frame, Stands, Rung}
 use Rattle.clifford.proofs.Numbering.{P, p, N, deg, rep, τ, S, ready, O, rep-below, target-same, orbit-same, leader-same, position-same, degree-iter, degree-leader}
 use Rattle.clifford.proofs.Indices.{wide, wide-fixed, wide-moved}
-use Rattle.clifford.proofs.Defect.{defect, defect-const, X-inverse, X-leads, last-block}
-use Rattle.clifford.proofs.Top.{Normed, Y, Y-at, Y-leads, raised, φ, φ-leads, q, q-eq}
+use Rattle.clifford.proofs.Defect.{defect, defect-const, X-inverse, X-maps, last-block}
+use Rattle.clifford.proofs.Top.{Normed, Y, Y-at, Y-maps, raised, φ, φ-maps, q, q-eq}
 use Rattle.clifford.proofs.Scalars.{Ready, normed, σ, σ-last, σ-other, q̂, q-first, c, c-moved}
 use Rattle.clifford.proofs.Extensions.{E, Φ, 𝓢, first, first-rep, image-shows, conjugate-shows, gen-below, gen-last}
 use Rattle.clifford.proofs.Next.{target-below, target-moved, target-orbit, moved-unit}
@@ -73,8 +73,8 @@ module _ (R : Rung) where
   abbrev C : Context
   C = T .context
 
-  abbrev lead : Ω → ℕ
-  lead a = leader (O R) (rep R a)
+  abbrev leaderAt : Ω → ℕ
+  leaderAt a = leader (O R) (rep R a)
 
   infixl 70 _*′_
   open Mul (maps (E R) Ω) using (mul as _*′_)
@@ -96,12 +96,12 @@ module _ (R : Rung) where
   pub wide-spread : (a : Ω) → wide R a < spread (leader (O R) (rep R a))
   wide-spread a = go (ℕ-discrete (τ R (rep R a)) (rep R a))
     where
-      go : Dec (τ R (rep R a) ≡ rep R a) → wide R a < spread (lead a)
+      go : Dec (τ R (rep R a) ≡ rep R a) → wide R a < spread (leaderAt a)
       go (yes f) =
           subst (λ s. wide R a < s) (sym (ap spread (leader-fixed (O R) (rep R a) (rep-below R a) f) ∙ spread-fixed (rep R a) f))
           (subst (λ s. s < deg R (rep R a)) (sym (wide-fixed R a f)) (column-below a))
       go (no f) =
-          subst (λ s. wide R a < s) (sym (spread-moved (lead a) (leader-moved (O R) (rep R a) (rep-below R a) f) ∙ ap (λ d. p R * d) (degree-leader R (rep R a) (rep-below R a))))
+          subst (λ s. wide R a < s) (sym (spread-moved (leaderAt a) (leader-moved (O R) (rep R a) (rep-below R a) f) ∙ ap (λ d. p R * d) (degree-leader R (rep R a) (rep-below R a))))
           (subst (λ s. s < p R * deg R (rep R a)) (sym (wide-moved R a f)) (digits-lt (position-below (O R) (rep R a) (rep-below R a)) (column-below a)))
 
   abbrev pub Ψ : Frame Ω
@@ -118,11 +118,11 @@ module _ (R : Rung) where
   pub fixed-spreads : {r s : ℕ} {M : Matrix} {A : Map (E R) Ω} → τ R r ≡ r → s < N R → τ R s ≡ s → Shows m (Φ R) r s M A → Shows m Ψ r s M A
   fixed-spreads {r} {s} {M} {A} f l g sh = record {
     size = sh .size ∙ sym (spread-fixed r f);
-    leads = λ a e. ap (leader (O R)) (sh .leads a (rep-of-fixed a r e f)) ∙ leader-fixed (O R) s l g;
+    maps-to = λ a e. ap (leader (O R)) (sh .maps-to a (rep-of-fixed a r e f)) ∙ leader-fixed (O R) s l g;
     shown = λ a e.
         let ra : rep R a ≡ r = rep-of-fixed a r e f in
         ap (col M) (wide-fixed R a (subst (λ s. τ R s ≡ s) (sym ra) f)) ∙ sh .shown a ra
-        ∙ entry-path (sym (wide-fixed R ((A a) .0) (subst (λ s. τ R s ≡ s) (sym (sh .leads a ra)) g))) refl;
+        ∙ entry-path (sym (wide-fixed R ((A a) .0) (subst (λ s. τ R s ≡ s) (sym (sh .maps-to a ra)) g))) refl;
   }
 
   -- ---- An orbit that moves
@@ -173,7 +173,7 @@ module _ (R : Rung) where
     unfolding col
     shows-blocks f {A} len ld ent = record {
       size = length-even f d (p R) len ∙ sym (spread-moved r mv);
-      leads = ld;
+      maps-to = ld;
       shown = λ a e.
           let M = member a e in
           ap (col (blocks (p R) f)) (M .wide-is) ∙ getD-even f d (entry 0 0) (p R) (position (O R) (rep R a)) (column a) len (M .below) (M .column-lt) ∙ ent a e;
@@ -200,7 +200,7 @@ module _ (R : Rung) where
         (λ a e. ap (leader (O R)) (F .inside (genNf C i k) a) ∙ e)
         entries
       where
-        entries : (a : Ω) → lead a ≡ r → col (Steps.lift (position (O R) (rep R a) * d) (repOf L (orb (position (O R) (rep R a))) .matrix k)) (column a)
+        entries : (a : Ω) → leaderAt a ≡ r → col (Steps.lift (position (O R) (rep R a) * d) (repOf L (orb (position (O R) (rep R a))) .matrix k)) (column a)
             ≡ entry (wide R ((F .d (genNf C i k) a) .0)) ((F .d (genNf C i k) a) .1 .0)
         entries a e =
             let M = member a e in
@@ -251,7 +251,7 @@ module _ (R : Rung) where
     from-last : (a : Ω) → rep R a ≡ t → rep R ((W .to a) .0) ≡ r
     from-last a q =
         let b : Ω = (W .to a) .0 in
-        let line : iter (τ R) e (rep R b) ≡ iter (τ R) e r = sym (rep-power F (τ R) (F .X i) (X-leads (S R) F) e b) ∙ ap (λ z. rep R (z .0)) (there a) ∙ q in
+        let line : iter (τ R) e (rep R b) ≡ iter (τ R) e r = sym (rep-power F (τ R) (F .X i) (X-maps (S R) F) e b) ∙ ap (λ z. rep R (z .0)) (there a) ∙ q in
         sym (round (rep R b) (rep-below R b)) ∙ ap (τ R) line ∙ round r h
       where
         round : (s : ℕ) → s < N R → τ R (iter (τ R) e s) ≡ s
@@ -291,9 +291,9 @@ module _ (R : Rung) where
         ap (λ k. blocks k cycle-block) (sym e-suc) ∙ blocks-suc e cycle-block
         ∙ ap₂ (_++_) (blocks-below e cycle-block (λ b. Steps.lift (suc b * d) (repOf L (orb b) .matrix i)) (λ b l. cond-ne b e _ _ (λ q. omega arith))) (cond-eq e e _ _ refl)
 
-    Y-inside : (a : Ω) → lead a ≡ r → lead ((Y (S R) F (𝓢 R) a) .0) ≡ r
+    Y-inside : (a : Ω) → leaderAt a ≡ r → leaderAt ((Y (S R) F (𝓢 R) a) .0) ≡ r
     Y-inside a q =
-        ap (leader (O R)) (Y-leads (S R) F (𝓢 R) a ∙ sym (iter-suc (τ R) 0 (rep R a) ∙ iter-zero (τ R) (τ R (rep R a)))) ∙ leader-iter (O R) 1 (rep R a) (rep-below R a) ∙ q
+        ap (leader (O R)) (Y-maps (S R) F (𝓢 R) a ∙ sym (iter-suc (τ R) 0 (rep R a) ∙ iter-zero (τ R) (τ R (rep R a)))) ∙ leader-iter (O R) 1 (rep R a) (rep-below R a) ∙ q
 
     pub cycle-shows : Shows m Ψ r r (Steps.blockCycle (P R) m i L r) (Y (S R) F (𝓢 R))
     unfolding cycle-block
@@ -303,13 +303,13 @@ module _ (R : Rung) where
         len b (yes q) = ap length (cond-eq b e _ _ q) ∙ last-shows .size ∙ degree-iter R e r h
         len b (no q) = ap length (cond-ne b e _ _ q) ∙ lift-length (suc b * d) (repOf L (orb b) .matrix i) ∙ stands .intertwines i (omega arith) (R .in-range) (orb b) (orb-below b) .size ∙ orb-degree b
 
-        entries : (a : Ω) → lead a ≡ r → Dec (position (O R) (rep R a) ≡ e) → col (cycle-block (position (O R) (rep R a))) (column a)
+        entries : (a : Ω) → leaderAt a ≡ r → Dec (position (O R) (rep R a) ≡ e) → col (cycle-block (position (O R) (rep R a))) (column a)
             ≡ entry (wide R ((Y (S R) F (𝓢 R) a) .0)) ((Y (S R) F (𝓢 R) a) .1 .0)
         entries a q (yes b) =
             let M = member a q in
             let ra : rep R a ≡ t = sym (M .back) ∙ ap (λ k. iter (τ R) k r) b in
             let M′ = member ((Y (S R) F (𝓢 R) a) .0) (Y-inside a q) in
-            let zero-position : position (O R) (rep R ((Y (S R) F (𝓢 R) a) .0)) ≡ 0 = ap (position (O R)) (last-shows .leads a ra) ∙ ap (position (O R)) (sym (iter-zero (τ R) r)) ∙ position-of 0 (omega (arith, two)) in
+            let zero-position : position (O R) (rep R ((Y (S R) F (𝓢 R) a) .0)) ≡ 0 = ap (position (O R)) (last-shows .maps-to a ra) ∙ ap (position (O R)) (sym (iter-zero (τ R) r)) ∙ position-of 0 (omega (arith, two)) in
             let z : 0 * d + column ((Y (S R) F (𝓢 R) a) .0) ≡ column ((Y (S R) F (𝓢 R) a) .0) = omega arith in
             ap (λ M. col M (column a)) (cond-eq _ e _ _ b) ∙ last-shows .shown a ra
             ∙ entry-path (sym (M′ .wide-is ∙ ap (λ k. k * d + column ((Y (S R) F (𝓢 R) a) .0)) zero-position ∙ z)) refl
@@ -320,7 +320,7 @@ module _ (R : Rung) where
             let sh = stands .intertwines i (omega arith) (R .in-range) (rep R a) (rep-below R a) in
             let M′ = member ((Y (S R) F (𝓢 R) a) .0) (Y-inside a q) in
             let ps : position (O R) (rep R ((Y (S R) F (𝓢 R) a) .0)) ≡ suc k
-            = ap (position (O R)) (Y-leads (S R) F (𝓢 R) a ∙ ap (τ R) (sym (M .back)) ∙ sym (iter-out (τ R) k r)) ∙ position-of (suc k) k-lt in
+            = ap (position (O R)) (Y-maps (S R) F (𝓢 R) a ∙ ap (τ R) (sym (M .back)) ∙ sym (iter-out (τ R) k r)) ∙ position-of (suc k) k-lt in
             ap (λ M. col M (column a)) (cond-ne _ e _ _ b)
             ∙ ap (λ s. col (Steps.lift (suc k * d) (repOf L s .matrix i)) (column a)) (orb-back a q)
             ∙ lift-col (suc k * d) (repOf L (rep R a) .matrix i) (column a) (subst (λ z. column a < z) (sym (sh .size)) (column-below a))

@@ -5,7 +5,7 @@
 --   block-after            the blocks along generator i
 --   scalar-after           the scalars along generator i
 --   c-is                   the scalars of the steps are those of the theory
---   led-shows              the intertwiner of the steps shows that of the theory
+--   mapped-shows              the intertwiner of the steps shows that of the theory
 use mathlib.Core.Path.{_≡_, refl, sym, _∙_, ap, ap₂, subst, fun-ext}
 use mathlib.Core.Bool.{Bool, true, cond}
 use mathlib.Core.List.{List, map}
@@ -33,7 +33,7 @@ use Rattle.monomial.proofs.Frames.{entry-path, shows-mul}
 use Rattle.clifford.specs.Stands.{frame, Stands, Rung}
 use Rattle.clifford.proofs.Numbering.{P, p, N, deg, rep, τ, S, ready, O, rep-below, firstOf-column, target-same, orbit-same, leader-same, position-same, degree-leader}
 use Rattle.clifford.proofs.Indices.{wide}
-use Rattle.clifford.proofs.Top.{Y, φ, φ-leads, q, q-eq}
+use Rattle.clifford.proofs.Top.{Y, φ, φ-maps, q, q-eq}
 use Rattle.clifford.proofs.Scalars.{Ready, q̂, q-first, c, c-moved}
 use Rattle.clifford.proofs.Extensions.{E, 𝓢, first, first-rep, conjugate-shows}
 use Rattle.clifford.proofs.Next.{target-below, target-moved, target-orbit}
@@ -48,8 +48,8 @@ module _ (R : Rung) where
   open Mul (maps (E R) Ω) using (mul as _*′_)
 
   module _ (j : ℕ) (ij : i < j) (jn : j < T .n) (r : ℕ) (h : r < N R) (mv : ¬ (τ R r ≡ r)) (own : leader (O R) r ≡ r) where
-    abbrev lead : Ω → ℕ
-    lead a = leader (O R) (rep R a)
+    abbrev leaderAt : Ω → ℕ
+    leaderAt a = leader (O R) (rep R a)
 
     abbrev A : ℕ
     A = S R .shift j
@@ -63,7 +63,7 @@ module _ (R : Rung) where
     abbrev to : ℕ → ℕ
     to = F .target j
 
-    -- the orbit to which generator j leads
+    -- the orbit to which generator j maps
     abbrev s : ℕ
     s = leader (O R) (to r)
 
@@ -82,12 +82,12 @@ module _ (R : Rung) where
     literal : (r : ℕ) → Steps.target (P R) m i L j r ≡ to r
     literal r = ap (λ t. t r) (target-same R j)
 
-    of : (a : Ω) → lead a ≡ r → Member R r h mv own a
+    of : (a : Ω) → leaderAt a ≡ r → Member R r h mv own a
     of = member R r h mv own
 
-    led-to : (a : Ω) → lead a ≡ r → lead ((F .X j a) .0) ≡ s
-    led-to a e =
-        ap (leader (O R)) (F .leads j (omega arith) jn a ∙ ap to (sym (of a e .back))) ∙ target-orbit R j ij jn (position (O R) (rep R a)) r h mv
+    mapped-to : (a : Ω) → leaderAt a ≡ r → leaderAt ((F .X j a) .0) ≡ s
+    mapped-to a e =
+        ap (leader (O R)) (F .maps-to j (omega arith) jn a ∙ ap to (sym (of a e .back))) ∙ target-orbit R j ij jn (position (O R) (rep R a)) r h mv
 
     -- ---- Blocks with scalars
 
@@ -96,7 +96,7 @@ module _ (R : Rung) where
         → Shows m (Ψ R) r (leader (O R) (F .target j r)) (Steps.blockIntertwiner (P R) m i L j r k) B
     unfolding Steps.blockIntertwiner
     intertwiner-shows k {B} is = shows-blocks R r h mv own block len
-        (λ a e. ap lead (is a e .0) ∙ led-to a e) entries
+        (λ a e. ap leaderAt (is a e .0) ∙ mapped-to a e) entries
       where
         o : ℕ → ℕ
         o = orb R r h mv own
@@ -109,15 +109,15 @@ module _ (R : Rung) where
             lift-length _ (scale m (k b) (repOf L (o b) .matrix j)) ∙ scale-length m (k b) (repOf L (o b) .matrix j)
             ∙ stands .intertwines j (omega arith) jn (o b) (orb-below R r h mv own b) .size ∙ orb-degree R r h mv own b
 
-        entries : (a : Ω) → lead a ≡ r → col (block (position (O R) (rep R a))) (column a) ≡ entry (wide R ((B a) .0)) ((B a) .1 .0)
+        entries : (a : Ω) → leaderAt a ≡ r → col (block (position (O R) (rep R a))) (column a) ≡ entry (wide R ((B a) .0)) ((B a) .1 .0)
         entries a e =
             let b : ℕ = position (O R) (rep R a) in
             let a′ : Ω = (F .X j a) .0 in
             let sh = stands .intertwines j (omega arith) jn (rep R a) (rep-below R a) in
             let l : column a < length (repOf L (rep R a) .matrix j) = subst (λ z. column a < z) (sym (sh .size)) (column-below a) in
-            let M′ = member R s s-below s-moved s-own a′ (led-to a e) in
+            let M′ = member R s s-below s-moved s-own a′ (mapped-to a e) in
             let pw : position (O R) (rep R a′) * deg R s + column a′ ≡ position (O R) (to (rep R a)) * d + column a′
-            = ap₂ (λ x y. position (O R) x * y + column a′) (F .leads j (omega arith) jn a) s-degree in
+            = ap₂ (λ x y. position (O R) x * y + column a′) (F .maps-to j (omega arith) jn a) s-degree in
             ap (λ t. col (Steps.lift (Steps.position (P R) m i L (Steps.target (P R) m i L j t) * d) (scale m (k b) (repOf L t .matrix j))) (column a)) (orb-back R r h mv own a e)
             ∙ lift-col _ (scale m (k b) (repOf L (rep R a) .matrix j)) (column a) (subst (λ z. column a < z) (sym (scale-length m (k b) (repOf L (rep R a) .matrix j))) l)
             ∙ ap₂ (λ u (x : Entry). entry (u * d + x .row) (x .exp)) (position-same R _ ∙ ap (position (O R)) (literal (rep R a)))
@@ -132,11 +132,11 @@ module _ (R : Rung) where
     plain-shows : Shows m (Ψ R) r s (Steps.blockIntertwiner (P R) m i L j r (λ b. 0)) (F .X j)
     plain-shows = intertwiner-shows (λ b. 0) (λ a e. (refl, sym (ap (λ z. z % m) (add-zero _) ∙ mod-eq-of-lt ((F .X j a) .1 .1))))
 
-    left-shows : Shows m (Ψ R) r s (Steps.leftSide (P R) m i L j r) (F .X j *′ φ (S R) F (𝓢 R) j ij jn)
+    pub left-shows : Shows m (Ψ R) r (leader (O R) (F .target j r)) (Steps.leftSide (P R) m i L j r) (F .X j *′ φ (S R) F (𝓢 R) j ij jn)
     unfolding Steps.leftSide
     left-shows = shows-mul m pos (Ψ R) plain-shows conj-shows
 
-    right-shows : Shows m (Ψ R) r s (Steps.rightSide (P R) m i L j r) (Y (S R) F (𝓢 R) *′ F .X j)
+    pub right-shows : Shows m (Ψ R) r (leader (O R) (F .target j r)) (Steps.rightSide (P R) m i L j r) (Y (S R) F (𝓢 R) *′ F .X j)
     unfolding Steps.rightSide
     right-shows =
         subst (λ t. Shows m (Ψ R) r s (product m (Steps.blockCycle (P R) m i L t) (Steps.blockIntertwiner (P R) m i L j r (λ b. 0))) (Y (S R) F (𝓢 R) *′ F .X j))
@@ -144,24 +144,24 @@ module _ (R : Rung) where
         (shows-mul m pos (Ψ R) (cycle-shows R s s-below s-moved s-own) plain-shows)
 
     -- the first column of block b
-    member-of : ℕ → Ω
+    unfoldable pub member-of : ℕ → Ω
     member-of b = first R (iter (τ R) b r)
 
-    member-rep : (b : ℕ) → rep R (member-of b) ≡ iter (τ R) b r
+    pub member-rep : (b : ℕ) → rep R (member-of b) ≡ iter (τ R) b r
     unfolding member-of
     member-rep b = first-rep R (iter (τ R) b r) (iter-below (O R) b r h)
 
-    member-lead : (b : ℕ) → lead (member-of b) ≡ r
-    member-lead b = ap (leader (O R)) (member-rep b) ∙ leader-iter (O R) b r h ∙ own
+    pub member-leader : (b : ℕ) → leader (O R) (rep R (member-of b)) ≡ r
+    member-leader b = ap (leader (O R)) (member-rep b) ∙ leader-iter (O R) b r h ∙ own
 
     member-wide : (b : ℕ) → b < p R → wide R (member-of b) ≡ b * d
     unfolding member-of
     member-wide b l =
-        of (member-of b) (member-lead b) .wide-is
+        of (member-of b) (member-leader b) .wide-is
         ∙ ap₂ (λ x y. x * d + y) (ap (position (O R)) (member-rep b) ∙ position-of R r h mv own b l) (firstOf-column R (iter (τ R) b r) (decLt (iter (τ R) b r) (N R))) ∙ add-zero _
 
-    at-block : {t : ℕ} {M : Matrix} {B : Map (E R) Ω} → Shows m (Ψ R) r t M B → (b : ℕ) → b < p R → col M (b * d) ≡ entry (wide R ((B (member-of b)) .0)) ((B (member-of b)) .1 .0)
-    at-block {t} {M} sh b l = ap (col M) (sym (member-wide b l)) ∙ sh .shown (member-of b) (member-lead b)
+    pub at-block : {t : ℕ} {M : Matrix} {B : Map (E R) Ω} → Shows m (Ψ R) r t M B → (b : ℕ) → b < p R → col M (b * deg R r) ≡ entry (wide R ((B (member-of b)) .0)) ((B (member-of b)) .1 .0)
+    at-block {t} {M} sh b l = ap (col M) (sym (member-wide b l)) ∙ sh .shown (member-of b) (member-leader b)
 
     -- ---- The blocks along generator i
 
@@ -169,9 +169,9 @@ module _ (R : Rung) where
     unfolding Steps.nextBlock
     next-block b l =
         let a : Ω = (φ (S R) F (𝓢 R) j ij jn (member-of b)) .0 in
-        let M = of a (conj-shows .leads (member-of b) (member-lead b)) in
+        let M = of a (conj-shows .maps-to (member-of b) (member-leader b)) in
         ap (λ (x : Entry). x .row / d) (at-block conj-shows b l) ∙ ap (λ z. z / d) (M .wide-is) ∙ digits-div (position (O R) (rep R a)) (M .column-lt)
-        ∙ ap (position (O R)) (φ-leads (S R) F (𝓢 R) j ij jn (member-of b) ∙ ap (iter (τ R) A) (member-rep b) ∙ iter-add (τ R) b A r) ∙ position-mod R r h mv own (b + A)
+        ∙ ap (position (O R)) (φ-maps (S R) F (𝓢 R) j ij jn (member-of b) ∙ ap (iter (τ R) A) (member-rep b) ∙ iter-add (τ R) b A r) ∙ position-mod R r h mv own (b + A)
 
     pub block-after : (t : ℕ) → Steps.blockAfter (P R) m i L j r t ≡ (S R .shift j * t) % p R
     unfolding Steps.blockAfter
@@ -223,9 +223,9 @@ module _ (R : Rung) where
         ∙ ap (λ z. z .0) (sym (c-moved (S R) m pos F (ready R) j ij jn (rep R a) (of a e .moved)))
 
     -- the intertwiner of the steps
-    pub led-shows : {B : Map (E R) Ω} → ((a : Ω) → leader (O R) (rep R a) ≡ r → B a ≡ ((F .X j a) .0, residues m pos .add ((F .X j a) .1) (c (S R) m pos F (ready R) j ij jn (rep R a))))
+    pub mapped-shows : {B : Map (E R) Ω} → ((a : Ω) → leader (O R) (rep R a) ≡ r → B a ≡ ((F .X j a) .0, residues m pos .add ((F .X j a) .1) (c (S R) m pos F (ready R) j ij jn (rep R a))))
         → Shows m (Ψ R) r (leader (O R) (F .target j r)) (Steps.blockIntertwiner (P R) m i L j r (Steps.c (P R) m i L j r)) B
-    led-shows is = intertwiner-shows (Steps.c (P R) m i L j r) (λ a e. (
+    mapped-shows is = intertwiner-shows (Steps.c (P R) m i L j r) (λ a e. (
       ap (λ z. z .0) (is a e),
       ap (λ z. z .1 .0) (is a e) ∙ add-value m pos _ _ ∙ ap (λ z. ((F .X j a) .1 .0 + z) % m) (sym (c-is a e)),
     ))

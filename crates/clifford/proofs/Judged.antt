@@ -19,7 +19,7 @@ use Rattle.definitions.specs.Presentation.{NF, Presentation, Valid, order, Mul,
 use Rattle.definitions.specs.Monomial.{Matrix, entry, col, product, matrices, valid, sameMatrix, Rep, Level, repOf, image, conjugate}
 use Rattle.definitions.specs.Table.{levelAt}
 use Rattle.definitions.specs.Judgement
-use Rattle.numbers.proofs.Bools.{and-intro}
+use Rattle.numbers.proofs.Bools.{and-intro, or-left, or-right}
 use Rattle.numbers.proofs.Lists.{allBelow-intro, iter-suc}
 use Rattle.numbers.proofs.Sums.{term-le}
 use Rattle.group.specs.Context.{Context, Nf}
@@ -38,16 +38,9 @@ use Rattle.monomial.proofs.Residues.{residues, Residue-path}
 use Rattle.monomial.proofs.Frames.{shows-mul, shows-power, shows-value, shows-map, same-shown, shows-valid}
 use Rattle.monomial.proofs.Schur.{intertwiner-inverse, power-commutes, commuting-fixes, rep-power}
 use Rattle.clifford.specs.Stands.{frame, Stands}
+use Rattle.clifford.proofs.Agreement.{target-listed}
 
 -- ---- Tests of some normal form
-
-or-left : (a b : Bool) → a ≡ true → a || b ≡ true
-or-left true b h = refl
-or-left false b h = absurd (false≢true h)
-
-or-right : (a b : Bool) → b ≡ true → a || b ≡ true
-or-right true b h = refl
-or-right false b h = h
 
 any-left : {A : Type 0} (q : A → Bool) (xs ys : List A) → any q xs ≡ true → any q (xs ++ ys) ≡ true
 unfolding any
@@ -155,10 +148,8 @@ module _ (C : Context) (tests : (k : ℕ) → k < C .P .n → Test C k) (m : ℕ
 
   -- ---- 24
 
-  target-in : (j : ℕ) → i ≤ j → j < n → (r : ℕ) → r < length L → F .target j r < length L
-  target-in j a b r h =
-      let x : Ω = complete .find r 0 h (St .degree-pos r h) in
-      subst (λ z. z < length L) (F .leads j a b x ∙ ap (F .target j) (complete .find-rep r 0 h (St .degree-pos r h))) (complete .rep-below ((F .X j x) .0))
+  abbrev target-in : (j : ℕ) → i ≤ j → j < n → (r : ℕ) → r < length L → F .target j r < length L
+  target-in = target-listed C n m pos i L F St
 
   intertwines-holds : (r j : ℕ) → r < length L → i ≤ j → j < n → Judgement.intertwines P m table i (Rp r) j ≡ true
   unfolding Judgement.intertwines
@@ -192,10 +183,10 @@ module _ (C : Context) (tests : (k : ℕ) → k < C .P .n → Test C k) (m : ℕ
       any-forms P i _ (x .0) (x .1) (eq-eqb _ _ (ap (λ z. col (image m (Rp r) i (x .0)) z .row) (sym (complete .find-column r 0 h (St .degree-pos r h)))
       ∙ ap (λ (y : Entry). y .row) (form-shows r h x .shown o ro) ∙ ap column e ∙ complete .find-column r k h a))
 
-  tells-hold : (r k r′ k′ : ℕ) (h : r < length L) (a : k < Rp r .deg) (h′ : r′ < length L) (a′ : k′ < Rp r′ .deg) → ¬ ((r ≡ r′) × (k ≡ k′))
+  separated-holds : (r k r′ k′ : ℕ) (h : r < length L) (a : k < Rp r .deg) (h′ : r′ < length L) (a′ : k′ < Rp r′ .deg) → ¬ ((r ≡ r′) × (k ≡ k′))
       → any (Judgement.tells P m table i (Rp r) k (Rp r′) k′) (Judgement.allForms P i) ≡ true
   unfolding Judgement.tells
-  tells-hold r k r′ k′ h a h′ a′ ne =
+  separated-holds r k r′ k′ h a h′ a′ ne =
       let b : Ω = complete .find r k h a in
       let b′ : Ω = complete .find r′ k′ h′ a′ in
       let rb : F .rep b ≡ r = complete .find-rep r k h a in
@@ -219,8 +210,8 @@ module _ (C : Context) (tests : (k : ℕ) → k < C .P .n → Test C k) (m : ℕ
       same-or : (r k r′ k′ : ℕ) (h : r < length L) (a : k < Rp r .deg) (h′ : r′ < length L) (a′ : k′ < Rp r′ .deg) → Dec (r ≡ r′) → Dec (k ≡ k′)
           → (eqb r r′ && eqb k k′) || any (Judgement.tells P m table i (Rp r) k (Rp r′) k′) (Judgement.allForms P i) ≡ true
       same-or r k r′ k′ h a h′ a′ (yes p) (yes q) = or-left (eqb r r′ && eqb k k′) _ (and-intro _ _ (eq-eqb r r′ p) (eq-eqb k k′ q))
-      same-or r k r′ k′ h a h′ a′ (yes p) (no q) = or-right (eqb r r′ && eqb k k′) _ (tells-hold r k r′ k′ h a h′ a′ (λ u. q (u .1)))
-      same-or r k r′ k′ h a h′ a′ (no p) d = or-right (eqb r r′ && eqb k k′) _ (tells-hold r k r′ k′ h a h′ a′ (λ u. p (u .0)))
+      same-or r k r′ k′ h a h′ a′ (yes p) (no q) = or-right (eqb r r′ && eqb k k′) _ (separated-holds r k r′ k′ h a h′ a′ (λ u. q (u .1)))
+      same-or r k r′ k′ h a h′ a′ (no p) d = or-right (eqb r r′ && eqb k k′) _ (separated-holds r k r′ k′ h a h′ a′ (λ u. p (u .0)))
 
   -- ---- 26
 
@@ -246,10 +237,10 @@ module _ (C : Context) (tests : (k : ℕ) → k < C .P .n → Test C k) (m : ℕ
 
     home : (x : Ω) → iter (F .target j) N (F .rep x) ≡ F .rep x
     home x =
-        sym (rep-power F (F .target j) (F .X j) (F .leads j a b) N x)
+        sym (rep-power F (F .target j) (F .X j) (F .maps-to j a b) N x)
         ∙ ap (F .rep) (commuting-fixes F (power (maps (residues m pos) Ω) (F .X j) N) (power-commutes F (F .X j) (conjNf C i j) (F .past j a b) N (conj-period T i j a b)) x)
 
-    -- different representations are led to different ones
+    -- different representations are mapped to different ones
     target-injective : (x y : Ω) → F .target j (F .rep x) ≡ F .target j (F .rep y) → F .rep x ≡ F .rep y
     target-injective x y q = back x ∙ ap (iter (F .target j) (N - 1)) q ∙ sym (back y)
       where
@@ -262,7 +253,7 @@ module _ (C : Context) (tests : (k : ℕ) → k < C .P .n → Test C k) (m : ℕ
         let z : Ω = complete .find r 0 h (St .degree-pos r h) in
         let rz : F .rep z ≡ r = complete .find-rep r 0 h (St .degree-pos r h) in
         let there : (F .X j y) .0 ≡ x = ap (λ z. z .0) (sym (at-mul (residues m pos) (F .X j) (X-inverse .to) x) ∙ at-column (residues m pos) (X-inverse .right) x ∙ at-one (residues m pos) x) in
-        target-injective y z (sym (F .leads j a b y) ∙ ap (F .rep) there ∙ q ∙ ap (F .target j) (sym rz)) ∙ rz
+        target-injective y z (sym (F .maps-to j a b y) ∙ ap (F .rep) there ∙ q ∙ ap (F .target j) (sym rz)) ∙ rz
 
   matrix-valid : (r g : ℕ) → r < length L → g < n → valid m (Rp r .deg) (Rp r .matrix g) ≡ true
   unfolding D-inverse

@@ -147,6 +147,7 @@ module _ (T : Tested) (i : ℕ) (l : i < T .n) where
     conj-u = T .tests i l .fixes;
     inner = cyclic C i (group T i i≤n) (T .tests i l) .inner;
     low = low C i;
+    low-hom = low-hom C i;
     top = top C i;
     exponent = exponentNf C i;
     rest = restNf C i;

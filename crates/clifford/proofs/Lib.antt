@@ -19,3 +19,4 @@ pub mod Agreement
 pub mod Judged
 pub mod Cuts
 pub mod Theorem
+pub mod Formulas

@@ -1,10 +1,10 @@
 -- The family of the next level, on the basis indices of the steps.
 --
---   target-orbit              where generator j leads an orbit is one orbit
---   target-below, target-fixed, target-moved      where generator j leads a representation
+--   target-orbit              where generator j maps an orbit is one orbit
+--   target-below, target-fixed, target-moved      where generator j maps a representation
 --   next-d, next-X            the maps of the next level
 --   next-X-is                 an intertwiner, by its generator
---   next-target               where it leads, as the next level refers to it
+--   next-target               where it maps, as the next level refers to it
 --   family                    they are a family of the next level
 use mathlib.Core.Path.{_≡_, refl, sym, _∙_, ap, ap₂, subst, fun-ext}
 use mathlib.Core.Bool.{cond}
@@ -30,13 +30,14 @@ use Rattle.group.proofs.Level.{level, conjNf}
 use Rattle.monomial.specs.Exponents.{Exponents, Residue}
 use Rattle.monomial.specs.Maps.{Map, maps}
 use Rattle.monomial.specs.Families.{Family}
+use Rattle.monomial.specs.Over.{At}
 use Rattle.monomial.proofs.Maps.{at-one}
 use Rattle.monomial.proofs.Residues.{residues, log}
 use Rattle.clifford.specs.Extension.{Extension}
 use Rattle.clifford.specs.Stands.{frame, Stands, Rung}
 use Rattle.clifford.proofs.Numbering.{P, p, N, deg, rep, τ, S, ready, O, rep-below, target-same, leader-same, start-same, made, next, made-of, made-of-fixed}
 use Rattle.clifford.proofs.Indices.{Index, base, number, mk, Index-path, Index-discrete, next-rep, number-fixed, number-moved, rep-fixed, rep-moved}
-use Rattle.clifford.proofs.Top.{Normed, raised, raised-leads, swap, fixed-stays, fixed-back}
+use Rattle.clifford.proofs.Top.{Normed, raised, raised-maps, swap, fixed-stays, fixed-back}
 use Rattle.clifford.proofs.Step as StepOf
 use Rattle.clifford.proofs.Step.{Roots, numbered, Step}
 use Rattle.clifford.proofs.Scalars.{Ready, parts, normed, roots, unit-shift, q̂, c, ν, ν-fixed, ν-moved, ν-below, number-stays, closes}
@@ -62,7 +63,7 @@ module _ (R : Rung) where
     at-rep Q h r l = subst Q (first-rep R r l) (h (first R r))
 
     pub target-below : (r : ℕ) → r < N R → F .target j r < N R
-    target-below = at-rep (λ r. to r < N R) (λ a. subst (λ s. s < N R) (F .leads j (omega arith) jn a) (rep-below R ((F .X j a) .0)))
+    target-below = at-rep (λ r. to r < N R) (λ a. subst (λ s. s < N R) (F .maps-to j (omega arith) jn a) (rep-below R ((F .X j a) .0)))
 
     pub target-fixed : (r : ℕ) → r < N R → τ R r ≡ r → τ R (F .target j r) ≡ F .target j r
     target-fixed = at-rep (λ r. τ R r ≡ r → τ R (to r) ≡ to r) (fixed-stays (S R) F (𝓢 R) j ij jn)
@@ -99,7 +100,7 @@ module _ (R : Rung) where
 
   raised-number : (x : Index R) (w : Nf C (suc i)) → number R x < made R (leader (O R) (rep R ((raised (S R) F (𝓨 (number R x)) w (base R x)) .0)))
   raised-number x w =
-      subst (λ s. number R x < made R s) (sym (ap (leader (O R)) (raised-leads (S R) F (𝓨 (number R x)) w (base R x)) ∙ leader-iter (O R) _ (rep R (base R x)) (rep-below R (base R x)))) (x .1)
+      subst (λ s. number R x < made R s) (sym (ap (leader (O R)) (raised-maps (S R) F (𝓨 (number R x)) w (base R x)) ∙ leader-iter (O R) _ (rep R (base R x)) (rep-below R (base R x)))) (x .1)
 
   unfoldable pub next-d : Nf (T .context) (suc i) → Map (E R) (Index R)
   unfolding raised-number
@@ -109,9 +110,9 @@ module _ (R : Rung) where
     abbrev ν′ : ℕ → ℕ → ℕ
     ν′ = ν (S R) m pos F (ready R) j ij jn
 
-    led-number : (x : Index R) → ν′ (rep R (base R x)) (number R x) < made R (leader (O R) (rep R ((F .X j (base R x)) .0)))
-    led-number x =
-        subst (λ s. ν′ r (number R x) < made R (leader (O R) s)) (sym (F .leads j (omega arith) jn (base R x))) (go (ℕ-discrete (τ R r) r))
+    mapped-number : (x : Index R) → ν′ (rep R (base R x)) (number R x) < made R (leader (O R) (rep R ((F .X j (base R x)) .0)))
+    mapped-number x =
+        subst (λ s. ν′ r (number R x) < made R (leader (O R) s)) (sym (F .maps-to j (omega arith) jn (base R x))) (go (ℕ-discrete (τ R r) r))
       where
         r : ℕ
         r = rep R (base R x)
@@ -124,34 +125,34 @@ module _ (R : Rung) where
             subst (λ s. ν′ r (number R x) < s) (sym (made-of R (F .target j r) (target-below j ij jn r (rep-below R (base R x))) (target-moved j ij jn r (rep-below R (base R x)) f)))
             (omega (arith, ν-moved (S R) m pos F (ready R) j ij jn r (number R x) f))
 
-    unfoldable pub led : Map (E R) (Index R)
-    unfolding led-number
-    led x = (
-      mk R ((F .X j (base R x)) .0) (ν (S R) m pos F (ready R) j ij jn (rep R (base R x)) (number R x)) (led-number x),
+    unfoldable pub mapped : Map (E R) (Index R)
+    unfolding mapped-number
+    mapped x = (
+      mk R ((F .X j (base R x)) .0) (ν (S R) m pos F (ready R) j ij jn (rep R (base R x)) (number R x)) (mapped-number x),
       E R .add ((F .X j (base R x)) .1) (c (S R) m pos F (ready R) j ij jn (rep R (base R x))),
     )
 
-  unfoldable pub led-at : (j : ℕ) → Dec (i < j) → Dec (j < T .n) → Map (E R) (Index R)
-  led-at j (yes a) (yes b) = led j a b
-  led-at j (yes a) (no b) = maps (E R) (Index R) .one
-  led-at j (no a) d = maps (E R) (Index R) .one
+  unfoldable pub mapped-at : (j : ℕ) → Dec (i < j) → Dec (j < T .n) → Map (E R) (Index R)
+  mapped-at j (yes a) (yes b) = mapped j a b
+  mapped-at j (yes a) (no b) = maps (E R) (Index R) .one
+  mapped-at j (no a) d = maps (E R) (Index R) .one
 
   unfoldable pub next-X : ℕ → Map (E R) (Index R)
-  next-X j = led-at j (decLt i j) (decLt j (T .n))
+  next-X j = mapped-at j (decLt i j) (decLt j (T .n))
 
-  pub next-X-is : (j : ℕ) (ij : i < j) (jn : j < T .n) → next-X j ≡ led j ij jn
-  unfolding next-X led-at
+  pub next-X-is : (j : ℕ) (ij : i < j) (jn : j < T .n) → next-X j ≡ mapped j ij jn
+  unfolding next-X mapped-at
   next-X-is j ij jn = go (decLt i j) (decLt j (T .n))
     where
-      go : (d : Dec (i < j)) (d′ : Dec (j < T .n)) → led-at j d d′ ≡ led j ij jn
-      go (yes a) (yes b) = ap₂ (led j) (le-prop a ij) (le-prop b jn)
+      go : (d : Dec (i < j)) (d′ : Dec (j < T .n)) → mapped-at j d d′ ≡ mapped j ij jn
+      go (yes a) (yes b) = ap₂ (mapped j) (le-prop a ij) (le-prop b jn)
       go (yes a) (no b) = absurd (b jn)
       go (no a) d = absurd (a ij)
 
   abbrev pub next-target : ℕ → ℕ → ℕ
   next-target j r = repOf (next R) r .ref j 0
 
-  -- ---- Where the next level leads
+  -- ---- Where the next level maps
 
   module _ (j : ℕ) (ij : i < j) (jn : j < T .n) (x : Index R) where
     abbrev rx : ℕ
@@ -178,12 +179,12 @@ module _ (R : Rung) where
         ap (λ (D : Rep). D .ref j 0) (rep-moved R x f) ∙ above _ _ ∙ start-same R _
         ∙ ap (λ s. sum s (made R)) (leader-same R _ ∙ ap (leader (O R)) (literal-target (leader (O R) rx)) ∙ target-leader j ij jn rx (rep-below R (base R x)) f)
 
-    led-leads : next-rep R ((led j ij jn x) .0) ≡ next-target j (next-rep R x)
-    unfolding led next-rep
-    led-leads = go (ℕ-discrete (τ R rx) rx)
+    mapped-target : next-rep R ((mapped j ij jn x) .0) ≡ next-target j (next-rep R x)
+    unfolding mapped next-rep
+    mapped-target = go (ℕ-discrete (τ R rx) rx)
       where
         start : sum (leader (O R) (rep R ((F .X j (base R x)) .0))) (made R) ≡ sum (leader (O R) to-rx) (made R)
-        start = ap (λ s. sum (leader (O R) s) (made R)) (F .leads j (omega arith) jn (base R x))
+        start = ap (λ s. sum (leader (O R) s) (made R)) (F .maps-to j (omega arith) jn (base R x))
 
         go : Dec (τ R rx ≡ rx) → sum (leader (O R) (rep R ((F .X j (base R x)) .0))) (made R) + ν (S R) m pos F (ready R) j ij jn rx (number R x) ≡ next-target j (next-rep R x)
         go (yes f) =
@@ -220,7 +221,7 @@ module _ (R : Rung) where
     up = λ j ij jn x. up j ij jn x;
     number-stays = λ j ij jn x. number-stays (S R) m pos F (ready R) j ij jn (base R x) (number R x);
     closes = λ j ij jn x. closes (S R) m pos F (ready R) j ij jn (base R x) (number R x) (number-moved R x);
-    leads = λ j ij jn x. ap (λ f. next-rep R ((f x) .0)) (next-X-is j ij jn) ∙ led-leads j ij jn x;
+    maps-to = λ j ij jn x. ap (λ f. next-rep R ((f x) .0)) (next-X-is j ij jn) ∙ mapped-target j ij jn x;
     one-orbit = λ x y e.
         let (s, k) = stretch-one (made R) (leader (O R) (rep R (base R x))) (number R x) (leader (O R) (rep R (base R y))) (number R y) (x .1) (y .1) e in
         (k, same-orbit x y s);
@@ -232,11 +233,11 @@ module _ (R : Rung) where
       small x (no f) = omega (arith, number-moved R x f, T .context .two i)
 
       up : (j : ℕ) (ij : i < j) (jn : j < T .n) (x : Index R)
-          → Rattle.monomial.specs.Over.At (E R) (base R) (number R) (next-X j x) ((F .X j (base R x)) .0) (ν (S R) m pos F (ready R) j ij jn (rep R (base R x)) (number R x))
+          → At (E R) (base R) (number R) (next-X j x) ((F .X j (base R x)) .0) (ν (S R) m pos F (ready R) j ij jn (rep R (base R x)) (number R x))
           (E R .add ((F .X j (base R x)) .1) (c (S R) m pos F (ready R) j ij jn (rep R (base R x))))
-      up j ij jn x = subst (λ (f : Map (E R) (Index R)). Rattle.monomial.specs.Over.At (E R) (base R) (number R) (f x) ((F .X j (base R x)) .0) (ν (S R) m pos F (ready R) j ij jn (rep R (base R x)) (number R x))
+      up j ij jn x = subst (λ (f : Map (E R) (Index R)). At (E R) (base R) (number R) (f x) ((F .X j (base R x)) .0) (ν (S R) m pos F (ready R) j ij jn (rep R (base R x)) (number R x))
           (E R .add ((F .X j (base R x)) .1) (c (S R) m pos F (ready R) j ij jn (rep R (base R x)))))
-          (sym (next-X-is j ij jn)) (unfold led in (record { is-base = refl; is-number = refl; is-exponent = refl }))
+          (sym (next-X-is j ij jn)) (unfold mapped in (record { is-base = refl; is-number = refl; is-exponent = refl }))
 
   abbrev pub family : Family (E R) (Index R) (level (T .context) (suc i)) (conjNf (T .context) (suc i)) (suc i) (T .n)
   family = StepOf.next (S R) F (𝓢 R) (ρ R) (base R) (number R) next-d next-X (next-rep R) next-target step

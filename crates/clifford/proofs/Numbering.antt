@@ -118,11 +118,11 @@ module _ (R : Rung) where
   unfolding Steps.fixed
   fixed-no r x y f = cond-ne _ r x y (λ e. f (sym (ap (λ t. t r) (target-same i)) ∙ e))
 
-  pub leads-yes : {A : Type 0} (r : ℕ) (x y : A) → leader O r ≡ r → cond (eqb (Steps.leader P m i L r) r) x y ≡ x
-  leads-yes r x y f = cond-eq _ r x y (leader-same r ∙ f)
+  pub leader-yes : {A : Type 0} (r : ℕ) (x y : A) → leader O r ≡ r → cond (eqb (Steps.leader P m i L r) r) x y ≡ x
+  leader-yes r x y f = cond-eq _ r x y (leader-same r ∙ f)
 
-  pub leads-no : {A : Type 0} (r : ℕ) (x y : A) → ¬ (leader O r ≡ r) → cond (eqb (Steps.leader P m i L r) r) x y ≡ y
-  leads-no r x y f = cond-ne _ r x y (λ e. f (sym (leader-same r) ∙ e))
+  pub leader-no : {A : Type 0} (r : ℕ) (x y : A) → ¬ (leader O r ≡ r) → cond (eqb (Steps.leader P m i L r) r) x y ≡ y
+  leader-no r x y f = cond-ne _ r x y (λ e. f (sym (leader-same r) ∙ e))
 
   -- ---- What a representation gives
 
@@ -135,11 +135,11 @@ module _ (R : Rung) where
 
   pub made-leader : (r : ℕ) → ¬ (τ r ≡ r) → leader O r ≡ r → made r ≡ 1
   unfolding Steps.made
-  made-leader r f h = fixed-no r _ _ f ∙ leads-yes r _ _ h
+  made-leader r f h = fixed-no r _ _ f ∙ leader-yes r _ _ h
 
   pub made-other : (r : ℕ) → ¬ (τ r ≡ r) → ¬ (leader O r ≡ r) → made r ≡ 0
   unfolding Steps.made
-  made-other r f h = fixed-no r _ _ f ∙ leads-no r _ _ h
+  made-other r f h = fixed-no r _ _ f ∙ leader-no r _ _ h
 
   abbrev pub given : ℕ → List Rep
   given = Steps.givenBy P m i L
@@ -180,7 +180,7 @@ module _ (R : Rung) where
   unfolding Steps.givenBy
   given-moved s κ h f g e =
       ap (λ κ. repOf next (sum s made + κ)) e
-      ∙ next-at s 0 h (subst (λ z. 0 < z) (sym (made-leader s f g)) (omega arith)) ∙ ap (λ z. getD z 0 noRep) (fixed-no s _ _ f ∙ leads-yes s _ _ g)
+      ∙ next-at s 0 h (subst (λ z. 0 < z) (sym (made-leader s f g)) (omega arith)) ∙ ap (λ z. getD z 0 noRep) (fixed-no s _ _ f ∙ leader-yes s _ _ g)
 
   -- ---- Leaders
 
@@ -201,17 +201,17 @@ module _ (R : Rung) where
     pub s-below : s < N
     pub κ-below : κ < made s
     pub is : sum s made + κ ≡ r
-    pub leads : leader O s ≡ s
+    pub own : leader O s ≡ s
 
   pub source : (r : ℕ) → r < length next → Source r
   source r l =
       let o = owner made N r (subst (λ z. r < z) next-length l) in
-      record { s = o .s; κ = o .κ; s-below = o .s-below; κ-below = o .κ-below; is = o .is; leads = own (o .s) (o .κ) (o .s-below) (o .κ-below) (ℕ-discrete (τ (o .s)) (o .s)) (ℕ-discrete (leader O (o .s)) (o .s)) }
+      record { s = o .s; κ = o .κ; s-below = o .s-below; κ-below = o .κ-below; is = o .is; own = own-leader (o .s) (o .κ) (o .s-below) (o .κ-below) (ℕ-discrete (τ (o .s)) (o .s)) (ℕ-discrete (leader O (o .s)) (o .s)) }
     where
-      own : (s κ : ℕ) → s < N → κ < made s → Dec (τ s ≡ s) → Dec (leader O s ≡ s) → leader O s ≡ s
-      own s κ h l (yes f) d = leader-fixed O s h f
-      own s κ h l (no f) (yes g) = g
-      own s κ h l (no f) (no g) = absurd (omega (arith, made-other s f g))
+      own-leader : (s κ : ℕ) → s < N → κ < made s → Dec (τ s ≡ s) → Dec (leader O s ≡ s) → leader O s ≡ s
+      own-leader s κ h l (yes f) d = leader-fixed O s h f
+      own-leader s κ h l (no f) (yes g) = g
+      own-leader s κ h l (no f) (no g) = absurd (omega (arith, made-other s f g))
 
   -- ---- Degrees
 

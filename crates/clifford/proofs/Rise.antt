@@ -39,9 +39,9 @@ use Rattle.clifford.proofs.Top.{raised}
 use Rattle.clifford.proofs.Step.{numbered, numbered-zero}
 use Rattle.clifford.proofs.Scalars.{c, c-fixed}
 use Rattle.clifford.proofs.Extensions.{E, Φ, 𝓢, ρ, first, first-rep, base-shows}
-use Rattle.clifford.proofs.Next.{target-below, target-fixed, target-moved, next-d, led, next-X, next-X-is, next-target, step, family}
+use Rattle.clifford.proofs.Next.{target-below, target-fixed, target-moved, next-d, mapped, next-X, next-X-is, next-target, step, family}
 use Rattle.clifford.proofs.Inductions.{lift-col, lift-length, Ψ, spread, spread-fixed, spread-moved, rep-of-fixed, fixed-spreads, induced-shows, orb-below, orb-degree}
-use Rattle.clifford.proofs.Intertwiners.{led-shows}
+use Rattle.clifford.proofs.Intertwiners.{mapped-shows}
 
 module _ (R : Rung) where
   open Rung R using (T, m, pos, i, L, Ω, F, stands)
@@ -49,8 +49,8 @@ module _ (R : Rung) where
   abbrev C : Context
   C = T .context
 
-  abbrev lead : Index R → ℕ
-  lead x = leader (O R) (rep R (base R x))
+  abbrev leaderAt : Index R → ℕ
+  leaderAt x = leader (O R) (rep R (base R x))
 
   -- ---- From the orbits to the next level
 
@@ -60,9 +60,9 @@ module _ (R : Rung) where
   unfolding next-rep
   shows-above s t κ r′ t′ M A A′ l is sh dg above ld = record {
     size = sh .size ∙ dg;
-    leads = ld;
+    maps-to = ld;
     shown = λ x e.
-        let (a, b) = stretch-one (made R) (lead x) (number R x) s κ (x .1) l (e ∙ sym is) in
+        let (a, b) = stretch-one (made R) (leaderAt x) (number R x) s κ (x .1) l (e ∙ sym is) in
         let (y, z) = above x a b in
         sh .shown (base R x) a ∙ ap₂ (λ o w. entry (wide R o) (w .0)) (sym y) (sym z);
   }
@@ -98,7 +98,7 @@ module _ (R : Rung) where
               let l : o .κ < p R = subst (λ z. o .κ < z) (made-fixed R (o .s) f) (o .κ-below) in
               ext (record { s = o .s; κ = o .κ; s-below = o .s-below; κ-below = o .κ-below; κ-small = l; is = o .is; fixed = f; rep-is = ap (repOf (next R)) (sym (o .is)) ∙ given-fixed R (o .s) (o .κ) (o .s-below) f l })
           split (no f) =
-              let l : o .κ < 1 = subst (λ z. o .κ < z) (made-leader R (o .s) f (o .leads)) (o .κ-below) in
+              let l : o .κ < 1 = subst (λ z. o .κ < z) (made-leader R (o .s) f (o .own)) (o .κ-below) in
               let z : o .κ ≡ 0 = omega arith in
               let is : sum (o .s) (made R) + 0 ≡ r′ = ap (λ κ. sum (o .s) (made R) + κ) (sym z) ∙ o .is in
               ind (record {
@@ -107,8 +107,8 @@ module _ (R : Rung) where
                 κ-below = subst (λ κ. κ < made R (o .s)) z (o .κ-below);
                 is = is;
                 moved = f;
-                own = o .leads;
-                rep-is = ap (repOf (next R)) (sym is) ∙ given-moved R (o .s) 0 (o .s-below) f (o .leads) refl;
+                own = o .own;
+                rep-is = ap (repOf (next R)) (sym is) ∙ given-moved R (o .s) 0 (o .s-below) f (o .own) refl;
               })
 
   -- ---- Matrices and references by their generator
@@ -162,10 +162,10 @@ module _ (R : Rung) where
   unfolding next-d
   d-above g κ x b = (ap (λ κ. (raised (S R) F (numbered (S R) F (𝓢 R) (ρ R) κ) g (base R x)) .0) b, ap (λ κ. (raised (S R) F (numbered (S R) F (𝓢 R) (ρ R) κ) g (base R x)) .1) b)
 
-  led-above : (j : ℕ) (ij : suc i ≤ j) (jn : j < T .n) (x : Index R)
-      → (base R ((led R j ij jn x) .0) ≡ (F .X j (base R x)) .0) × ((led R j ij jn x) .1 ≡ E R .add ((F .X j (base R x)) .1) (c (S R) m pos F (ready R) j ij jn (rep R (base R x))))
-  unfolding led
-  led-above j ij jn x = (refl, refl)
+  mapped-above : (j : ℕ) (ij : suc i ≤ j) (jn : j < T .n) (x : Index R)
+      → (base R ((mapped R j ij jn x) .0) ≡ (F .X j (base R x)) .0) × ((mapped R j ij jn x) .1 ≡ E R .add ((F .X j (base R x)) .1) (c (S R) m pos F (ready R) j ij jn (rep R (base R x))))
+  unfolding mapped
+  mapped-above j ij jn x = (refl, refl)
 
   -- ---- Generators of the level
 
@@ -201,26 +201,26 @@ module _ (R : Rung) where
     unfolding scaled
     next-intertwines r′ h =
         subst (λ (f : Map (E R) (Index R)). Shows m (next-frame R) r′ (next-target R j r′) (repOf (next R) r′ .matrix j) f) (sym (next-X-is R j ij jn))
-        (at-source (Shows m (next-frame R) r′ (next-target R j r′) (repOf (next R) r′ .matrix j) (led R j ij jn)) r′ h ext ind)
+        (at-source (Shows m (next-frame R) r′ (next-target R j r′) (repOf (next R) r′ .matrix j) (mapped R j ij jn)) r′ h ext ind)
       where
-        leads : (x : Index R) → next-rep R x ≡ r′ → next-rep R ((led R j ij jn x) .0) ≡ next-target R j r′
-        leads x e = ap (λ f. next-rep R ((f x) .0)) (sym (next-X-is R j ij jn)) ∙ family R .leads j ij jn x ∙ ap (next-target R j) e
+        maps-to : (x : Index R) → next-rep R x ≡ r′ → next-rep R ((mapped R j ij jn x) .0) ≡ next-target R j r′
+        maps-to x e = ap (λ f. next-rep R ((f x) .0)) (sym (next-X-is R j ij jn)) ∙ family R .maps-to j ij jn x ∙ ap (next-target R j) e
 
-        ext : Extended r′ → Shows m (next-frame R) r′ (next-target R j r′) (repOf (next R) r′ .matrix j) (led R j ij jn)
+        ext : Extended r′ → Shows m (next-frame R) r′ (next-target R j r′) (repOf (next R) r′ .matrix j) (mapped R j ij jn)
         ext e =
-            subst (λ (M : Matrix). Shows m (next-frame R) r′ (next-target R j r′) M (led R j ij jn)) (sym (ap (λ (D : Rep). D .matrix j) (e .rep-is) ∙ extension-up (e .s) (e .κ) j ij))
-            (shows-above (e .s) (F .target j (e .s)) (e .κ) r′ (next-target R j r′) (repOf L (e .s) .matrix j) (F .X j) (led R j ij jn) (e .κ-below) (e .is)
+            subst (λ (M : Matrix). Shows m (next-frame R) r′ (next-target R j r′) M (mapped R j ij jn)) (sym (ap (λ (D : Rep). D .matrix j) (e .rep-is) ∙ extension-up (e .s) (e .κ) j ij))
+            (shows-above (e .s) (F .target j (e .s)) (e .κ) r′ (next-target R j r′) (repOf L (e .s) .matrix j) (F .X j) (mapped R j ij jn) (e .κ-below) (e .is)
             (fixed-spreads R (e .fixed) (target-below R j ij jn (e .s) (e .s-below)) (target-fixed R j ij jn (e .s) (e .s-below) (e .fixed)) (stands .intertwines j (omega arith) jn (e .s) (e .s-below))) (extended-degree r′ e)
-            (λ x a b. let (y, z) = led-above j ij jn x in (y, z ∙ ap (E R .add ((F .X j (base R x)) .1)) (c-fixed (S R) m pos F (ready R) j ij jn (rep R (base R x)) (fixed-at e x a)) ∙ idr (E R) _)) leads)
+            (λ x a b. let (y, z) = mapped-above j ij jn x in (y, z ∙ ap (E R .add ((F .X j (base R x)) .1)) (c-fixed (S R) m pos F (ready R) j ij jn (rep R (base R x)) (fixed-at e x a)) ∙ idr (E R) _)) maps-to)
           where
-            fixed-at : (e : Extended r′) (x : Index R) → lead x ≡ e .s → τ R (rep R (base R x)) ≡ rep R (base R x)
+            fixed-at : (e : Extended r′) (x : Index R) → leaderAt x ≡ e .s → τ R (rep R (base R x)) ≡ rep R (base R x)
             fixed-at e x a = subst (λ s. τ R s ≡ s) (sym (rep-of-fixed R (base R x) (e .s) a (e .fixed))) (e .fixed)
 
-        ind : Induced r′ → Shows m (next-frame R) r′ (next-target R j r′) (repOf (next R) r′ .matrix j) (led R j ij jn)
+        ind : Induced r′ → Shows m (next-frame R) r′ (next-target R j r′) (repOf (next R) r′ .matrix j) (mapped R j ij jn)
         ind e =
-            subst (λ (M : Matrix). Shows m (next-frame R) r′ (next-target R j r′) M (led R j ij jn)) (sym (ap (λ (D : Rep). D .matrix j) (e .rep-is) ∙ induction-up (e .s) j ij))
-            (shows-above (e .s) (leader (O R) (F .target j (e .s))) 0 r′ (next-target R j r′) _ scaled (led R j ij jn) (e .κ-below) (e .is)
-            (led-shows R j ij jn (e .s) (e .s-below) (e .moved) (e .own) (λ a q. refl)) (induced-degree r′ e) (λ x a b. led-above j ij jn x) leads)
+            subst (λ (M : Matrix). Shows m (next-frame R) r′ (next-target R j r′) M (mapped R j ij jn)) (sym (ap (λ (D : Rep). D .matrix j) (e .rep-is) ∙ induction-up (e .s) j ij))
+            (shows-above (e .s) (leader (O R) (F .target j (e .s))) 0 r′ (next-target R j r′) _ scaled (mapped R j ij jn) (e .κ-below) (e .is)
+            (mapped-shows R j ij jn (e .s) (e .s-below) (e .moved) (e .own) (λ a q. refl)) (induced-degree r′ e) (λ x a b. mapped-above j ij jn x) maps-to)
 
     pub next-refers : (r′ : ℕ) → r′ < length (next R) → (k : ℕ) → repOf (next R) r′ .ref j k ≡ next-target R j r′
     next-refers r′ h k = at-source (repOf (next R) r′ .ref j k ≡ next-target R j r′) r′ h

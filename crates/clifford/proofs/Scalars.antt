@@ -1,5 +1,5 @@
 -- The scalars of the steps, modulo m, close: s / p for an extension, the last block of an induction, the number l to
--- which an intertwiner leads an extension, and the scalars c of an intertwiner along an orbit.
+-- which an intertwiner maps an extension, and the scalars c of an intertwiner along an orbit.
 --
 --   Ready                                   the numbers of a family: how many representations, a basis index of each,
 --                                           and m a multiple of p times the order of the group
@@ -30,8 +30,8 @@ use Rattle.monomial.specs.Families.{Family}
 use Rattle.monomial.proofs.Exponents.{idr, negl, lcomm, neg-of, total-zero, total-suc, total-ext, total-single, times-nil, times-add, times-mul}
 use Rattle.monomial.proofs.Residues.{residues, root-divides, part, part-times, neg-divides, unit, unit-p, unit-injective, unit-mod, log, log-below, log-times}
 use Rattle.clifford.specs.Extension.{Extension}
-use Rattle.clifford.proofs.Defect.{defect, defect-const, defect-step, X-leads, target-home, root}
-use Rattle.clifford.proofs.Top.{Normed, φ, φ-power-leads, q, q-const, around, swap, fixed-back}
+use Rattle.clifford.proofs.Defect.{defect, defect-const, defect-step, X-maps, target-home, root}
+use Rattle.clifford.proofs.Top.{Normed, φ, φ-power-maps, q, q-const, around, swap, fixed-back}
 use Rattle.clifford.proofs.Step.{Roots}
 
 module _ {G G⁺ : Type 0} {𝓖 : Mul G} {𝓖⁺ : Mul G⁺} {conj : ℕ → G → G} {conj⁺ : ℕ → G⁺ → G⁺} {i n : ℕ} (S : Extension 𝓖 𝓖⁺ conj conj⁺ i n)
@@ -67,7 +67,7 @@ module _ {G G⁺ : Type 0} {𝓖 : Mul G} {𝓖⁺ : Mul G⁺} {conj : ℕ → G
     parts = record { p = S .p; share = Q .share; two = S .two; split = Q .split }
 
     pub tau-below : (r : ℕ) → r < count → τ r < count
-    tau-below r h = subst (λ s. s < count) (X-leads S F (first r) ∙ ap τ (first-rep r h)) (rep-below ((X i (first r)) .0))
+    tau-below r h = subst (λ s. s < count) (X-maps S F (first r) ∙ ap τ (first-rep r h)) (rep-below ((X i (first r)) .0))
 
     pub tau-home : (r : ℕ) → r < count → iter τ p r ≡ r
     tau-home r h = subst (λ s. iter τ p s ≡ s) (first-rep r h) (target-home S F (first r))
@@ -103,7 +103,7 @@ module _ {G G⁺ : Type 0} {𝓖 : Mul G} {𝓖⁺ : Mul G⁺} {conj : ℕ → G
 
     T-along : (k : ℕ) (a : Ω) → T (first (iter τ k (rep a))) ≡ T a
     T-along zero a = ap (λ r. T (first r)) (iter-zero τ (rep a)) ∙ T-first a
-    T-along (suc k) a = ap (λ r. T (first r)) (iter-suc τ k (rep a) ∙ ap (iter τ k) (sym (X-leads S F a))) ∙ T-along k ((X i a) .0) ∙ defect-step S F a
+    T-along (suc k) a = ap (λ r. T (first r)) (iter-suc τ k (rep a) ∙ ap (iter τ k) (sym (X-maps S F a))) ∙ T-along k ((X i a) .0) ∙ defect-step S F a
 
     pub norm : (a : Ω) → add (total 𝓔 (λ k. σ (iter τ k (rep a))) p) (T a) ≡ nil
     norm a = go (ℕ-discrete (τ (rep a)) (rep a))
@@ -209,7 +209,7 @@ module _ {G G⁺ : Type 0} {𝓖 : Mul G} {𝓖⁺ : Mul G⁺} {conj : ℕ → G
       cycle : (a : Ω) → total 𝓔 (λ k. q̂ (iter τ (A * k) (rep a))) p ≡ nil
       cycle a =
           total-ext 𝓔 (λ k. q̂ (iter τ (A * k) (rep a))) (λ k. Qj ((power (maps 𝓔 Ω) (φ S F normed j ij jn) k a) .0)) p
-          (λ k h. ap q̂ (sym (φ-power-leads S F normed j ij jn k a ∙ iter-iter τ A k (rep a))) ∙ q-first _)
+          (λ k h. ap q̂ (sym (φ-power-maps S F normed j ij jn k a ∙ iter-iter τ A k (rep a))) ∙ q-first _)
           ∙ around S F normed j ij jn a
 
       pub log-q : (a : Ω) → τ (rep a) ≡ rep a → times 𝓔 (log m pos parts (q̂ (rep a))) (unit m pos parts) ≡ q̂ (rep a)

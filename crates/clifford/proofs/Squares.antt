@@ -1,7 +1,6 @@
 -- The squared degrees of the next level add up to p times those of the level below.
 --
 --   sum-orbits           over the numbers below N, p for each leader of an orbit that moves is one for each member
---   next-degree          the degree of a representation, by the one that gives it
 --   next-squares         the squares of the next level
 use mathlib.Core.Path.{_≡_, refl, sym, _∙_, ap, ap₂, subst}
 use mathlib.Core.Bool.{cond}
@@ -16,9 +15,9 @@ use Rattle.definitions.specs.Monomial.{Rep, repOf}
 use Rattle.definitions.specs.Steps
 use Rattle.numbers.proofs.Lists.{iter-add, iter-fix}
 use Rattle.numbers.proofs.Sums.{sum-zero, sum-suc, sum-below, sum-plus, sum-mul, sum-const, sum-none, sum-swap, sum-single, sum-stretches, chosen, chosen-same, chosen-other, sum-permuted}
-use Rattle.numbers.proofs.Orbits.{Orbits, Moved, leader, position, iter-below, iter-moved, leader-below, leader-iter, leader-leader, leader-moved, position-below, position-back, moved-distinct}
+use Rattle.numbers.proofs.Orbits.{Orbits, Moved, leader, position, iter-below, iter-mod, iter-moved, leader-below, leader-iter, leader-leader, leader-moved, position-below, position-back, moved-distinct}
 use Rattle.clifford.specs.Stands.{Stands, Rung}
-use Rattle.clifford.proofs.Numbering.{P, p, N, deg, τ, O, made, next, next-length, made-fixed, made-leader, made-other, given-fixed, given-moved, degree-iter}
+use Rattle.clifford.proofs.Numbering.{P, p, N, deg, τ, O, fixed-yes, fixed-no, made, next, next-length, made-fixed, made-leader, made-other, given-fixed, given-moved, degree-iter}
 
 -- ---- Orbits
 
@@ -43,7 +42,7 @@ module _ (O : Orbits) (v : ℕ → ℕ) (along : (k r : ℕ) → r < O .N → v 
     where
       back : (k b : ℕ) → b < p → (p - position O r) % p ≡ k → iter τ k r ≡ leader O r
       back k b l e =
-          ap (λ m. iter τ m r) (sym e) ∙ Rattle.numbers.proofs.Orbits.iter-mod O (p - position O r) r h
+          ap (λ m. iter τ m r) (sym e) ∙ iter-mod O (p - position O r) r h
           ∙ ap (iter τ (p - position O r)) (sym (position-back O r h)) ∙ iter-add τ (position O r) (p - position O r) (leader O r)
           ∙ ap (λ m. iter τ m (leader O r)) (omega (arith, position-below O r h)) ∙ home (leader O r) (leader-below O r h)
 
@@ -81,26 +80,26 @@ module _ (R : Rung) where
 
   -- the square of a representation that moves, and of one that does not
   v : ℕ → ℕ
-  v r = cond (Rattle.definitions.specs.Steps.fixed (P R) m i L r) 0 (square r)
+  v r = cond (Steps.fixed (P R) m i L r) 0 (square r)
 
   w : ℕ → ℕ
-  w r = cond (Rattle.definitions.specs.Steps.fixed (P R) m i L r) (square r) 0
+  w r = cond (Steps.fixed (P R) m i L r) (square r) 0
 
   v-fixed : (r : ℕ) → τ R r ≡ r → v r ≡ 0
   unfolding v
-  v-fixed r f = Rattle.clifford.proofs.Numbering.fixed-yes R r _ _ f
+  v-fixed r f = fixed-yes R r _ _ f
 
   v-moved : (r : ℕ) → ¬ (τ R r ≡ r) → v r ≡ square r
   unfolding v
-  v-moved r f = Rattle.clifford.proofs.Numbering.fixed-no R r _ _ f
+  v-moved r f = fixed-no R r _ _ f
 
   w-fixed : (r : ℕ) → τ R r ≡ r → w r ≡ square r
   unfolding w
-  w-fixed r f = Rattle.clifford.proofs.Numbering.fixed-yes R r _ _ f
+  w-fixed r f = fixed-yes R r _ _ f
 
   w-moved : (r : ℕ) → ¬ (τ R r ≡ r) → w r ≡ 0
   unfolding w
-  w-moved r f = Rattle.clifford.proofs.Numbering.fixed-no R r _ _ f
+  w-moved r f = fixed-no R r _ _ f
 
   v-along : (k r : ℕ) → r < N R → v (iter (τ R) k r) ≡ v r
   unfolding square

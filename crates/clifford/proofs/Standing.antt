@@ -5,6 +5,7 @@
 --   standing             every level of the steps does
 --   restricts            every representation of a level above 0 is cut into blocks of the level below
 --   order-split          the order of a level and its prime divide the order of the group
+--   setting              an accepted presentation, modulo its order
 use mathlib.Core.Path.{_≡_, refl, sym, _∙_, ap, ap₂, subst}
 use mathlib.Core.HLevel.{Unit-prop}
 use Prim.Native.Nat.{ℕ, zero, suc, _+_, _*_, _-_, _≤_, _<_}
@@ -20,6 +21,7 @@ use Rattle.numbers.proofs.Prime.{Units}
 use Rattle.group.specs.Context.{Context, Nf}
 use Rattle.group.proofs.Level.{level, conjNf, genNf}
 use Rattle.group.proofs.Group.{Tested}
+use Rattle.group.proofs.Order.{order-positive}
 use Rattle.monomial.specs.Maps.{Map, maps}
 use Rattle.monomial.specs.Families.{Family}
 use Rattle.monomial.specs.Frames.{Frame, Complete, Shows}
@@ -27,6 +29,7 @@ use Rattle.monomial.proofs.Maps.{maps-laws}
 use Rattle.monomial.proofs.Residues.{residues}
 use Rattle.monomial.proofs.Frames.{shows-one}
 use Rattle.clifford.specs.Stands.{frame, Stands, Restricts, Rung}
+use Rattle.clifford.specs.Accepted.{Accepted}
 use Rattle.clifford.proofs.Indices.{Index}
 use Rattle.clifford.proofs.Next.{family}
 use Rattle.clifford.proofs.Climb.{next-stands, next-restricts}
@@ -62,7 +65,7 @@ module _ (G : Setting) where
     rep = λ a. 0;
     target = λ j r. repOf levelZero r .ref j 0;
     inside = λ x a. refl;
-    leads = λ j a b x. zero-ref j;
+    maps-to = λ j a b x. zero-ref j;
     reached = λ a b q. (level (T .context) 0 .one, Unit-prop _ _);
     separated = λ a b ne. absurd (ne (Unit-prop a b));
   }
@@ -159,3 +162,17 @@ order-split P (suc n) i l = go (λ h. order-split P n i h) (decLt i n)
     go : (i < n → (r : ℕ) × (order P n ≡ P .p i * (order P i * r))) → Dec (i < n) → (r : ℕ) × (P .p n * order P n ≡ P .p i * (order P i * r))
     go rec (yes h) = let (r, q) = rec h in (P .p n * r, ap (λ x. P .p n * x) q ∙ omega arith)
     go rec (no h) = let e : n ≡ i = omega arith in (1, ap (λ x. P .p x * order P x) e ∙ omega arith)
+
+pub order-splits : (A : Accepted) (j : ℕ) → j < A .C .P .n
+    → (share : ℕ) × (spare : ℕ) × (order (A .C .P) (A .C .P .n) ≡ A .C .P .p j * share) × (share ≡ order (A .C .P) j * spare)
+order-splits A j l = let (r, q) = order-split (A .C .P) (A .C .P .n) j l in (order (A .C .P) j * r, r, q, refl)
+
+-- an accepted presentation, modulo its order
+abbrev pub setting : Accepted → Setting
+setting A = record {
+  T = record { context = A .C; n = A .C .P .n; tests = A .tests };
+  m = order (A .C .P) (A .C .P .n);
+  pos = order-positive (A .C) (A .C .P .n);
+  units = A .units;
+  splits = order-splits A;
+}

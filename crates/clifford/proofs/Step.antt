@@ -1,4 +1,4 @@
--- One step up the chief series: basis indices above those of the level below, told apart by the number of the extension,
+-- One step up the chief series: basis indices above those of the level below, distinguished by the number of the extension,
 -- are a family of the next level as soon as its matrices and intertwiners are those of the level below, times scalars
 -- that close.
 --
@@ -23,8 +23,8 @@ use Rattle.monomial.proofs.Maps.{pair, column, at-mul, mul-at, maps-laws, power
 use Rattle.monomial.proofs.Over.{over-one, over-mul, at-same, over-same}
 use Rattle.monomial.proofs.Schur.{rep-power}
 use Rattle.clifford.specs.Extension.{Extension}
-use Rattle.clifford.proofs.Defect.{defect, X-leads}
-use Rattle.clifford.proofs.Top.{Normed, Y, Y-at, Y-leads, raised, raised-hom, raised-low, raised-top, raised-leads, φ, φ-is, φ-leads, q, q-eq}
+use Rattle.clifford.proofs.Defect.{defect, X-maps}
+use Rattle.clifford.proofs.Top.{Normed, Y, Y-at, Y-maps, raised, raised-hom, raised-low, raised-top, raised-maps, φ, φ-is, φ-maps, q, q-eq}
 
 module _ {G G⁺ : Type 0} {𝓖 : Mul G} {𝓖⁺ : Mul G⁺} {conj : ℕ → G → G} {conj⁺ : ℕ → G⁺ → G⁺} {i n : ℕ} (S : Extension 𝓖 𝓖⁺ conj conj⁺ i n)
     {E : Type 0} {𝓔 : Exponents E} {Ω : Type 0} (F : Family 𝓔 Ω 𝓖 conj i n) (𝓢 : Normed S F) where
@@ -92,7 +92,7 @@ module _ {G G⁺ : Type 0} {𝓖 : Mul G} {𝓖⁺ : Mul G⁺} {conj : ℕ → G
       at = At 𝓔 base number
 
       -- c j r is the scalar of the intertwiner of generator j on representation r, and ν j r κ the number of the
-      -- extension to which it leads the extension of number κ; j is above i
+      -- extension to which it maps the extension of number κ; j is above i
       pub record Step : Type 0 where
         pub c : (j : ℕ) → i < j → j < n → ℕ → E
         pub ν : (j : ℕ) → i < j → j < n → ℕ → ℕ → ℕ
@@ -107,7 +107,7 @@ module _ {G G⁺ : Type 0} {𝓖 : Mul G} {𝓖⁺ : Mul G⁺} {conj : ℕ → G
         pub closes : (j : ℕ) (ij : i < j) (jn : j < n) (x : Ω′)
             → add (q S F 𝓢 j ij jn (base x)) (add (times 𝓔 (shift j) (times 𝓔 (number x) (R .ε))) (c j ij jn (iter τ (shift j) (rep (base x)))))
             ≡ add (c j ij jn (rep (base x))) (times 𝓔 (ν j ij jn (rep (base x)) (number x)) (R .ε))
-        pub leads : (j : ℕ) → suc i ≤ j → j < n → (x : Ω′) → rep′ ((X′ j x) .0) ≡ target′ j (rep′ x)
+        pub maps-to : (j : ℕ) → suc i ≤ j → j < n → (x : Ω′) → rep′ ((X′ j x) .0) ≡ target′ j (rep′ x)
         -- two basis indices are of one representation exactly if their numbers are equal and their bases in one orbit
         pub one-orbit : (x y : Ω′) → rep′ x ≡ rep′ y → (number x ≡ number y) × ((k : ℕ) × (iter τ k (rep (base x)) ≡ rep (base y)))
         pub one-rep : (x y : Ω′) → number x ≡ number y → (k : ℕ) → iter τ k (rep (base x)) ≡ rep (base y) → rep′ x ≡ rep′ y
@@ -206,7 +206,7 @@ module _ {G G⁺ : Type 0} {𝓖 : Mul G} {𝓖⁺ : Mul G⁺} {conj : ℕ → G
                   let y = N .up j ij jn ((B′ x) .0) in
                   let z = N .up j ij jn x in
                   let v = over-top ((X′ j x) .0) in
-                  let rb : rep (base ((B′ x) .0)) ≡ iter τ (shift j) (rep a) = ap rep (b .is-base) ∙ φ-leads S F 𝓢 j ij jn a in
+                  let rb : rep (base ((B′ x) .0)) ≡ iter τ (shift j) (rep a) = ap rep (b .is-base) ∙ φ-maps S F 𝓢 j ij jn a in
                   λ o. (
                     N .injective ((X′ j ((B′ x) .0)) .0) ((d′ top ((X′ j x) .0)) .0)
                         (y .is-base ∙ ap (λ s. (X j s) .0) (b .is-base) ∙ ap (λ s. s .0) (two a) ∙ sym (v .is-base ∙ ap (λ s. (X i s) .0) (z .is-base)))
@@ -241,14 +241,14 @@ module _ {G G⁺ : Type 0} {𝓖 : Mul G} {𝓖⁺ : Mul G⁺} {conj : ℕ → G
         pub inside′ : (w : G⁺) (x : Ω′) → rep′ ((d′ w x) .0) ≡ rep′ x
         inside′ w x =
             let o = N .over w x in
-            sym (N .one-rep x ((d′ w x) .0) (sym (o .is-number)) (exponent w) (sym (ap rep (o .is-base) ∙ raised-leads S F (numbered (number x)) w (base x))))
+            sym (N .one-rep x ((d′ w x) .0) (sym (o .is-number)) (exponent w) (sym (ap rep (o .is-base) ∙ raised-maps S F (numbered (number x)) w (base x))))
 
         pub reached′ : (x y : Ω′) → rep′ x ≡ rep′ y → (w : G⁺) × ((d′ w x) .0 ≡ y)
         reached′ x y h =
             let (k, (m, r)) = N .one-orbit x y h in
             let 𝓨 = numbered (number x) in
             let Z : Map 𝓔 Ω = pow (Y S F 𝓨) m in
-            let (w, e) = F .reached ((Z (base x)) .0) (base y) (rep-power F τ (Y S F 𝓨) (Y-leads S F 𝓨) m (base x) ∙ r) in
+            let (w, e) = F .reached ((Z (base x)) .0) (base y) (rep-power F τ (Y S F 𝓨) (Y-maps S F 𝓨) m (base x) ∙ r) in
             let v : G⁺ = 𝓖⁺ .mul (low w) (power 𝓖⁺ top m) in
             let line : raised S F 𝓨 v ≡ d w * Z = raised-hom S F 𝓨 .on-mul _ _
             ∙ ap₂ (_*_) (raised-low S F 𝓨 w) (power-hom (raised-hom S F 𝓨) top m ∙ ap (λ s. pow s m) (raised-top S F 𝓨)) in
@@ -267,7 +267,7 @@ module _ {G G⁺ : Type 0} {𝓖 : Mul G} {𝓖⁺ : Mul G⁺} {conj : ℕ → G
         -- two extensions of one representation, at one basis index
         separated-number : (x y : Ω′) → base x ≡ base y → ¬ (number x ≡ number y) → τ (rep (base x)) ≡ rep (base x) → Separated 𝓔 Ω′ d′ x y
         separated-number x y eb en fx =
-            let (w, e) = F .reached ((X i (base x)) .0) (base x) (X-leads S F (base x) ∙ fx) in
+            let (w, e) = F .reached ((X i (base x)) .0) (base x) (X-maps S F (base x) ∙ fx) in
             let v : G⁺ = 𝓖⁺ .mul (low w) top in
             let s : E = add ((d w ((X i (base x)) .0)) .1) (add ((X i (base x)) .1) (σ (rep (base x)))) in
             record {
@@ -306,7 +306,7 @@ module _ {G G⁺ : Type 0} {𝓖 : Mul G} {𝓖⁺ : Mul G⁺} {conj : ℕ → G
           rep = rep′;
           target = target′;
           inside = inside′;
-          leads = N .leads;
+          maps-to = N .maps-to;
           reached = reached′;
           separated = separated′;
         }

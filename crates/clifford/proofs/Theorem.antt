@@ -1,7 +1,8 @@
 -- The table of the Baum-Clausen steps passes the judgement, for every presentation that is not refused.
 --
---   table-passes         over a tested context
---   built-passes         for the relations of a text that refusals 11, 12, 14 and 15 let pass
+--   table-passes         for an accepted presentation
+--   accepted             relations of a text that refusals 11, 12, 14 and 15 let pass are accepted
+--   built-passes         and their table passes
 use mathlib.Core.Path.{_≡_, refl, sym, _∙_, ap, ap₂, subst}
 use mathlib.Core.Bool.{Bool, true, false, _&&_, not, cond}
 use mathlib.Core.List.{List, [], _∷_, map}
@@ -32,7 +33,8 @@ use Rattle.group.proofs.Context.{context, accept}
 use Rattle.monomial.specs.Families.{Family}
 use Rattle.monomial.proofs.Residues.{residues}
 use Rattle.clifford.specs.Stands.{Stands, Restricts}
-use Rattle.clifford.proofs.Standing.{Setting, Standing, standing, restricts, order-split}
+use Rattle.clifford.specs.Accepted.{Accepted}
+use Rattle.clifford.proofs.Standing.{Setting, Standing, standing, restricts, setting}
 use Rattle.clifford.proofs.Lines.{Written, Agrees, table, table-length, read-back}
 use Rattle.clifford.proofs.Agreement.{agree-stands, agree-restricts, agree-words}
 use Rattle.clifford.proofs.Judged.{relations-hold, intertwiners-hold, separates-hold, squares-hold, valid-holds, listed-holds}
@@ -62,24 +64,23 @@ zero-agrees n = record {
     one : (r g : ℕ) → r < length levelZero → length (repOf levelZero r .matrix g) ≡ repOf levelZero r .deg
     one r g l = let z : 0 ≡ r = omega (arith, count) in subst (λ r. length (repOf levelZero r .matrix g) ≡ repOf levelZero r .deg) z (here g)
 
-module _ (C : Context) (tests : (k : ℕ) → k < C .P .n → Test C k) (units : (j : ℕ) → j < C .P .n → Units (C .P .p j)) (positive : 0 < C .P .n) where
+module _ (A : Accepted) where
+  open Accepted A using (C, tests, positive)
+
   abbrev P : Presentation
-  P = C .P
+  P = A .C .P
 
   abbrev n : ℕ
-  n = C .P .n
+  n = A .C .P .n
 
   abbrev m : ℕ
   m = order P n
 
   abbrev pos : 0 < m
-  pos = order-positive C n
-
-  splits : (j : ℕ) → j < n → (share : ℕ) × (spare : ℕ) × (m ≡ P .p j * share) × (share ≡ order P j * spare)
-  splits j l = let (r, q) = order-split P n j l in (order P j * r, r, q, refl)
+  pos = order-positive (A .C) n
 
   abbrev G : Setting
-  G = record { T = record { context = C; n = C .P .n; tests = tests }; m = m; pos = pos; units = units; splits = splits }
+  G = setting A
 
   abbrev W : Written
   W = record { n = n; positive = positive; L = λ k. levels P m (suc k); degree-pos = λ k r l h. standing G (suc k) l .stands .degree-pos r h }
@@ -158,7 +159,7 @@ module _ (C : Context) (tests : (k : ℕ) → k < C .P .n → Test C k) (units :
 
   -- ---- The judgement
 
-  pub table-passes : judgement (C .P) (tableOf (C .P)) ≡ 0
+  pub table-passes : judgement (A .C .P) (tableOf (A .C .P)) ≡ 0
   unfolding judgement firstOf
   table-passes =
       ap (judgement P) table-is
@@ -181,6 +182,13 @@ module _ (R : Relations) (formed : wellFormed R ≡ true) (primes : someNotPrime
   unfolding wellFormed presentation
   some-generator = leb-true 1 (R .n) (and-left (leb 1 (R .n)) _ (and-left _ _ (and-left _ _ formed)))
 
-  pub built-passes : judgement (presentation R) (tableOf (presentation R)) ≡ 0
+  pub accepted : Accepted
   unfolding context
-  built-passes = table-passes (context R formed primes used) tests units some-generator
+  accepted = record { C = context R formed primes used; tests = tests; units = units; positive = some-generator }
+
+  pub accepted-is : accepted .C .P ≡ presentation R
+  unfolding accepted context
+  accepted-is = refl
+
+  pub built-passes : judgement (presentation R) (tableOf (presentation R)) ≡ 0
+  built-passes = subst (λ P. judgement P (tableOf P) ≡ 0) accepted-is (table-passes accepted)

@@ -2,9 +2,9 @@
 -- and inductions alike; and how the intertwiners of the generators above move past it.
 --
 --   Normed                                      scalars that undo the defect around each orbit
---   Y, Y-at, Y-past, Y-power, Y-leads           the new matrix and its p-th power, the image of u
---   raised, raised-hom, raised-low, raised-top, raised-leads      the representation of the extension
---   φ, φ-is, φ-past, φ-power, φ-leads           the image of the conjugate of generator i by generator j
+--   Y, Y-at, Y-past, Y-power, Y-maps           the new matrix and its p-th power, the image of u
+--   raised, raised-hom, raised-low, raised-top, raised-maps      the representation of the extension
+--   φ, φ-is, φ-past, φ-power, φ-maps           the image of the conjugate of generator i by generator j
 --   q, q-eq, q-const                            X_j φ = q · Y X_j
 --   around                                      the scalars q along φ, p times, cancel
 --   swap, fixed-stays, fixed-back               how the permutations of the representations commute
@@ -23,7 +23,7 @@ use Rattle.monomial.proofs.Exponents.{idr, lcomm, cancel, total-zero, total-suc
 use Rattle.monomial.proofs.Maps.{pair, column, at-mul, mul-at, maps-laws, inverse-mul, power-diagonal}
 use Rattle.monomial.proofs.Schur.{intertwiner-inverse, ratio, ratio-eq, ratio-const, rep-power, scalar-commutes}
 use Rattle.clifford.specs.Extension.{Extension}
-use Rattle.clifford.proofs.Defect.{defect, defect-eq, X-inverse, X-past, X-leads, target-period}
+use Rattle.clifford.proofs.Defect.{defect, defect-eq, X-inverse, X-past, X-maps, target-period}
 
 module _ {G G⁺ : Type 0} {𝓖 : Mul G} {𝓖⁺ : Mul G⁺} {conj : ℕ → G → G} {conj⁺ : ℕ → G⁺ → G⁺} {i n : ℕ} (S : Extension 𝓖 𝓖⁺ conj conj⁺ i n)
     {E : Type 0} {𝓔 : Exponents E} {Ω : Type 0} (F : Family 𝓔 Ω 𝓖 conj i n) where
@@ -71,10 +71,10 @@ module _ {G G⁺ : Type 0} {𝓖 : Mul G} {𝓖⁺ : Mul G⁺} {conj : ℕ → G
         undone : (a : Ω) → add (total 𝓔 (λ l. σ (rep ((pow (X i) l a) .0))) p) (add (defect S F a) ((d u a) .1)) ≡ (d u a) .1
         undone a =
             sym (𝓔 .assoc _ _ _)
-            ∙ ap (λ s. add s ((d u a) .1)) (ap (λ s. add s (defect S F a)) (total-ext 𝓔 _ _ p (λ k h. ap σ (rep-power F τ (X i) (X-leads S F) k a))) ∙ 𝓢 .norm a) ∙ 𝓔 .idl _
+            ∙ ap (λ s. add s ((d u a) .1)) (ap (λ s. add s (defect S F a)) (total-ext 𝓔 _ _ p (λ k h. ap σ (rep-power F τ (X i) (X-maps S F) k a))) ∙ 𝓢 .norm a) ∙ 𝓔 .idl _
 
-    pub Y-leads : (a : Ω) → rep ((Y a) .0) ≡ τ (rep a)
-    Y-leads a = ap (λ s. rep (s .0)) (Y-at a) ∙ X-leads S F a
+    pub Y-maps : (a : Ω) → rep ((Y a) .0) ≡ τ (rep a)
+    Y-maps a = ap (λ s. rep (s .0)) (Y-at a) ∙ X-maps S F a
 
     -- ---- The representation of the extension
 
@@ -93,9 +93,9 @@ module _ {G G⁺ : Type 0} {𝓖 : Mul G} {𝓖⁺ : Mul G⁺} {conj : ℕ → G
     unfolding raised
     raised-top = ap₂ (λ k y. pow Y k * d y) (S .exponent-top) (S .rest-top) ∙ ap₂ (_*_) (power-one (maps-laws 𝓔) Y) (F .hom .on-one) ∙ idrM _
 
-    pub raised-leads : (x : G⁺) (a : Ω) → rep ((raised x a) .0) ≡ iter τ (exponent x) (rep a)
+    pub raised-maps : (x : G⁺) (a : Ω) → rep ((raised x a) .0) ≡ iter τ (exponent x) (rep a)
     unfolding raised
-    raised-leads x a = ap (λ s. rep (s .0)) (at-mul 𝓔 (pow Y (exponent x)) (d (rest x)) a) ∙ rep-power F τ Y Y-leads (exponent x) _ ∙ ap (iter τ (exponent x)) (F .inside (rest x) a)
+    raised-maps x a = ap (λ s. rep (s .0)) (at-mul 𝓔 (pow Y (exponent x)) (d (rest x)) a) ∙ rep-power F τ Y Y-maps (exponent x) _ ∙ ap (iter τ (exponent x)) (F .inside (rest x) a)
 
     -- ---- A generator above
 
@@ -126,16 +126,16 @@ module _ {G G⁺ : Type 0} {𝓖 : Mul G} {𝓖⁺ : Mul G⁺} {conj : ℕ → G
           ap raised (S .conj-top j ij jn) ∙ raised-hom .on-mul _ _
           ∙ ap₂ (_*_) (power-hom raised-hom top (shift j) ∙ ap (λ s. pow s (shift j)) raised-top) (raised-low (tail j))
 
-      pub φ-leads : (a : Ω) → rep ((φ a) .0) ≡ iter τ (shift j) (rep a)
-      φ-leads a =
+      pub φ-maps : (a : Ω) → rep ((φ a) .0) ≡ iter τ (shift j) (rep a)
+      φ-maps a =
           ap (λ s. rep (s .0)) (column 𝓔 φ-is a ∙ at-mul 𝓔 (pow Y (shift j)) (d (tail j)) a)
-          ∙ rep-power F τ Y Y-leads (shift j) _ ∙ ap (iter τ (shift j)) (F .inside (tail j) a)
+          ∙ rep-power F τ Y Y-maps (shift j) _ ∙ ap (iter τ (shift j)) (F .inside (tail j) a)
 
       abbrev Xj-past : (x : G) → X j * d (conj j x) ≡ d x * X j
       Xj-past = F .past j (omega arith) jn
 
-      abbrev Xj-leads : (a : Ω) → rep ((X j a) .0) ≡ target j (rep a)
-      Xj-leads = F .leads j (omega arith) jn
+      abbrev Xj-maps : (a : Ω) → rep ((X j a) .0) ≡ target j (rep a)
+      Xj-maps = F .maps-to j (omega arith) jn
 
       alike : Alike 𝓔 Ω d (λ x. conj j (f x)) (X j * φ) (Y * X j)
       alike = record {
@@ -151,12 +151,12 @@ module _ {G G⁺ : Type 0} {𝓖 : Mul G} {𝓖⁺ : Mul G⁺} {conj : ℕ → G
       unfolding q
       q-eq = ratio-eq F alike
 
-      both-lead : (a : Ω) → rep (((Y * X j) a) .0) ≡ τ (target j (rep a))
-      both-lead a = ap (λ s. rep (s .0)) (at-mul 𝓔 Y (X j) a) ∙ Y-leads _ ∙ ap τ (Xj-leads a)
+      both-map : (a : Ω) → rep (((Y * X j) a) .0) ≡ τ (target j (rep a))
+      both-map a = ap (λ s. rep (s .0)) (at-mul 𝓔 Y (X j) a) ∙ Y-maps _ ∙ ap τ (Xj-maps a)
 
       pub q-const : (a b : Ω) → rep a ≡ rep b → q a ≡ q b
       unfolding q
-      q-const a b h = ratio-const F alike a b (both-lead a ∙ ap (λ r. τ (target j r)) h ∙ sym (both-lead b))
+      q-const a b h = ratio-const F alike a b (both-map a ∙ ap (λ r. τ (target j r)) h ∙ sym (both-map b))
 
       -- ---- Once around
 
@@ -187,13 +187,13 @@ module _ {G G⁺ : Type 0} {𝓖 : Mul G} {𝓖⁺ : Mul G⁺} {conj : ℕ → G
           whole : X j * pow φ p ≡ pow Y p * X j
           whole = ap (λ f. X j * f) φ-power ∙ Xj-past u ∙ ap (λ f. f * X j) (sym Y-power)
 
-      pub φ-power-leads : (k : ℕ) (a : Ω) → rep ((pow φ k a) .0) ≡ iter (iter τ (shift j)) k (rep a)
-      φ-power-leads k a = rep-power F (iter τ (shift j)) φ φ-leads k a
+      pub φ-power-maps : (k : ℕ) (a : Ω) → rep ((pow φ k a) .0) ≡ iter (iter τ (shift j)) k (rep a)
+      φ-power-maps k a = rep-power F (iter τ (shift j)) φ φ-maps k a
 
       -- ---- The permutations of the representations
 
       pub swap : (a : Ω) → target j (iter τ (shift j) (rep a)) ≡ τ (target j (rep a))
-      swap a = ap (target j) (sym (φ-leads a)) ∙ sym (Xj-leads _) ∙ ap (λ s. rep (s .0)) (sym (at-mul 𝓔 (X j) φ a) ∙ q-eq a) ∙ both-lead a
+      swap a = ap (target j) (sym (φ-maps a)) ∙ sym (Xj-maps _) ∙ ap (λ s. rep (s .0)) (sym (at-mul 𝓔 (X j) φ a) ∙ q-eq a) ∙ both-map a
 
       pub fixed-stays : (a : Ω) → τ (rep a) ≡ rep a → τ (target j (rep a)) ≡ target j (rep a)
       fixed-stays a h = sym (swap a) ∙ ap (target j) (iter-fix τ (rep a) h (shift j))
@@ -201,13 +201,13 @@ module _ {G G⁺ : Type 0} {𝓖 : Mul G} {𝓖⁺ : Mul G⁺} {conj : ℕ → G
       fixed-iter : (k : ℕ) (a : Ω) → τ (rep a) ≡ rep a → τ (iter (target j) k (rep a)) ≡ iter (target j) k (rep a)
       fixed-iter zero a h = subst (λ s. τ s ≡ s) (sym (iter-zero (target j) (rep a))) h
       fixed-iter (suc k) a h =
-          subst (λ s. τ s ≡ s) (sym (iter-suc (target j) k (rep a) ∙ ap (iter (target j) k) (sym (Xj-leads a))))
-          (fixed-iter k ((X j a) .0) (subst (λ s. τ s ≡ s) (sym (Xj-leads a)) (fixed-stays a h)))
+          subst (λ s. τ s ≡ s) (sym (iter-suc (target j) k (rep a) ∙ ap (iter (target j) k) (sym (Xj-maps a))))
+          (fixed-iter k ((X j a) .0) (subst (λ s. τ s ≡ s) (sym (Xj-maps a)) (fixed-stays a h)))
 
       pub fixed-back : (a : Ω) → τ (target j (rep a)) ≡ target j (rep a) → τ (rep a) ≡ rep a
       fixed-back a h =
           let N : ℕ = S .period j in
           let e : suc (N - 1) ≡ N = omega (arith, S .period-pos j) in
           let home : iter (target j) (N - 1) (rep ((X j a) .0)) ≡ rep a
-          = ap (iter (target j) (N - 1)) (Xj-leads a) ∙ sym (iter-suc (target j) (N - 1) (rep a)) ∙ ap (λ k. iter (target j) k (rep a)) e ∙ target-period S F j (omega arith) jn a in
-          subst (λ s. τ s ≡ s) home (fixed-iter (N - 1) ((X j a) .0) (subst (λ s. τ s ≡ s) (sym (Xj-leads a)) h))
+          = ap (iter (target j) (N - 1)) (Xj-maps a) ∙ sym (iter-suc (target j) (N - 1) (rep a)) ∙ ap (λ k. iter (target j) k (rep a)) e ∙ target-period S F j (omega arith) jn a in
+          subst (λ s. τ s ≡ s) home (fixed-iter (N - 1) ((X j a) .0) (subst (λ s. τ s ≡ s) (sym (Xj-maps a)) h))

@@ -30,6 +30,7 @@ pub record Extension {G G⁺ : Type 0} (𝓖 : Mul G) (𝓖⁺ : Mul G⁺) (conj
   pub inner : (x : G) → 𝓖 .mul u (iter (conj i) p x) ≡ 𝓖 .mul x u
   -- the extension: its elements are powers of generator i times elements of the group
   pub low : G → G⁺
+  pub low-hom : Hom 𝓖 𝓖⁺ low
   pub top : G⁺
   pub exponent : G⁺ → ℕ
   pub rest : G⁺ → G

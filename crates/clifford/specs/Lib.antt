@@ -1,3 +1,4 @@
 -- What one step up the chief series needs.
 pub mod Extension
 pub mod Stands
+pub mod Accepted

@@ -4,6 +4,7 @@
 --   shows-scale                                         a scalar multiple shows a map with a scalar behind it
 --   shows-inverse                                       the inverse shows the inverse map
 --   shows-map, shows-on                                 one matrix shows equal maps
+--   shown-unique                                        a map is shown by one matrix
 --   same-shown, shown-same                              equal maps exactly where the matrices pass as equal
 --   shows-valid                                         what shows a map with an inverse is valid
 use mathlib.Core.Path.{_≡_, refl, sym, _∙_, ap, ap₂, subst}
@@ -14,6 +15,7 @@ use native.Mathlib.Nat.{mod-eq-of-lt, mod-mod, add-mod-mod, zero-add}
 use native.Mathlib.Omega.{arith}
 use lib.Dec.{eqb, ltb}
 use lib.ListN.{length, getD, length-map}
+use lib.Seq.{ext-getD}
 use borrow.Author.Tests.{eqb-true, eq-eqb, lt-ltb}
 use Rattle.definitions.specs.declared.Entry.{Entry}
 use Rattle.definitions.specs.Lists.{upto, allBelow, anyBelow, least}
@@ -64,7 +66,7 @@ module _ (m : ℕ) (pos : 0 < m) {Ω : Type 0} (Φ : Frame Ω) where
   unfolding identity maps residues
   shows-one r = record {
     size = length-table (λ k. entry k 0) (degree r);
-    leads = λ a q. q;
+    maps-to = λ a q. q;
     shown = λ a q. col-table (λ k. entry k 0) (degree r) (at a) (subst (λ s. at a < s) (ap degree q) (column-below a));
   }
 
@@ -72,11 +74,11 @@ module _ (m : ℕ) (pos : 0 < m) {Ω : Type 0} (Φ : Frame Ω) where
   unfolding product act maps compose residues
   shows-mul {r} {s} {t} {M} {N} {A} {B} p q = record {
     size = length-map N (act m M) ∙ q .size;
-    leads = λ a e. p .leads ((B a) .0) (q .leads a e);
+    maps-to = λ a e. p .maps-to ((B a) .0) (q .maps-to a e);
     shown = λ a e.
         col-map (act m M) N (at a) (below N a (q .size) e)
         ∙ ap (λ (x : Entry). entry (col M (x .row) .row) ((col M (x .row) .exp + x .exp) % m)) (q .shown a e)
-        ∙ ap (λ (x : Entry). entry (x .row) ((x .exp + (B a) .1 .0) % m)) (p .shown ((B a) .0) (q .leads a e));
+        ∙ ap (λ (x : Entry). entry (x .row) ((x .exp + (B a) .1 .0) % m)) (p .shown ((B a) .0) (q .maps-to a e));
   }
 
   module _ {r d : ℕ} (is : Φ .degree r ≡ d) where
@@ -101,7 +103,7 @@ module _ (m : ℕ) (pos : 0 < m) {Ω : Type 0} (Φ : Frame Ω) where
   pub shows-on : {r s : ℕ} {M : Matrix} {A B : Map (residues m pos) Ω} → Shows m Φ r s M A → ((a : Ω) → Φ .rep a ≡ r → A a ≡ B a) → Shows m Φ r s M B
   shows-on p h = record {
     size = p .size;
-    leads = λ a e. ap (λ z. rep (z .0)) (sym (h a e)) ∙ p .leads a e;
+    maps-to = λ a e. ap (λ z. rep (z .0)) (sym (h a e)) ∙ p .maps-to a e;
     shown = λ a e. p .shown a e ∙ ap (λ z. entry (at (z .0)) (z .1 .0)) (h a e);
   }
 
@@ -111,7 +113,7 @@ module _ (m : ℕ) (pos : 0 < m) {Ω : Type 0} (Φ : Frame Ω) where
   unfolding scale
   shows-scale {r} {s} {M} {A} {B} c p h = record {
     size = length-map M _ ∙ p .size;
-    leads = λ a e. ap rep (h a e .0) ∙ p .leads a e;
+    maps-to = λ a e. ap rep (h a e .0) ∙ p .maps-to a e;
     shown = λ a e.
         col-map (λ (x : Entry). entry (x .row) ((x .exp + c) % m)) M (at a) (below M a (p .size) e)
         ∙ ap (λ (x : Entry). entry (x .row) ((x .exp + c) % m)) (p .shown a e)
@@ -139,6 +141,13 @@ module _ (m : ℕ) (pos : 0 < m) {Ω : Type 0} (Φ : Frame Ω) where
         let same : col M k ≡ col M′ k = g ∙ sym (ap (col M′) (sym f) ∙ q .shown a e) in
         and-intro _ _ (eq-eqb _ _ (ap (λ (x : Entry). x .row) same)) (eq-eqb _ _ (ap (λ (x : Entry). x .exp % m) same))))
 
+    -- a map on a representation is shown by one matrix
+    pub shown-unique : {r s s′ : ℕ} {M M′ : Matrix} {A : Map (residues m pos) Ω} → r < N → Shows m Φ r s M A → Shows m Φ r s′ M′ A → M ≡ M′
+    unfolding col
+    shown-unique {r} {s} {s′} {M} {M′} {A} h p q = ext-getD (entry 0 0) M M′ (p .size ∙ sym (q .size)) (λ k l.
+        let (a, e, f, g) = shown-at h p k l in
+        g ∙ sym (ap (col M′) (sym f) ∙ q .shown a e))
+
     -- the matrices pass as equal: the maps agree on the representation
     pub shown-same : {r s : ℕ} {M M′ : Matrix} {A B : Map (residues m pos) Ω} → Shows m Φ r s M A → Shows m Φ r s M′ B → sameMatrix m M M′ ≡ true → (a : Ω) → Φ .rep a ≡ r → A a ≡ B a
     unfolding sameMatrix sameEntry
@@ -148,7 +157,7 @@ module _ (m : ℕ) (pos : 0 < m) {Ω : Type 0} (Φ : Frame Ω) where
         let rows : col M (at a) .row ≡ col M′ (at a) .row = eqb-true _ _ (and-left (eqb (col M (at a) .row) (col M′ (at a) .row)) _ x) in
         let exps : col M (at a) .exp % m ≡ col M′ (at a) .exp % m = eqb-true _ _ (and-right (eqb (col M (at a) .row) (col M′ (at a) .row)) _ x) in
         λ o. (
-          known ((A a) .0) ((B a) .0) (p .leads a e ∙ sym (q .leads a e)) (ap (λ (x : Entry). x .row) (sym (p .shown a e)) ∙ rows ∙ ap (λ (x : Entry). x .row) (q .shown a e)) o,
+          known ((A a) .0) ((B a) .0) (p .maps-to a e ∙ sym (q .maps-to a e)) (ap (λ (x : Entry). x .row) (sym (p .shown a e)) ∙ rows ∙ ap (λ (x : Entry). x .row) (q .shown a e)) o,
           Residue-path m ((A a) .1) ((B a) .1)
               (sym (mod-eq-of-lt ((A a) .1 .1)) ∙ ap (λ (x : Entry). x .exp % m) (sym (p .shown a e)) ∙ exps ∙ ap (λ (x : Entry). x .exp % m) (q .shown a e) ∙ mod-eq-of-lt ((B a) .1 .1)) o,
         )
@@ -171,7 +180,7 @@ module _ (m : ℕ) (pos : 0 < m) {Ω : Type 0} (Φ : Frame Ω) where
       unfolding inverse
       shows-inverse e back = record {
         size = length-table _ (length M) ∙ p .size ∙ sym e;
-        leads = back;
+        maps-to = back;
         shown = λ b q.
             let a : Ω = (W .to b) .0 in
             let l : at b < length M = below M b (p .size ∙ sym e) q in
@@ -188,7 +197,7 @@ module _ (m : ℕ) (pos : 0 < m) {Ω : Type 0} (Φ : Frame Ω) where
               (eq-eqb _ _ (ap (λ (x : Entry). x .row) (p .shown a (back b q)) ∙ ap at (there b .0)))
               (λ k l x.
               let (a′, e₁, e₂, e₃) = shown-at h p k l in
-              let same : (A a′) .0 ≡ b = known ((A a′) .0) b (p .leads a′ e₁ ∙ sym q) (ap (λ (x : Entry). x .row) (sym e₃) ∙ eqb-true _ _ x) in
+              let same : (A a′) .0 ≡ b = known ((A a′) .0) b (p .maps-to a′ e₁ ∙ sym q) (ap (λ (x : Entry). x .row) (sym e₃) ∙ eqb-true _ _ x) in
               sym e₂ ∙ ap at (inverse-injective (residues m pos) A W a′ a (same ∙ sym (there b .0))))
 
       pub shows-valid : s < N → Φ .degree s ≡ Φ .degree r → ((b : Ω) → Φ .rep b ≡ s → Φ .rep ((W .to b) .0) ≡ r) → valid m (Φ .degree r) M ≡ true
@@ -198,7 +207,7 @@ module _ (m : ℕ) (pos : 0 < m) {Ω : Type 0} (Φ : Frame Ω) where
           (allBelow-intro (degree r) _ (λ k b.
           let (a, e₁, e₂, e₃) = shown-at h p k (subst (λ s. k < s) (sym (p .size)) b) in
           and-intro _ _
-          (lt-ltb _ _ (subst (λ (x : Entry). x .row < degree r) (sym e₃) (subst (λ d. at ((A a) .0) < d) (ap degree (p .leads a e₁) ∙ e) (column-below ((A a) .0)))))
+          (lt-ltb _ _ (subst (λ (x : Entry). x .row < degree r) (sym e₃) (subst (λ d. at ((A a) .0) < d) (ap degree (p .maps-to a e₁) ∙ e) (column-below ((A a) .0)))))
           (lt-ltb _ _ (subst (λ (x : Entry). x .exp < m) (sym e₃) ((A a) .1 .1))))))
           (allBelow-intro (degree r) _ (λ k b.
           let c : k < degree s = subst (λ d. k < d) (sym e) b in

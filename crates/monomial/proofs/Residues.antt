@@ -143,6 +143,10 @@ module _ (m : ℕ) (pos : 0 < m) where
     unfoldable pub log : Residue m → ℕ
     log q = q .0 / share
 
+    pub log-value : (q : Residue m) → log q ≡ q .0 / Q .share
+    unfolding log
+    log-value q = refl
+
     pub log-below : (q : Residue m) → log q < p
     unfolding log
     log-below q = div-lt-iff-lt-mul share-pos .1 (subst (λ s. q .0 < s) split (q .1))

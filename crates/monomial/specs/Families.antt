@@ -31,7 +31,7 @@ module _ {G : Type 0} {E : Type 0} (𝓔 : Exponents E) (Ω : Type 0) where
     pub rep : Ω → ℕ
     pub target : ℕ → ℕ → ℕ
     pub inside : (x : G) (a : Ω) → rep ((d x a) .0) ≡ rep a
-    pub leads : (j : ℕ) → i ≤ j → j < n → (a : Ω) → rep ((X j a) .0) ≡ target j (rep a)
+    pub maps-to : (j : ℕ) → i ≤ j → j < n → (a : Ω) → rep ((X j a) .0) ≡ target j (rep a)
     pub reached : (a b : Ω) → rep a ≡ rep b → (x : G) × ((d x a) .0 ≡ b)
     pub separated : (a b : Ω) → ¬ (a ≡ b) → Separated d a b
 

@@ -2,7 +2,7 @@
 --
 --   Frame Ω              the number of a basis index's representation, its column there, and degrees
 --   Complete Φ N         every column of every representation below N is a basis index, and just one
---   Shows m Φ r s M A    the list M of columns shows what the map A does on representation r, which it leads to s
+--   Shows m Φ r s M A    the list M of columns shows what the map A does on representation r, which it maps to s
 use mathlib.Core.Path.{_≡_}
 use Prim.Native.Nat.{ℕ, _<_}
 use lib.ListN.{length}
@@ -24,5 +24,5 @@ pub record Complete {Ω : Type 0} (Φ : Frame Ω) (N : ℕ) : Type 0 where
 
 pub record Shows {Ω : Type 0} (m : ℕ) (Φ : Frame Ω) (r s : ℕ) (M : Matrix) (A : Ω → Ω × Residue m) : Type 0 where
   pub size : length M ≡ Φ .degree r
-  pub leads : (a : Ω) → Φ .rep a ≡ r → Φ .rep ((A a) .0) ≡ s
+  pub maps-to : (a : Ω) → Φ .rep a ≡ r → Φ .rep ((A a) .0) ≡ s
   pub shown : (a : Ω) → Φ .rep a ≡ r → col M (Φ .column a) ≡ entry (Φ .column ((A a) .0)) ((A a) .1 .0)

@@ -1,8 +1,8 @@
--- Basis indices of one level above basis indices of the level below, told apart by a number: maps above a numbered
+-- Basis indices of one level above basis indices of the level below, distinguished by a number: maps above a numbered
 -- family of maps.
 --
 --   At z b κ s       the entry z lies above b with number κ, and has exponent s
---   Over A A′        A′ moves what lies above as A does, and keeps the number
+--   Over A A′        A′ moves what lies above as A does, and fixes the number
 use mathlib.Core.Path.{_≡_}
 use Prim.Native.Nat.{ℕ}
 use Rattle.monomial.specs.Exponents.{Exponents}

@@ -2,6 +2,7 @@
 --
 --   and-left, and-right, and-intro      a && b is true exactly if both are
 --   or-cases                            a || b is true: one of the two is
+--   or-left, or-right                   a || b is true if one of the two is
 --   or-false-left, or-false-right       a || b is false: both are
 --   cond-true, cond-false               a choice by a test that is known
 --   cond-lt, cond-ge, cond-eq, cond-ne  a choice by a comparison of numbers
@@ -31,6 +32,14 @@ pub data OneOf (a b : Bool) : Type 0 where
 pub or-cases : (a b : Bool) → a || b ≡ true → OneOf a b
 or-cases true b h = first refl
 or-cases false b h = second h
+
+pub or-left : (a b : Bool) → a ≡ true → a || b ≡ true
+or-left true b h = refl
+or-left false b h = absurd (false≢true h)
+
+pub or-right : (a b : Bool) → b ≡ true → a || b ≡ true
+or-right true b h = refl
+or-right false b h = h
 
 pub or-false-left : (a b : Bool) → a || b ≡ false → a ≡ false
 or-false-left true b h = h

@@ -7,3 +7,4 @@ pub mod Searches
 pub mod Orbits
 pub mod Sums
 pub mod Blocks
+pub mod Pigeonhole

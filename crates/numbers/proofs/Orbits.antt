@@ -6,7 +6,7 @@
 --   leader-below, leader-iter, leader-leader, leader-least, leader-fixed, leader-moved
 --   position-below, position-back, position-iter
 --   iter-below, iter-mod, iter-moved, moved-distinct      iterates count modulo p, and those of a moved number differ
---   Steps of length a, p not dividing a: paces a r is how many lead from the leader to r
+--   Steps of length a, p not dividing a: paces a r is how many there are from the leader to r
 --   paces-below, paces-position, paces-back, paces-next
 use mathlib.Core.Path.{_≡_, refl, sym, _∙_, ap, ap₂, subst}
 use mathlib.Core.Bool.{Bool, true}
@@ -63,7 +63,7 @@ module _ (O : Orbits) where
       let q : k / p * p + k % p ≡ k = omega (arith, mod-add-div' k p) in
       ap (iter τ (k % p)) (sym (iter-home (k / p) r h)) ∙ iter-add τ (k / p * p) (k % p) r ∙ ap (λ m. iter τ m r) q
 
-  -- an iterate that p does not divide and that leads back makes a fixed number
+  -- an iterate that p does not divide and that comes back makes a fixed number
   short-fixed : (k r : ℕ) → r < N → ¬ (p ∣ k) → iter τ k r ≡ r → τ r ≡ r
   short-fixed k r h nd q =
       let (k′, s, e) = O .units k nd in

@@ -9,16 +9,8 @@ use Prim.Native.Nat.{ℕ, zero, suc, _+_, _≤_, _<_}
 use native.Mathlib.Omega.{arith}
 use native.Mathlib.Decide.{decLt}
 use Rattle.definitions.specs.Lists.{anyBelow, leastFrom, least}
-use Rattle.numbers.proofs.Bools.{OneOf, first, second, or-cases, cond-true, cond-false}
+use Rattle.numbers.proofs.Bools.{OneOf, first, second, or-cases, or-left, or-right, cond-true, cond-false}
 use Rattle.numbers.proofs.Lists.{below-suc}
-
-or-right : (a b : Bool) → b ≡ true → a || b ≡ true
-or-right true b h = refl
-or-right false b h = h
-
-or-left : (a b : Bool) → a ≡ true → a || b ≡ true
-or-left true b h = refl
-or-left false b h = absurd (false≢true h)
 
 pub anyBelow-intro : (n : ℕ) (q : ℕ → Bool) (k : ℕ) → k < n → q k ≡ true → anyBelow n q ≡ true
 unfolding anyBelow

@@ -1,0 +1,104 @@
+-- The steps without searches and without inverses: what a builder computes instead.
+--
+--   less-back, less-over      differences modulo m
+--   l-formula          l is a quotient of one exponent, at column 0
+--   last-formula       the last block of an induction is an intertwiner times one scalar
+use mathlib.Core.Path.{_≡_, refl, sym, _∙_, ap, ap₂, subst}
+use Prim.Native.Nat.{ℕ, zero, suc, _+_, _*_, _-_, _/_, _%_, _≤_, _<_}
+use native.Mathlib.Nat.{add-mod-mod, div-eq-of-eq-mul-right}
+use native.Mathlib.Omega.{arith}
+use lib.ListN.{length}
+use Rattle.definitions.specs.declared.Entry.{Entry}
+use Rattle.definitions.specs.Lists.{iter}
+use Rattle.definitions.specs.Presentation.{Presentation, Mul, power}
+use Rattle.definitions.specs.Monomial.{Matrix, entry, col, less, product, scale, Rep, Level, repOf, image, conjugate}
+use Rattle.definitions.specs.Steps
+use Rattle.numbers.proofs.Orbits.{leader, position, iter-below, iter-moved}
+use Rattle.group.specs.Context.{Context}
+use Rattle.group.proofs.Level.{uNf}
+use Rattle.monomial.specs.Exponents.{Exponents, Residue}
+use Rattle.monomial.specs.Maps.{Map, maps}
+use Rattle.monomial.specs.Frames.{Frame, Shows}
+use Rattle.monomial.proofs.Exponents.{cancel, neg-of, lcomm}
+use Rattle.monomial.proofs.Maps.{pair}
+use Rattle.monomial.proofs.Residues.{residues, add-value, less-value, log-value}
+use Rattle.monomial.proofs.Frames.{shows-scale, shown-unique}
+use Rattle.monomial.proofs.Schur.{rep-power}
+use Rattle.clifford.specs.Stands.{frame, Stands, Rung}
+use Rattle.clifford.proofs.Numbering.{P, p, N, deg, rep, τ, S, ready, O, orbit-same}
+use Rattle.clifford.proofs.Defect.{defect, defect-eq, defect-const, defect-power, X-maps}
+use Rattle.clifford.proofs.Top.{Y, Y-at, q, q-eq, φ}
+use Rattle.clifford.proofs.Scalars.{parts, q̂, σ, σ-last}
+use Rattle.clifford.proofs.Extensions.{E, Φ, 𝓢, first, first-rep, first-shown, image-shows, l-is, left-shows, right-shows-zero}
+use Rattle.clifford.proofs.Inductions.{along-shows, last-shows, position-of}
+
+module _ (R : Rung) where
+  open Rung R using (T, m, pos, i, L, Ω, F, stands)
+  open Stands (R .stands) using (complete)
+  open Exponents (residues m pos) using (add, nil, neg)
+
+  -- x + y less y is x
+  pub less-back : (x y : Residue m) → less m ((add x y) .0) (y .0) ≡ x .0
+  less-back x y = less-value m pos (add x y) y ∙ ap (λ z. z .0) (E R .assoc x y (neg y) ∙ ap (add x) (E R .negr y) ∙ E R .comm _ _ ∙ E R .idl x)
+
+  -- x less y + x is the negative of y
+  pub less-over : (x y : Residue m) → less m (x .0) ((add y x) .0) ≡ (neg y) .0
+  less-over x y = less-value m pos x (add y x) ∙ ap (λ z. z .0) (neg-of (E R) y _ (sym (E R .assoc y x _) ∙ E R .negr (add y x)))
+
+  pub share-is : m / p R ≡ R .share
+  share-is = div-eq-of-eq-mul-right (omega (arith, T .context .two i)) (R .split)
+
+  -- ---- l
+
+  pub l-formula : (j : ℕ) → i < j → j < T .n → (r : ℕ) → r < N R → τ R r ≡ r
+      → Steps.l (P R) m i L j r
+      ≡ less m (col (product m (repOf L r .matrix j) (conjugate m (P R) (Steps.extensionBase (P R) m i L r 0) i j)) 0 .exp)
+      (col (product m (Steps.extended (P R) m i L (Steps.target (P R) m i L j r) 0) (repOf L r .matrix j)) 0 .exp) / (m / p R)
+  l-formula j ij jn r h f =
+      l-is R j ij jn r h f ∙ log-value m pos (parts (S R) m pos F (ready R)) _
+      ∙ ap₂ (_/_) (sym (ap₂ (less m) (first-shown R h (left-shows R j ij jn r h f) ∙ ap (λ z. z .1 .0) (q-eq (S R) F (𝓢 R) j ij jn (first R r))) (first-shown R h (right-shows-zero R j ij jn r h f)) ∙ less-back _ _ ∙ q-is)) (sym share-is)
+    where
+      q-is : (q (S R) F (𝓢 R) j ij jn (first R r)) .0 ≡ (q̂ (S R) m pos F (ready R) j ij jn r) .0
+      q-is = unfold q̂ in refl
+
+  -- ---- The last block
+
+  module _ (r : ℕ) (h : r < N R) (mv : ¬ (τ R r ≡ r)) (own : leader (O R) r ≡ r) where
+    -- the scalar that undoes the defect, from one column
+    pub defect-formula : less m (col (image m (repOf L r) i (P R .u i)) 0 .exp) (col (Steps.along (P R) m i L r (p R)) 0 .exp) ≡ (residues m pos .neg (defect (S R) F (first R r))) .0
+    unfolding uNf
+    defect-formula =
+        ap₂ (less m) (first-shown R h (image-shows R r h (uNf (T .context) i))) (first-shown R h (along-shows R r h mv own (p R)) ∙ ap (λ z. z .1 .0) (defect-eq (S R) F (first R r)))
+        ∙ less-over _ _
+
+    pub last-formula : Steps.lastBlock (P R) m i L r
+        ≡ scale m (less m (col (image m (repOf L r) i (P R .u i)) 0 .exp) (col (Steps.along (P R) m i L r (p R)) 0 .exp)) (repOf L (Steps.orbit (P R) m i L r (p R - 1)) .matrix i)
+    last-formula =
+        shown-unique m pos (Φ R) complete (iter-below (O R) e r h) (last-shows R r h mv own) scaled
+        ∙ ap (λ s. scale m k (repOf L s .matrix i)) (sym (orbit-same R r e))
+      where
+        e : ℕ
+        e = p R - 1
+
+        t : ℕ
+        t = iter (τ R) e r
+
+        k : ℕ
+        k = less m (col (image m (repOf L r) i (P R .u i)) 0 .exp) (col (Steps.along (P R) m i L r (p R)) 0 .exp)
+
+        -- along the orbit the defect is that of r
+        defect-here : (a : Ω) → rep R a ≡ t → defect (S R) F a ≡ defect (S R) F (first R r)
+        defect-here a q =
+            defect-const (S R) F a _ (q ∙ sym (rep-power F (τ R) (F .X i) (X-maps (S R) F) e (first R r) ∙ ap (iter (τ R) e) (first-rep R r h))) ∙ defect-power (S R) F e (first R r)
+
+        σ-here : (a : Ω) → rep R a ≡ t → σ (S R) m pos F (ready R) (rep R a) .0 ≡ k
+        σ-here a q =
+            ap (λ z. z .0) (σ-last (S R) m pos F (ready R) (rep R a) (λ f. iter-moved (O R) e r h mv (subst (λ s. τ R s ≡ s) q f))
+            (ap (position (O R)) q ∙ position-of R r h mv own e (omega (arith, T .context .two i)))
+            ∙ ap neg (defect-const (S R) F _ a (first-rep R (rep R a) (complete .rep-below a)) ∙ defect-here a q)) ∙ sym defect-formula
+
+        scaled : Shows m (Φ R) t (τ R t) (scale m k (repOf L t .matrix i)) (Y (S R) F (𝓢 R))
+        scaled = shows-scale m pos (Φ R) k (stands .intertwines i (omega arith) (R .in-range) t (iter-below (O R) e r h)) (λ a q. (
+          ap (λ z. z .0) (Y-at (S R) F (𝓢 R) a),
+          ap (λ z. z .1 .0) (Y-at (S R) F (𝓢 R) a) ∙ add-value m pos _ _ ∙ ap (λ z. ((F .X i a) .1 .0 + z) % m) (σ-here a q),
+        ))

@@ -1,0 +1,77 @@
+-- Maps of the numbers below a to those below b that lose nothing.
+--
+--   Injects a b f       f takes numbers below a to different numbers below b
+--   injects-le          then a is at most b
+--   injects-onto        and if a is b, every number below b is hit
+use mathlib.Core.Path.{_≡_, refl, sym, _∙_, ap, subst}
+use Prim.Native.Nat.{ℕ, zero, suc, _+_, _-_, _≤_, _<_}
+use native.Mathlib.Omega.{arith}
+use native.Mathlib.Decide.{decLt, ℕ-discrete}
+use mathlib.Core.Bool.{cond}
+use lib.Dec.{eqb}
+use Rattle.numbers.proofs.Bools.{cond-eq, cond-ne}
+
+pub record Injects (a b : ℕ) (f : ℕ → ℕ) : Type 0 where
+  pub below : (k : ℕ) → k < a → f k < b
+  pub injective : (j k : ℕ) → j < a → k < a → f j ≡ f k → j ≡ k
+
+-- the map with its last value moved to where it was b
+patched : (a b : ℕ) (f : ℕ → ℕ) → ℕ → ℕ
+patched a b f k = cond (eqb (f k) b) (f a) (f k)
+
+patch : (a b : ℕ) (f : ℕ → ℕ) → Injects (suc a) (suc b) f → Injects a b (patched a b f)
+unfolding patched
+patch a b f F = record { below = λ k l. below k l (ℕ-discrete (f k) b); injective = λ j k l l′ q. injective j k l l′ (ℕ-discrete (f j) b) (ℕ-discrete (f k) b) q }
+  where
+    below : (k : ℕ) → k < a → Dec (f k ≡ b) → patched a b f k < b
+    below k l (yes e) =
+        let top : f a < suc b = F .below a (omega arith) in
+        let ne : ¬ (f a ≡ b) = λ q. let z : k ≡ a = F .injective k a (omega arith) (omega arith) (e ∙ sym q) in omega arith in
+        subst (λ z. z < b) (sym (cond-eq (f k) b _ _ e)) (omega arith)
+    below k l (no e) = let s : f k < suc b = F .below k (omega arith) in subst (λ z. z < b) (sym (cond-ne (f k) b _ _ e)) (omega arith)
+
+    injective : (j k : ℕ) → j < a → k < a → Dec (f j ≡ b) → Dec (f k ≡ b) → patched a b f j ≡ patched a b f k → j ≡ k
+    injective j k l l′ (yes p) (yes q) e = F .injective j k (omega arith) (omega arith) (p ∙ sym q)
+    injective j k l l′ (yes p) (no q) e = let z : a ≡ k = F .injective a k (omega arith) (omega arith) (sym (cond-eq (f j) b _ _ p) ∙ e ∙ cond-ne (f k) b _ _ q) in omega arith
+    injective j k l l′ (no p) (yes q) e = let z : j ≡ a = F .injective j a (omega arith) (omega arith) (sym (cond-ne (f j) b _ _ p) ∙ e ∙ cond-eq (f k) b _ _ q) in omega arith
+    injective j k l l′ (no p) (no q) e = F .injective j k (omega arith) (omega arith) (sym (cond-ne (f j) b _ _ p) ∙ e ∙ cond-ne (f k) b _ _ q)
+
+pub injects-le : (a b : ℕ) (f : ℕ → ℕ) → Injects a b f → a ≤ b
+injects-le zero b f F = omega arith
+injects-le (suc a) zero f F = let z = F .below a (omega arith) in absurd (omega arith)
+injects-le (suc a) (suc b) f F = let r = injects-le a b (patched a b f) (patch a b f F) in omega arith
+
+-- is b hit below a?
+hit : (f : ℕ → ℕ) (b a : ℕ) → Dec ((k : ℕ) × (k < a) × (f k ≡ b))
+hit f b zero = no (λ (k, l, q). omega arith)
+hit f b (suc a) = go (hit f b a) (ℕ-discrete (f a) b)
+  where
+    go : Dec ((k : ℕ) × (k < a) × (f k ≡ b)) → Dec (f a ≡ b) → Dec ((k : ℕ) × (k < suc a) × (f k ≡ b))
+    go (yes (k, l, q)) d = yes (k, omega arith, q)
+    go (no h) (yes q) = yes (a, omega arith, q)
+    go (no h) (no q) = no (λ (k, l, e). last k l e (decLt k a))
+      where
+        last : (k : ℕ) → k < suc a → f k ≡ b → Dec (k < a) → ⊥
+        last k l e (yes s) = h (k, s, e)
+        last k l e (no s) = let z : k ≡ a = omega arith in q (ap f (sym z) ∙ e)
+
+pub injects-onto : (a : ℕ) (f : ℕ → ℕ) → Injects a a f → (b : ℕ) → b < a → (k : ℕ) × (k < a) × (f k ≡ b)
+injects-onto a f F b l = go (hit f b a)
+  where
+    -- if b is not hit, a + 1 numbers go to a different ones: b is sent to itself
+    more : ℕ → ℕ
+    more k = cond (eqb k a) b (f k)
+
+    go : Dec ((k : ℕ) × (k < a) × (f k ≡ b)) → (k : ℕ) × (k < a) × (f k ≡ b)
+    go (yes h) = h
+    go (no h) = let z = injects-le (suc a) a more (record { below = λ k s. below k s (ℕ-discrete k a); injective = λ j k s t q. injective j k s t (ℕ-discrete j a) (ℕ-discrete k a) q }) in absurd (omega arith)
+      where
+        below : (k : ℕ) → k < suc a → Dec (k ≡ a) → more k < a
+        below k s (yes e) = subst (λ z. z < a) (sym (cond-eq k a _ _ e)) l
+        below k s (no e) = subst (λ z. z < a) (sym (cond-ne k a _ _ e)) (F .below k (omega arith))
+
+        injective : (j k : ℕ) → j < suc a → k < suc a → Dec (j ≡ a) → Dec (k ≡ a) → more j ≡ more k → j ≡ k
+        injective j k s t (yes p) (yes q) e = p ∙ sym q
+        injective j k s t (yes p) (no q) e = absurd (h (k, omega arith, sym (cond-ne k a _ _ q) ∙ sym e ∙ cond-eq j a _ _ p))
+        injective j k s t (no p) (yes q) e = absurd (h (j, omega arith, sym (cond-ne j a _ _ p) ∙ e ∙ cond-eq k a _ _ q))
+        injective j k s t (no p) (no q) e = F .injective j k (omega arith) (omega arith) (sym (cond-ne j a _ _ p) ∙ e ∙ cond-ne k a _ _ q)

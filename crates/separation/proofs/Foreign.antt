@@ -1,0 +1,324 @@
+-- Any table's level that is well formed and satisfies the relations is a representation by maps, and a family where its
+-- basis indices are reached and separated.
+--
+--   forms-any                 some normal form passes a test: there is a valid one that does
+--   Index, Index-path         the basis indices of a level
+--   foreign-frame, foreign-complete      with their numbers
+--   D, D-shows                the maps of the generators
+--   satisfies, d, d-hom       they satisfy the relations, so normal forms act
+--   form-shows                the image of a normal form shows its map
+--   foreign-family            a family, where separation holds
+--   separates-intro           and back
+use mathlib.Core.Path.{_≡_, refl, sym, _∙_, ap, ap₂, subst, fun-ext}
+use mathlib.Core.HLevel.{Σ-prop-path, ×-prop}
+use mathlib.Core.Bool.{Bool, true, false, _&&_, _||_, not, false≢true}
+use mathlib.Core.List.{List, [], _∷_, _++_, map}
+use Prim.Native.Nat.{ℕ, zero, suc, _+_, _%_, _≤_, _<_}
+use native.Mathlib.Nat.{mod-eq-of-lt}
+use native.Mathlib.Bridge.{le-prop}
+use native.Mathlib.Omega.{arith}
+use native.Mathlib.Decide.{decLt, ℕ-discrete}
+use lib.Dec.{eqb}
+use lib.ListN.{length}
+use borrow.Author.Tests.{eqb-true, eqb-false, eq-eqb, ne-eqb, not-true}
+use Rattle.definitions.specs.declared.Entry.{Entry}
+use Rattle.definitions.specs.Lists.{blocks, allBelow, any}
+use Rattle.definitions.specs.Presentation.{NF, Presentation, Valid, Mul, power, value}
+use Rattle.definitions.specs.Monomial.{Matrix, entry, col, product, matrices, sameMatrix, Rep, Level, repOf, image, conjugate}
+use Rattle.definitions.specs.Table.{levelAt}
+use Rattle.definitions.specs.Judgement
+use Rattle.numbers.proofs.Bools.{and-left, and-right, and-intro, or-left, or-right, OneOf, first, second, or-cases}
+use Rattle.numbers.proofs.Lists.{allBelow-elim, allBelow-intro}
+use Rattle.group.specs.Context.{Context, Nf}
+use Rattle.group.specs.Models.{Laws, Hom, Satisfies, Model}
+use Rattle.group.proofs.Values.{value-trivial}
+use Rattle.group.proofs.Sound.{sound}
+use Rattle.group.proofs.Level.{level, conjNf}
+use Rattle.group.proofs.Group.{Test, Tested, group}
+use Rattle.group.proofs.Order.{inverse, inverse-left}
+use Rattle.monomial.specs.Exponents.{Residue}
+use Rattle.monomial.specs.Maps.{Map, maps}
+use Rattle.monomial.specs.Families.{Separated, Family}
+use Rattle.monomial.specs.Frames.{Frame, Complete, Shows}
+use Rattle.monomial.proofs.Maps.{column, at-mul, at-one, maps-laws}
+use Rattle.monomial.proofs.Residues.{residues, Residue-path}
+use Rattle.monomial.proofs.Frames.{shows-mul, shows-power, shows-value, shown-same, entry-path}
+use Rattle.clifford.specs.Stands.{frame}
+use Rattle.clifford.proofs.Judged.{any-forms}
+use Rattle.separation.specs.Fair.{Fair}
+
+-- ---- Some normal form
+
+any-append : {A : Type 0} (q : A → Bool) (xs ys : List A) → any q (xs ++ ys) ≡ true → OneOf (any q xs) (any q ys)
+unfolding any
+any-append q [] ys h = second h
+any-append q (x ∷ xs) ys h = go (q x) refl h (any-append q xs ys)
+  where
+    go : (b : Bool) → q x ≡ b → b || any q (xs ++ ys) ≡ true → (any q (xs ++ ys) ≡ true → OneOf (any q xs) (any q ys)) → OneOf (q x || any q xs) (any q ys)
+    go true e k r = first (ap (λ t. t || any q xs) e)
+    go false e k r = again (r k)
+      where
+        again : OneOf (any q xs) (any q ys) → OneOf (q x || any q xs) (any q ys)
+        again (first a) = first (ap (λ t. t || any q xs) e ∙ a)
+        again (second a) = second a
+
+any-blocks : {A : Type 0} (q : A → Bool) (n : ℕ) (f : ℕ → List A) → any q (blocks n f) ≡ true → (k : ℕ) × (k < n) × (any q (f k) ≡ true)
+unfolding blocks any
+any-blocks q zero f h = absurd (false≢true h)
+any-blocks q (suc n) f h = go (any-append q (blocks n f) (f n) h) (any-blocks q n f)
+  where
+    go : OneOf (any q (blocks n f)) (any q (f n)) → (any q (blocks n f) ≡ true → (k : ℕ) × (k < n) × (any q (f k) ≡ true)) → (k : ℕ) × (k < suc n) × (any q (f k) ≡ true)
+    go (first a) r = let (k, l, e) = r a in (k, omega arith, e)
+    go (second a) r = (n, omega arith, a)
+
+any-mapped : {A B : Type 0} (f : A → B) (q : B → Bool) (xs : List A) → any q (map f xs) ≡ true → any (λ x. q (f x)) xs ≡ true
+unfolding any
+any-mapped f q [] h = h
+any-mapped f q (x ∷ xs) h = go (q (f x)) (any-mapped f q xs) h
+  where
+    go : (b : Bool) → (any q (map f xs) ≡ true → any (λ x. q (f x)) xs ≡ true) → b || any q (map f xs) ≡ true → b || any (λ x. q (f x)) xs ≡ true
+    go true r k = refl
+    go false r k = r k
+
+pub forms-any : (P : Presentation) (i : ℕ) (q : NF i → Bool) → any q (Judgement.allForms P i) ≡ true → (x : NF i) × Valid P i x × (q x ≡ true)
+unfolding Judgement.allForms any
+forms-any P zero q h = (tt, tt, one (or-cases (q tt) false h))
+  where
+    one : OneOf (q tt) false → q tt ≡ true
+    one (first a) = a
+    one (second a) = absurd (false≢true a)
+forms-any P (suc i) q h =
+    let (e, l, a) = any-blocks q (P .p i) (λ e. map (λ (x : NF i). (e, x)) (Judgement.allForms P i)) h in
+    let (x, v, t) = forms-any P i (λ x. q (e, x)) (any-mapped (λ (x : NF i). (e, x)) q (Judgement.allForms P i) a) in
+    ((e, x), (l, v), t)
+
+-- ---- The maps of a level
+
+module _ (P : Presentation) (m : ℕ) (pos : 0 < m) (i : ℕ) (L : Level) (A : Fair P m i L) where
+  abbrev pub Index : Type 0
+  Index = (x : ℕ × ℕ) × ((x .0 < length L) × (x .1 < repOf L (x .0) .deg))
+
+  pub Index-path : (x y : Index) → x .0 .0 ≡ y .0 .0 → x .0 .1 ≡ y .0 .1 → x ≡ y
+  Index-path x y p q = Σ-prop-path (λ z. ×-prop le-prop le-prop) (λ j. (p j, q j))
+
+  pub Index-discrete : Discrete Index
+  Index-discrete x y = go (ℕ-discrete (x .0 .0) (y .0 .0)) (ℕ-discrete (x .0 .1) (y .0 .1))
+    where
+      go : Dec (x .0 .0 ≡ y .0 .0) → Dec (x .0 .1 ≡ y .0 .1) → Dec (x ≡ y)
+      go (yes a) (yes b) = yes (Index-path x y a b)
+      go (yes a) (no b) = no (λ q. b (ap (λ z. z .0 .1) q))
+      go (no a) d = no (λ q. a (ap (λ z. z .0 .0) q))
+
+  abbrev pub foreign-frame : Frame Index
+  foreign-frame = frame L (λ (x : Index). x .0 .0) (λ (x : Index). x .0 .1) (λ (x : Index). x .1 .1)
+
+  abbrev pub foreign-complete : Complete foreign-frame (length L)
+  foreign-complete = record {
+    rep-below = λ x. x .1 .0;
+    find = λ r c h l. ((r, c), (h, l));
+    find-rep = λ r c h l. refl;
+    find-column = λ r c h l. refl;
+    known = Index-path;
+  }
+
+  -- the map of generator k, and the identity beyond the level
+  step : (k : ℕ) → Dec (k < i) → Map (residues m pos) Index
+  step k (yes l) x =
+      let y = col (repOf L (x .0 .0) .matrix k) (x .0 .1) in
+      (((x .0 .0, y .row), (x .1 .0, A .row-below (x .0 .0) k (x .0 .1) (x .1 .0) l (x .1 .1))), (y .exp, A .exp-below (x .0 .0) k (x .0 .1) (x .1 .0) l (x .1 .1)))
+  step k (no l) x = maps (residues m pos) Index .one x
+
+  pub D : ℕ → Map (residues m pos) Index
+  D k = step k (decLt k i)
+
+  pub D-shows : (r k : ℕ) → r < length L → k < i → Shows m foreign-frame r r (repOf L r .matrix k) (D k)
+  unfolding D step
+  D-shows r k h l = go (decLt k i)
+    where
+      go : (d : Dec (k < i)) → Shows m foreign-frame r r (repOf L r .matrix k) (step k d)
+      go (yes a) = record { size = A .size r k h l; maps-to = λ x e. e; shown = λ x e. ap (λ s. col (repOf L s .matrix k) (x .0 .1)) (sym e) }
+      go (no a) = absurd (a l)
+
+  abbrev pub word : (k : ℕ) → NF k → Map (residues m pos) Index
+  word k x = value (maps (residues m pos) Index) D k x
+
+  pub word-shows : (r k : ℕ) → r < length L → k ≤ i → (x : NF k) → Shows m foreign-frame r r (image m (repOf L r) k x) (word k x)
+  unfolding image
+  word-shows r k h l x = shows-value m pos foreign-frame refl (repOf L r .matrix) D k (λ g a. D-shows r g h (omega arith)) x
+
+  pub satisfies : Satisfies P (maps (residues m pos) Index) D i
+  unfolding conjugate
+  satisfies = record {
+    powers = λ j l. fun-ext (λ a. shown-same m pos foreign-frame foreign-complete (shows-power m pos foreign-frame refl (D-shows (a .0 .0) j (a .1 .0) l) (P .p j)) (word-shows (a .0 .0) j (a .1 .0) (omega arith) (P .u j)) (A .powers (a .0 .0) j (a .1 .0) l) a refl);
+    commutators = λ k j a b. fun-ext (λ x.
+        let r : ℕ = x .0 .0 in
+        let h : r < length L = x .1 .0 in
+        shown-same m pos foreign-frame foreign-complete (shows-mul m pos foreign-frame (D-shows r k h (omega arith)) (D-shows r j h b))
+        (shows-mul m pos foreign-frame (D-shows r j h b) (shows-mul m pos foreign-frame (D-shows r k h (omega arith)) (word-shows r (suc k) h (omega arith) (P .w k j)))) (A .commutators r k j h a b) x refl);
+  }
+
+-- ---- Normal forms act
+
+module _ (C : Context) (m : ℕ) (pos : 0 < m) (i : ℕ) (L : Level) (A : Fair (C .P) m i L) where
+  abbrev pub Ω : Type 0
+  Ω = Index (C .P) m pos i L A
+
+  unfoldable pub d : Nf C i → Map (residues m pos) (Index (C .P) m pos i L A)
+  d x = word (C .P) m pos i L A i (x .0)
+
+  model : Model (C .P) i (Map (residues m pos) Ω)
+  model = record { product = maps (residues m pos) Ω; laws = maps-laws (residues m pos); h = D (C .P) m pos i L A; satisfies = satisfies (C .P) m pos i L A }
+
+  pub d-hom : Hom (level C i) (maps (residues m pos) (Index (C .P) m pos i L A)) d
+  unfolding d level model
+  d-hom = record { on-one = value-trivial (maps-laws (residues m pos)) (D (C .P) m pos i L A) i; on-mul = λ x y. sound model i (omega arith) .mul-value (x .0) (y .0) }
+
+  pub form-shows : (r : ℕ) → r < length L → (x : Nf C i) → Shows m (foreign-frame (C .P) m pos i L A) r r (image m (repOf L r) i (x .0)) (d x)
+  unfolding d
+  form-shows r h x = word-shows (C .P) m pos i L A r i h (omega arith) (x .0)
+
+-- ---- A family, where separation holds
+
+module _ (C : Context) (tests : (k : ℕ) → k < C .P .n → Test C k) (m : ℕ) (pos : 0 < m) (table : List ℕ) (i : ℕ) (l : i ≤ C .P .n) (A : Fair (C .P) m i (levelAt (C .P .n) table i))
+    (separates : (r : ℕ) → r < length (levelAt (C .P .n) table i) → Judgement.separates (C .P) m table i r ≡ true) where
+  abbrev L : Level
+  L = levelAt (C .P .n) table i
+
+  abbrev T : Tested
+  T = record { context = C; n = C .P .n; tests = tests }
+
+  abbrev X : Type 0
+  X = Index (C .P) m pos i L A
+
+  abbrev act : Nf C i → Map (residues m pos) X
+  act = d C m pos i L A
+
+  abbrev hom : Hom (level C i) (maps (residues m pos) X) act
+  hom = d-hom C m pos i L A
+
+  start : (x : X) → X
+  start x = ((x .0 .0, 0), (x .1 .0, A .degree-pos (x .0 .0) (x .1 .0)))
+
+  -- every basis index is reached from the first of its representation
+  from-start : (x : X) → (w : Nf C i) × ((act w (start x)) .0 ≡ x)
+  unfolding start Judgement.separates Judgement.reaches
+  from-start x =
+      let r : ℕ = x .0 .0 in
+      let h : r < length L = x .1 .0 in
+      let t = and-left (Judgement.reaches (C .P) m table i (repOf L r) (x .0 .1)) _ (allBelow-elim (repOf L r .deg) _ (separates r h) (x .0 .1) (x .1 .1)) in
+      let (w, v, e) = forms-any (C .P) i (λ w. eqb (col (image m (repOf L r) i w) 0 .row) (x .0 .1)) t in
+      let sh = form-shows C m pos i L A r h (w, v) in
+      ((w, v), Index-path (C .P) m pos i L A _ x (sh .maps-to (start x) refl) (ap (λ (y : Entry). y .row) (sym (sh .shown (start x) refl)) ∙ eqb-true _ _ e))
+
+  to-start : (x : X) → (w : Nf C i) × ((act w x) .0 ≡ start x)
+  to-start x =
+      let (w, e) = from-start x in (
+        inverse C i w,
+        ap (λ z. (act (inverse C i w) z) .0) (sym e)
+            ∙ ap (λ z. z .0) (sym (at-mul (residues m pos) (act (inverse C i w)) (act w) (start x)) ∙ column (residues m pos) (sym (hom .on-mul _ _) ∙ ap act (inverse-left T i l w) ∙ hom .on-one) (start x) ∙ at-one (residues m pos) (start x)),
+      )
+
+  pub reached : (x y : Index (C .P) m pos i (levelAt (C .P .n) table i) A) → x .0 .0 ≡ y .0 .0 → (w : Nf C i) × ((d C m pos i (levelAt (C .P .n) table i) A w x) .0 ≡ y)
+  unfolding start
+  reached x y q =
+      let (a, e) = to-start x in
+      let (b, e′) = from-start y in (
+        level C i .mul b a,
+        ap (λ z. z .0) (column (residues m pos) (hom .on-mul b a) x ∙ at-mul (residues m pos) (act b) (act a) x)
+            ∙ ap (λ z. (act b z) .0) (e ∙ Index-path (C .P) m pos i L A (start x) (start y) q refl) ∙ e′,
+      )
+
+  pub separated : (x y : Index (C .P) m pos i (levelAt (C .P .n) table i) A) → ¬ (x ≡ y) → Separated (residues m pos) (Index (C .P) m pos i (levelAt (C .P .n) table i) A) (d C m pos i (levelAt (C .P .n) table i) A) x y
+  unfolding Judgement.separates Judgement.tells
+  separated x y ne =
+      let r : ℕ = x .0 .0 in
+      let h : r < length L = x .1 .0 in
+      let all = and-right (Judgement.reaches (C .P) m table i (repOf L r) (x .0 .1)) _ (allBelow-elim (repOf L r .deg) _ (separates r h) (x .0 .1) (x .1 .1)) in
+      go (or-cases (eqb r (y .0 .0) && eqb (x .0 .1) (y .0 .1)) _ (allBelow-elim (repOf L (y .0 .0) .deg) _ (allBelow-elim (length L) _ all (y .0 .0) (y .1 .0)) (y .0 .1) (y .1 .1)))
+    where
+      fixes : (x : X) (w : Nf C i) → eqb (col (image m (repOf L (x .0 .0)) i (w .0)) (x .0 .1) .row) (x .0 .1) ≡ true → act w x ≡ (x, (act w x) .1)
+      fixes x w e =
+          let sh = form-shows C m pos i L A (x .0 .0) (x .1 .0) w in
+          λ o. (Index-path (C .P) m pos i L A ((act w x) .0) x (sh .maps-to x refl) (ap (λ (y : Entry). y .row) (sym (sh .shown x refl)) ∙ eqb-true _ _ e) o, (act w x) .1)
+
+      value-is : (x : X) (w : Nf C i) → col (image m (repOf L (x .0 .0)) i (w .0)) (x .0 .1) .exp ≡ (act w x) .1 .0
+      value-is x w = ap (λ (y : Entry). y .exp) (form-shows C m pos i L A (x .0 .0) (x .1 .0) w .shown x refl)
+
+      by-form : (w : NF i) (v : Valid (C .P) i w)
+          → eqb (col (image m (repOf L (x .0 .0)) i w) (x .0 .1) .row) (x .0 .1) && eqb (col (image m (repOf L (y .0 .0)) i w) (y .0 .1) .row) (y .0 .1)
+          && not (eqb (col (image m (repOf L (x .0 .0)) i w) (x .0 .1) .exp % m) (col (image m (repOf L (y .0 .0)) i w) (y .0 .1) .exp % m)) ≡ true
+          → Separated (residues m pos) X act x y
+      by-form w v t =
+          let ab = and-left (eqb (col (image m (repOf L (x .0 .0)) i w) (x .0 .1) .row) (x .0 .1) && eqb (col (image m (repOf L (y .0 .0)) i w) (y .0 .1) .row) (y .0 .1)) _ t in
+          let c = and-right (eqb (col (image m (repOf L (x .0 .0)) i w) (x .0 .1) .row) (x .0 .1) && eqb (col (image m (repOf L (y .0 .0)) i w) (y .0 .1) .row) (y .0 .1)) _ t in
+          record {
+            by = (w, v);
+            x = (act (w, v) x) .1;
+            y = (act (w, v) y) .1;
+            fixes = fixes x (w, v) (and-left (eqb (col (image m (repOf L (x .0 .0)) i w) (x .0 .1) .row) (x .0 .1)) _ ab);
+            fixes′ = fixes y (w, v) (and-right (eqb (col (image m (repOf L (x .0 .0)) i w) (x .0 .1) .row) (x .0 .1)) _ ab);
+            differ = λ e. eqb-false _ _ (not-true _ c) (ap (λ z. z % m) (value-is x (w, v) ∙ ap (λ z. z .0) e ∙ sym (value-is y (w, v))));
+          }
+
+      go : OneOf (eqb (x .0 .0) (y .0 .0) && eqb (x .0 .1) (y .0 .1)) (any (Judgement.tells (C .P) m table i (repOf L (x .0 .0)) (x .0 .1) (repOf L (y .0 .0)) (y .0 .1)) (Judgement.allForms (C .P) i)) → Separated (residues m pos) X act x y
+      go (first e) = absurd (ne (Index-path (C .P) m pos i L A x y (eqb-true _ _ (and-left (eqb (x .0 .0) (y .0 .0)) _ e)) (eqb-true _ _ (and-right (eqb (x .0 .0) (y .0 .0)) _ e))))
+      go (second e) = let (w, v, t) = forms-any (C .P) i _ e in by-form w v t
+
+  abbrev pub foreign-family : Family (residues m pos) (Index (C .P) m pos i (levelAt (C .P .n) table i) A) (level C i) (conjNf C i) i i
+  foreign-family = record {
+    decide = Index-discrete (C .P) m pos i L A;
+    d = d C m pos i L A;
+    hom = d-hom C m pos i L A;
+    X = λ j. maps (residues m pos) X .one;
+    past = λ j a b x. absurd (omega arith);
+    rep = λ x. x .0 .0;
+    target = λ j r. r;
+    inside = λ w x. form-shows C m pos i L A (x .0 .0) (x .1 .0) w .maps-to x refl;
+    maps-to = λ j a b x. absurd (omega arith);
+    reached = reached;
+    separated = separated;
+  }
+
+-- ---- And back: what is reached and separated passes the judgement
+
+module _ (C : Context) (m : ℕ) (pos : 0 < m) (table : List ℕ) (i : ℕ) (A : Fair (C .P) m i (levelAt (C .P .n) table i)) where
+  abbrev Lv : Level
+  Lv = levelAt (C .P .n) table i
+
+  abbrev Y : Type 0
+  Y = Index (C .P) m pos i Lv A
+
+  abbrev acts : Nf C i → Map (residues m pos) Y
+  acts = d C m pos i Lv A
+
+  reach-holds : (r k : ℕ) (h : r < length Lv) (a : k < repOf Lv r .deg) → (w : Nf C i) × ((acts w ((r, 0), (h, A .degree-pos r h))) .0 ≡ ((r, k), (h, a))) → Judgement.reaches (C .P) m table i (repOf Lv r) k ≡ true
+  unfolding Judgement.reaches
+  reach-holds r k h a (w, e) =
+      any-forms (C .P) i _ (w .0) (w .1) (eq-eqb _ _ (ap (λ (y : Entry). y .row) (form-shows C m pos i Lv A r h w .shown ((r, 0), (h, A .degree-pos r h)) refl) ∙ ap (λ z. z .0 .1) e))
+
+  pair-holds : (r k r′ k′ : ℕ) (h : r < length Lv) (a : k < repOf Lv r .deg) (h′ : r′ < length Lv) (a′ : k′ < repOf Lv r′ .deg)
+      → Separated (residues m pos) Y acts ((r, k), (h, a)) ((r′, k′), (h′, a′)) → any (Judgement.tells (C .P) m table i (repOf Lv r) k (repOf Lv r′) k′) (Judgement.allForms (C .P) i) ≡ true
+  unfolding Judgement.tells
+  pair-holds r k r′ k′ h a h′ a′ s =
+      let y : col (image m (repOf Lv r) i (s .by .0)) k ≡ entry k (s .x .0) = at r k h a (s .by) (s .x) (s .fixes) in
+      let y′ : col (image m (repOf Lv r′) i (s .by .0)) k′ ≡ entry k′ (s .y .0) = at r′ k′ h′ a′ (s .by) (s .y) (s .fixes′) in
+      any-forms (C .P) i _ (s .by .0) (s .by .1)
+      (and-intro _ _ (and-intro _ _ (eq-eqb _ _ (ap (λ (z : Entry). z .row) y)) (eq-eqb _ _ (ap (λ (z : Entry). z .row) y′)))
+      (ap not (ne-eqb _ _ (λ e. s .differ (Residue-path m (s .x) (s .y) (sym (mod-eq-of-lt (s .x .1)) ∙ sym (ap (λ (z : Entry). z .exp % m) y) ∙ e ∙ ap (λ (z : Entry). z .exp % m) y′ ∙ mod-eq-of-lt (s .y .1)))))))
+    where
+      at : (r k : ℕ) (h : r < length Lv) (a : k < repOf Lv r .deg) (w : Nf C i) (x : Residue m) → acts w ((r, k), (h, a)) ≡ (((r, k), (h, a)), x) → col (image m (repOf Lv r) i (w .0)) k ≡ entry k (x .0)
+      at r k h a w x f = form-shows C m pos i Lv A r h w .shown ((r, k), (h, a)) refl ∙ ap (λ z. entry (z .0 .0 .1) (z .1 .0)) f
+
+  pub separates-intro : (r : ℕ) (h : r < length (levelAt (C .P .n) table i))
+      → ((k : ℕ) (a : k < repOf (levelAt (C .P .n) table i) r .deg) → (w : Nf C i) × ((d C m pos i (levelAt (C .P .n) table i) A w ((r, 0), (h, A .degree-pos r h))) .0 ≡ ((r, k), (h, a))))
+      → ((x y : Index (C .P) m pos i (levelAt (C .P .n) table i) A) → ¬ (x ≡ y) → Separated (residues m pos) (Index (C .P) m pos i (levelAt (C .P .n) table i) A) (d C m pos i (levelAt (C .P .n) table i) A) x y)
+      → Judgement.separates (C .P) m table i r ≡ true
+  unfolding Judgement.separates
+  separates-intro r h reach sep =
+      allBelow-intro (repOf Lv r .deg) _ (λ k a. and-intro _ _ (reach-holds r k h a (reach k a)) (allBelow-intro (length Lv) _ (λ r′ h′. allBelow-intro (repOf Lv r′ .deg) _ (λ k′ a′. same-or k a r′ k′ h′ a′ (ℕ-discrete r r′) (ℕ-discrete k k′)))))
+    where
+      same-or : (k : ℕ) (a : k < repOf Lv r .deg) (r′ k′ : ℕ) (h′ : r′ < length Lv) (a′ : k′ < repOf Lv r′ .deg) → Dec (r ≡ r′) → Dec (k ≡ k′)
+          → (eqb r r′ && eqb k k′) || any (Judgement.tells (C .P) m table i (repOf Lv r) k (repOf Lv r′) k′) (Judgement.allForms (C .P) i) ≡ true
+      same-or k a r′ k′ h′ a′ (yes p) (yes q) = or-left (eqb r r′ && eqb k k′) _ (and-intro _ _ (eq-eqb r r′ p) (eq-eqb k k′ q))
+      same-or k a r′ k′ h′ a′ (yes p) (no q) = or-right (eqb r r′ && eqb k k′) _ (pair-holds r k r′ k′ h a h′ a′ (sep _ _ (λ e. q (ap (λ z. z .0 .1) e))))
+      same-or k a r′ k′ h′ a′ (no p) d = or-right (eqb r r′ && eqb k k′) _ (pair-holds r k r′ k′ h a h′ a′ (sep _ _ (λ e. p (ap (λ z. z .0 .0) e))))

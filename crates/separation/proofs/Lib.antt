@@ -1,0 +1,8 @@
+-- The decision of separation.
+pub mod Blocks
+pub mod Foreign
+pub mod Cutting
+pub mod Restricted
+pub mod Numbers
+pub mod Decision
+pub mod Walk

@@ -1,0 +1,5 @@
+-- What the decision of separation needs.
+pub mod Blocked
+pub mod Fair
+pub mod Restricting
+pub mod Decision
