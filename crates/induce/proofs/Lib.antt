@@ -1,1 +1,2 @@
 -- Laws of induced representations.
+pub mod Laws

@@ -1,11 +1,12 @@
 // The representation induced from an orbit of the generator on top, as lines behind the level below.
 ghost use mathlib.Core.Path.{_≡_};
-ghost use mathlib.Core.List.{[]};
+ghost use mathlib.Core.List.{List, []};
 ghost use Prim.Native.Nat.{ℕ, suc, _+_, _*_, _≤_, _<_};
 ghost use lib.ListN.{length, getD, take};
 ghost use Rattle.definitions.specs.Lists.{iter};
 ghost use Rattle.definitions.specs.Presentation.{pairNumber};
 ghost use Rattle.definitions.specs.Monomial.{entry, act};
+ghost use Rattle.formulas.specs.Formulas.{shift, cycleEntry, conjugateEntry};
 ghost use Rattle.lines.specs.Lines.{Below};
 ghost use Rattle.survey.specs.Below.{degOf, targetOf, sourceIn, Stands, Lines};
 ghost use Rattle.induce.specs.Inducing.{OrbitArray, Inducing, BlockScalars, Held, Cycled};
@@ -50,4 +51,46 @@ pub fn cycle(low: &[u32], first: &[u32], orbit: &[u32], f: Frame, c: u32, r: u32
             exp: lines::add_mod(y.exp, c, f.m),
         },
     }
+}
+
+// The same k times.
+pub fn cycle_times(
+    low: &[u32],
+    first: &[u32],
+    orbit: &[u32],
+    f: Frame,
+    c: u32,
+    r: u32,
+    k: u32,
+    s: Moved,
+) -> Moved
+    requires { ⌜ Stands f (now low) × Lines f (now low) (now first) × (r < f .reps) × OrbitArray f (now low) (now orbit) r × (s .block < f .p) × (c < f .m) × Below (f .m) (degOf f (now low) r) (s .x) ⌝ }
+    ensures { λ t. ⌜ ((rows : List (List ℕ)) → shift (sourceIn f (now (low .entry)) rows) r ≡ c → Held f (now (low .entry)) r (iter (cycleEntry (sourceIn f (now (low .entry)) rows) r) k (record { block = s .block; at = s .x })) t) × (t .block < f .p) × Below (f .m) (degOf f (now (low .entry)) r) (t .x) ⌝ }
+{
+    let mut t = s;
+    for i in 0..k {
+        t = cycle(low, first, orbit, f, c, r, t);
+    }
+    t
+}
+
+// Column 0 of block b moved by j⁻¹ g j, g the generator on top: by the word w of the two, and once more by g.
+pub fn conjugate(
+    low: &[u32],
+    first: &[u32],
+    orbit: &[u32],
+    w: &[u32; 12],
+    f: Frame,
+    c: u32,
+    r: u32,
+    b: u32,
+) -> Moved
+    requires { ⌜ Stands f (now low) × Lines f (now low) (now first) × (r < f .reps) × OrbitArray f (now low) (now orbit) r × (b < f .p) × (c < f .m) × (getD (now w) (f .top) 0 < f .p) ⌝ }
+    ensures { λ t. ⌜ ((rows : List (List ℕ)) (j : ℕ) → shift (sourceIn f (now (low .entry)) rows) r ≡ c → getD rows (pairNumber j (f .top)) [] ≡ now (w .entry) → Held f (now (low .entry)) r (conjugateEntry (sourceIn f (now (low .entry)) rows) j r b) t) × (t .block < f .p) × Below (f .m) (degOf f (now (low .entry)) r) (t .x) ⌝ }
+{
+    let q = survey::element(orbit, b);
+    let x = extend::walked(low, first, w, f, q);
+    let t = lines::up(f.top);
+    let k = w[t];
+    cycle_times(low, first, orbit, f, c, r, k + 1, Moved { block: b, x: x })
 }
