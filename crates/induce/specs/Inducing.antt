@@ -4,6 +4,7 @@
 --   Cycles                     generator j moves the blocks of an orbit around, each once
 --   Inducing                   what is known where the representation induced from the orbit of r is written
 --   Cycled                     one step of the generator on top
+--   Righting, rightIn          the two sides of an intertwiner's equation at column 0
 --   Held                       an entry in a block, within the degree
 --   BlockScalars               an array that holds the scalars of the blocks
 use mathlib.Core.Path.{_≡_}
@@ -13,7 +14,7 @@ use mathlib.Core.Bool.{cond}
 use lib.ListN.{length, getD}
 use lib.Dec.{ltb}
 use Rattle.definitions.specs.Lists.{iter}
-use Rattle.definitions.specs.Monomial.{act}
+use Rattle.definitions.specs.Monomial.{entry, act}
 use Rattle.formulas.specs.Formulas.{plus, shift, start, blockAt, scalar}
 use Rattle.formulas.specs.Formulas as Fm
 use Rattle.lines.specs.Lines.{Below}
@@ -63,3 +64,20 @@ pub record Cycled (f : Frame) (W : List ℕ) (c r : ℕ) (s t : Moved) : Type 0 
       t .x ≡ plus (f .m) (cond (ltb (suc (s .block)) (f .p)) 0 c) (act (f .m) (sourceIn f W [] .matrix (iter (targetOf f W (f .top)) (s .block) r) (f .top)) (s .x))
   pub block-below : t .block < f .p
   pub entry-below : Below (f .m) (degOf f W r) (t .x)
+
+-- what is known where intertwiners are compared: arrays of one level, and representations of an orbit that are listed
+pub record Righting (f : Frame) (W : List ℕ) (first leaders places shifts orbit : List ℕ) : Type 0 where
+  pub stands : Stands f W
+  pub lines : Lines f W first
+  pub leaders-are : Array f W leaders (leaderIn f W)
+  pub places-are : Array f W places (positionIn f W)
+  pub shifts-long : f .reps ≤ length shifts
+  pub shifts-below : (r : ℕ) → r < f .reps → getD shifts r 0 < f .m
+  pub orbit-long : f .p ≤ length orbit
+  pub orbit-listed : (b : ℕ) → b < f .p → getD orbit b 0 < f .reps
+
+-- the exponent of column 0 of representation r moved by the intertwiner of j, and then by the generator on top
+unfoldable pub rightIn : (f : Frame) → List ℕ → List ℕ → (j r : ℕ) → ℕ
+rightIn f W shifts j r =
+    let q = targetOf f W j r in
+    plus (f .m) (cond (ltb (suc (positionIn f W q)) (f .p)) 0 (getD shifts (leaderIn f W q) 0)) (act (f .m) (sourceIn f W [] .matrix q (f .top)) (act (f .m) (sourceIn f W [] .matrix r j) (entry 0 0))) .exp

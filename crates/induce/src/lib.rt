@@ -2,14 +2,16 @@
 ghost use mathlib.Core.Path.{_≡_};
 ghost use mathlib.Core.List.{List, []};
 ghost use Prim.Native.Nat.{ℕ, suc, _+_, _*_, _≤_, _<_};
+ghost use mathlib.Core.Bool.{cond};
 ghost use lib.ListN.{length, getD, take};
+ghost use lib.Dec.{ltb};
 ghost use Rattle.definitions.specs.Lists.{iter};
 ghost use Rattle.definitions.specs.Presentation.{pairNumber};
 ghost use Rattle.definitions.specs.Monomial.{entry, act};
 ghost use Rattle.formulas.specs.Formulas.{shift, cycleEntry, conjugateEntry};
 ghost use Rattle.lines.specs.Lines.{Below};
 ghost use Rattle.survey.specs.Below.{degOf, targetOf, sourceIn, Stands, Lines};
-ghost use Rattle.induce.specs.Inducing.{OrbitArray, Inducing, BlockScalars, Held, Cycled};
+ghost use Rattle.induce.specs.Inducing.{OrbitArray, Inducing, BlockScalars, Held, Cycled, Righting, rightIn};
 use collector::rows;
 use definitions::Entry;
 use survey::Frame;
@@ -93,4 +95,49 @@ pub fn conjugate(
     let t = lines::up(f.top);
     let k = w[t];
     cycle_times(low, first, orbit, f, c, r, k + 1, Moved { block: b, x: x })
+}
+
+// The exponent of an entry in a block moved by the intertwiner of generator j there.
+pub fn left(low: &[u32], first: &[u32], orbit: &[u32], f: Frame, j: u32, r: u32, s: Moved) -> u32
+    requires { ⌜ Stands f (now low) × Lines f (now low) (now first) × (r < f .reps) × OrbitArray f (now low) (now orbit) r × (s .block < f .p) × (j < f .gens) × Below (f .m) (degOf f (now low) r) (s .x) ⌝ }
+    ensures { λ e. ⌜ (e ≡ act (f .m) (sourceIn f (now (low .entry)) [] .matrix (iter (targetOf f (now (low .entry)) (f .top)) (s .block) r) j) (s .x) .exp) × (e < f .m) ⌝ }
+{
+    let b = s.block;
+    let q = survey::element(orbit, b);
+    let y = extend::moved(low, first, f, j, q, s.x);
+    y.exp
+}
+
+// The constant of the generator on top behind representation q of an orbit: 0, and at the end of the orbit what closes it.
+pub fn constant(leaders: &[u32], places: &[u32], shifts: &[u32], f: Frame, q: u32) -> u32
+    requires { ⌜ (q < length (now places)) × (q < length (now leaders)) × (getD (now leaders) q 0 < length (now shifts)) × (0 < f .m) × (getD (now places) q 0 ≤ 16384) × (getD (now shifts) (getD (now leaders) q 0) 0 < f .m) ⌝ }
+    ensures { λ c. ⌜ (c ≡ cond (ltb (suc (getD (now (places .entry)) q 0)) (f .p)) 0 (getD (now (shifts .entry)) (getD (now (leaders .entry)) q 0) 0)) × (c < f .m) ⌝ }
+{
+    let b = survey::element(places, q);
+    if b + 1 < f.p {
+        return 0;
+    }
+    let l = survey::element(leaders, q);
+    survey::element(shifts, l)
+}
+
+// The exponent of column 0 of block b moved by the intertwiner of generator j, and then by the generator on top.
+pub fn right(
+    low: &[u32],
+    first: &[u32],
+    leaders: &[u32],
+    places: &[u32],
+    shifts: &[u32],
+    orbit: &[u32],
+    f: Frame,
+    j: u32,
+    b: u32,
+) -> u32
+    requires { ⌜ Righting f (now low) (now first) (now leaders) (now places) (now shifts) (now orbit) × (f .top < j) × (j < f .gens) × (b < f .p) ⌝ }
+    ensures { λ e. ⌜ (e ≡ rightIn f (now (low .entry)) (now (shifts .entry)) j (getD (now (orbit .entry)) b 0)) × (e < f .m) ⌝ }
+{
+    let r = survey::element(orbit, b);
+    let q = survey::target(low, first, f, j, r);
+    let c = constant(leaders, places, shifts, f, q);
+    extend::right(low, first, f, j, r, q, c)
 }
