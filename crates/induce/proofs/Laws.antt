@@ -2,6 +2,7 @@
 --
 --   orbit-degree               the members of an orbit have one degree
 --   cycled-held, conjugate-starts      entries that are held along the generator on top
+--   shifts-below, righting, right-is, left-is    what is known of an orbit, and the two sides at its blocks
 --   plus-zero                  adding 0 to an exponent below the modulus
 use mathlib.Core.Path.{_≡_, refl, ap, sym, _∙_, subst}
 use mathlib.Core.List.{List, []}
@@ -21,10 +22,11 @@ use Rattle.formulas.specs.Formulas.{Source, plus, walk, shift}
 use Rattle.formulas.specs.Formulas as Fm
 use Rattle.lines.proofs.Laws.{iter-next}
 use Rattle.survey.specs.declared.Frame.{Frame}
-use Rattle.survey.specs.Below.{degOf, targetOf, sourceIn, Stands}
-use Rattle.survey.proofs.Marking.{orbit-inside}
+use Rattle.survey.specs.Below.{degOf, targetOf, sourceIn, leaderIn, positionIn, Stands}
+use Rattle.survey.proofs.Marking.{orbit-inside, lead-below}
+use Rattle.extend.proofs.Laws.{shift-below}
 use Rattle.induce.specs.declared.Moved.{Moved}
-use Rattle.induce.specs.Inducing.{Held, Cycled}
+use Rattle.induce.specs.Inducing.{Inducing, Held, Cycled, Righting, rightIn}
 
 pub orbit-degree : (f : Frame) (W : List ℕ) → Stands f W → (r k : ℕ) → r < f .reps → degOf f W (iter (targetOf f W (f .top)) k r) ≡ degOf f W r
 orbit-degree f W S r zero l = ap (degOf f W) (iter-zero _ r)
@@ -59,3 +61,36 @@ module _ (f : Frame) (W : List ℕ) (rows : List (List ℕ)) (r : ℕ) where
   unfolding Fm.conjugateEntry toNF
   conjugate-starts j b w e =
       ap (λ v. iter (Fm.cycleEntry S r) (suc (getD v (f .top) 0)) (record { block = b; at = walk (f .m) (sourceIn f W [] .matrix (iter (targetOf f W (f .top)) b r)) (f .top) (toNF (f .top) v) (entry 0 0) })) (sym e)
+
+-- ---- What is known of an orbit
+
+module _ (f : Frame) (W : List ℕ) (rows : List (List ℕ)) (first leaders places shifts orbit : List ℕ) (r : ℕ) (I : Inducing f W rows first leaders places shifts orbit r) where
+  pub shifts-below : (q : ℕ) → q < f .reps → getD shifts q 0 < f .m
+  shifts-below q l = subst (λ x. x < f .m) (sym (I .shifts-are .at q l)) (shift-below f W rows (I .stands .modulus .0) q)
+
+  pub righting : Righting f W first leaders places shifts orbit
+  righting = record {
+    stands = I .stands;
+    lines = I .lines;
+    leaders-are = I .leaders-are;
+    places-are = I .places-are;
+    shifts-long = I .shifts-are .long;
+    shifts-below = shifts-below;
+    orbit-long = I .orbit-is .long;
+    orbit-listed = λ b l. subst (λ q. q < f .reps) (sym (I .orbit-is .at b l)) (orbit-inside f W (I .stands) r b (I .listed));
+  }
+
+  pub right-is : (j b : ℕ) → f .top < j → j < f .gens → b < f .p → rightIn f W shifts j (getD orbit b 0) ≡ Fm.rightAt (sourceIn f W rows) j r b
+  unfolding rightIn Fm.rightAt
+  right-is j b h l k =
+      let τ = iter (targetOf f W (f .top)) b r in
+      let q = targetOf f W j τ in
+      let inside : q < f .reps = I .stands .target τ (orbit-inside f W (I .stands) r b (I .listed)) j (omega arith) l .0 in
+      let lead : leaderIn f W q < f .reps = omega (arith, inside, lead-below f W (I .stands) q inside) in
+      ap (rightIn f W shifts j) (I .orbit-is .at b k)
+      ∙ ap (λ x. plus (f .m) (cond (ltb (suc (positionIn f W q)) (f .p)) 0 x) (act (f .m) (sourceIn f W [] .matrix q (f .top)) (act (f .m) (sourceIn f W [] .matrix τ j) (entry 0 0))) .exp) (I .shifts-are .at (leaderIn f W q) lead)
+
+  pub left-is : (j : ℕ) (b : ℕ) (t : Moved) → Held f W r (Fm.conjugateEntry (sourceIn f W rows) j r b) t
+      → act (f .m) (sourceIn f W [] .matrix (iter (targetOf f W (f .top)) (t .block) r) j) (t .x) .exp ≡ Fm.leftAt (sourceIn f W rows) j r b
+  unfolding Fm.leftAt
+  left-is j b t H = λ o. act (f .m) (sourceIn f W [] .matrix (iter (targetOf f W (f .top)) (H .block-is o) r) j) (H .entry-is o) .exp

@@ -5,22 +5,24 @@
 --   Inducing                   what is known where the representation induced from the orbit of r is written
 --   Cycled                     one step of the generator on top
 --   Righting, rightIn          the two sides of an intertwiner's equation at column 0
+--   NextScalar                 the scalar of the next block
 --   Held                       an entry in a block, within the degree
 --   BlockScalars               an array that holds the scalars of the blocks
 use mathlib.Core.Path.{_≡_}
 use mathlib.Core.List.{List, []}
-use Prim.Native.Nat.{ℕ, suc, _+_, _*_, _≤_, _<_}
+use Prim.Native.Nat.{ℕ, suc, _+_, _*_, _%_, _≤_, _<_}
 use mathlib.Core.Bool.{cond}
 use lib.ListN.{length, getD}
 use lib.Dec.{ltb}
 use Rattle.definitions.specs.Lists.{iter}
-use Rattle.definitions.specs.Monomial.{entry, act}
-use Rattle.formulas.specs.Formulas.{plus, shift, start, blockAt, scalar}
+use Rattle.definitions.specs.Monomial.{entry, less, act}
+use Rattle.formulas.specs.Formulas.{plus, shift, conjugateEntry, leftAt, rightAt, blockAt, scalar}
 use Rattle.formulas.specs.Formulas as Fm
 use Rattle.lines.specs.Lines.{Below}
 use Rattle.survey.specs.declared.Frame.{Frame}
 use Rattle.survey.specs.Below.{degOf, targetOf, sourceIn, leaderIn, positionIn, Stands, Rows, Array, Lines}
 use Rattle.induce.specs.declared.Moved.{Moved}
+use Rattle.induce.specs.declared.Scaled.{Scaled}
 
 module _ (f : Frame) (W : List ℕ) where
   pub record OrbitArray (orbit : List ℕ) (r : ℕ) : Type 0 where
@@ -33,13 +35,12 @@ module _ (f : Frame) (W : List ℕ) where
       pub visits : (b : ℕ) → b < f .p → (t : ℕ) × (t < f .p) × (blockAt (sourceIn f W rows) j r t ≡ b)
       pub once : (t t′ : ℕ) → t < f .p → t′ < f .p → blockAt (sourceIn f W rows) j r t ≡ blockAt (sourceIn f W rows) j r t′ → t ≡ t′
 
-    pub record Inducing (first leaders places numbers shifts orbit : List ℕ) (r : ℕ) : Type 0 where
+    pub record Inducing (first leaders places shifts orbit : List ℕ) (r : ℕ) : Type 0 where
       pub stands : Stands f W
       pub lines : Lines f W first
       pub words : Rows f W rows
       pub leaders-are : Array f W leaders (leaderIn f W)
       pub places-are : Array f W places (positionIn f W)
-      pub numbers-are : Array f W numbers (start (sourceIn f W rows))
       pub shifts-are : Array f W shifts (shift (sourceIn f W rows))
       pub listed : r < f .reps
       pub orbit-is : OrbitArray orbit r
@@ -81,3 +82,10 @@ unfoldable pub rightIn : (f : Frame) → List ℕ → List ℕ → (j r : ℕ) �
 rightIn f W shifts j r =
     let q = targetOf f W j r in
     plus (f .m) (cond (ltb (suc (positionIn f W q)) (f .p)) 0 (getD shifts (leaderIn f W q) 0)) (act (f .m) (sourceIn f W [] .matrix q (f .top)) (act (f .m) (sourceIn f W [] .matrix r j) (entry 0 0))) .exp
+
+-- from one block along generator i to the next, and its scalar
+pub record NextScalar (f : Frame) (W : List ℕ) (rows : List (List ℕ)) (j r : ℕ) (s t : Scaled) : Type 0 where
+  pub block-is : t .block ≡ conjugateEntry (sourceIn f W rows) j r (s .block) .block
+  pub scalar-is : t .exp ≡ less (f .m) ((s .exp + rightAt (sourceIn f W rows) j r (s .block)) % f .m) (leftAt (sourceIn f W rows) j r (s .block))
+  pub block-below : t .block < f .p
+  pub scalar-below : t .exp < f .m

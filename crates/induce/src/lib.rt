@@ -11,7 +11,7 @@ ghost use Rattle.definitions.specs.Monomial.{entry, act};
 ghost use Rattle.formulas.specs.Formulas.{shift, cycleEntry, conjugateEntry};
 ghost use Rattle.lines.specs.Lines.{Below};
 ghost use Rattle.survey.specs.Below.{degOf, targetOf, sourceIn, Stands, Lines};
-ghost use Rattle.induce.specs.Inducing.{OrbitArray, Inducing, BlockScalars, Held, Cycled, Righting, rightIn};
+ghost use Rattle.induce.specs.Inducing.{OrbitArray, Inducing, BlockScalars, Held, Cycled, Righting, rightIn, NextScalar};
 use collector::rows;
 use definitions::Entry;
 use survey::Frame;
@@ -140,4 +140,39 @@ pub fn right(
     let q = survey::target(low, first, f, j, r);
     let c = constant(leaders, places, shifts, f, q);
     extend::right(low, first, f, j, r, q, c)
+}
+
+// A block, and its scalar.
+pub struct Scaled {
+    pub block: u32,
+    pub exp: u32,
+}
+
+// The block behind s along the generator on top, and its scalar.
+pub fn next_scalar(
+    low: &[u32],
+    first: &[u32],
+    rows: &[[u32; 12]; 78],
+    leaders: &[u32],
+    places: &[u32],
+    shifts: &[u32],
+    orbit: &[u32],
+    f: Frame,
+    j: u32,
+    r: u32,
+    s: Scaled,
+) -> Scaled
+    requires { ⌜ Inducing f (now low) (now rows) (now first) (now leaders) (now places) (now shifts) (now orbit) r × (f .top < j) × (j < f .gens) × (s .block < f .p) × (s .exp < f .m) ⌝ }
+    ensures { λ t. ⌜ NextScalar f (now (low .entry)) (now (rows .entry)) j r s t ⌝ }
+{
+    let w = rows::word(rows, lines::up(j), lines::up(f.top));
+    let c = survey::element(shifts, r);
+    let a = conjugate(low, first, orbit, &w, f, c, r, s.block);
+    let l = left(low, first, orbit, f, j, r, a);
+    let y = right(low, first, leaders, places, shifts, orbit, f, j, s.block);
+    let e = lines::add_mod(s.exp, y, f.m);
+    Scaled {
+        block: a.block,
+        exp: lines::sub_mod(e, l, f.m),
+    }
 }
