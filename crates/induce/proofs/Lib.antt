@@ -1,2 +1,3 @@
 -- Laws of induced representations.
 pub mod Laws
+pub mod Along

@@ -176,3 +176,28 @@ pub fn next_scalar(
         exp: lines::sub_mod(e, l, f.m),
     }
 }
+
+// Fills an array with the scalars of the blocks for generator j, from block 0 along the generator on top.
+pub fn scalars(
+    low: &[u32],
+    first: &[u32],
+    rows: &[[u32; 12]; 78],
+    leaders: &[u32],
+    places: &[u32],
+    shifts: &[u32],
+    orbit: &[u32],
+    c: &mut [u32],
+    f: Frame,
+    j: u32,
+    r: u32,
+)
+    requires { ⌜ Inducing f (now low) (now rows) (now first) (now leaders) (now places) (now shifts) (now orbit) r × (f .top < j) × (j < f .gens) × (f .p ≤ length (now c)) ⌝ }
+    ensures { λ _. ⌜ BlockScalars f (now (low .entry)) (now (rows .entry)) (now (c .exit)) j r ⌝ }
+{
+    let mut s = Scaled { block: 0, exp: 0 };
+    let p = f.p;
+    for k in 0..p {
+        survey::store(c, s.block, s.exp);
+        s = next_scalar(low, first, rows, leaders, places, shifts, orbit, f, j, r, s);
+    }
+}

@@ -1,0 +1,85 @@
+-- `scalars`: s is block k along the generator on top, and the scalars before it are stored.
+use mathlib.Core.Path.{_≡_, refl, sym, ap, ap₂, _∙_, subst}
+use mathlib.Core.List.{List, []}
+use Prim.Native.Nat.{ℕ, suc, _+_, _*_, _-_, _≤_, _<_, _%_}
+use native.Mathlib.Omega.{arith}
+use native.Mathlib.Numerals.{add-one}
+use lib.ListN.{length, getD, set, length-set}
+use denote.Ref.{now}
+use Rattle.definitions.specs.declared.Entry.{Entry}
+use Rattle.definitions.specs.Lists.{iter}
+use Rattle.definitions.specs.Monomial.{entry, act}
+use Rattle.formulas.specs.Formulas.{plus}
+use Rattle.lines.specs.Lines.{Below}
+use Rattle.survey.specs.Below.{degOf, targetOf, sourceIn}
+use borrow.Author.Needs.{needs}
+use Rattle.definitions.specs.Monomial.{less}
+use Rattle.formulas.specs.Formulas.{conjugateEntry, leftAt, rightAt, blockAt, scalarAt}
+use Rattle.induce.proofs.Along.{Along, along-none, along-more, along-all, block-next, scalar-next}
+use Rattle.induce.proofs.scalars.Statement.{statement}
+use Rattle.induce.proofs.scalars.Tie as tie
+
+abbrev Inv-loop : tie.InvT-loop
+Inv-loop low first rows leaders places shifts orbit c₀ f j r s₀ p k₀ c s k = (k ≤ p) × (p ≡ f .p) × (s .block ≡ blockAt (sourceIn f low rows) j r k) × (s .exp ≡ scalarAt (sourceIn f low rows) j r k) × (s .block < f .p) × (s .exp < f .m) × (length c ≡ length c₀) × Along f low rows j r c k
+
+abbrev μ-loop : tie.MeasureT-loop
+μ-loop low first rows leaders places shifts orbit c₀ f j r s₀ p k₀ c s k = p - k
+
+loop-holds : tie.Need-loop-holds Inv-loop μ-loop
+unfolding blockAt scalarAt
+loop-holds c = let z = c .before .before .before .before .before .before .before in
+    (search needs, search needs, refl, refl, omega (arith, z .pre .0 .stands .prime), z .pre .0 .stands .modulus .0, refl, along-none (z .args .f) (now (z .args .low)) (now (z .args .rows)) (z .args .j) (z .args .r) (now (z .args .c)))
+
+store-requires : tie.Need-store-requires Inv-loop μ-loop
+store-requires c κs = let z = c .before .before .before .before .before .before .before .before .before .before in let l = c .before .before .loop in omega (arith, l .inv .6, l .inv .4, z .pre .3)
+
+next-scalar-requires : tie.Need-next-scalar-requires Inv-loop μ-loop
+next-scalar-requires c κs = let z = c .before .before .before .before .before .before .before .before .before .before .before .before .before in
+    let l = c .before .before .before .before .before .loop in
+    (z .pre .0, z .pre .1, z .pre .2, l .inv .4, l .inv .5)
+
+add-k : tie.Need-add-k Inv-loop μ-loop
+add-k c = search needs
+
+loop-less : tie.Need-loop-less Inv-loop μ-loop
+loop-less c = search needs
+
+loop-again : tie.Need-loop-again Inv-loop μ-loop
+loop-again c = let z = c .before .before .before .before .before .before .before .before .before .before .before .before .before .before in
+    let l = c .before .before .before .before .before .before .loop in
+    let S = sourceIn (z .args .f) (now (z .args .low)) (now (z .args .rows)) in
+    let a : c .before .before .before .store .last .0 ≡ set (l .c) (l .s .block) (l .s .exp) = c .before .before .before .store .ensures in
+    let N = c .next-scalar .ensures in (
+      search needs,
+      search needs,
+      N .block-is ∙ ap (λ b. conjugateEntry S (z .args .j) (z .args .r) b .block) (l .inv .2) ∙ sym (block-next (z .args .f) (now (z .args .low)) (now (z .args .rows)) (z .args .j) (z .args .r) (l .k)),
+      N .scalar-is ∙ ap₂ (λ b e. less (z .args .f .m) ((e + rightAt S (z .args .j) (z .args .r) b) % z .args .f .m) (leftAt S (z .args .j) (z .args .r) b)) (l .inv .2) (l .inv .3) ∙ sym (scalar-next (z .args .f) (now (z .args .low)) (now (z .args .rows)) (z .args .j) (z .args .r) (l .k)),
+      N .block-below,
+      N .scalar-below,
+      ap length a ∙ length-set (l .c) (l .s .block) (l .s .exp) ∙ l .inv .6,
+      subst (λ x. Along (z .args .f) (now (z .args .low)) (now (z .args .rows)) (z .args .j) (z .args .r) x (l .k + 1)) (sym a) (along-more (z .args .f) (now (z .args .low)) (now (z .args .rows)) (z .args .j) (z .args .r) (z .pre .0 .cycles (z .args .j) (z .pre .1) (z .pre .2)) (l .c) (l .k) (l .s .block) (l .s .exp) (omega (arith, l .inv .1)) (omega (arith, l .inv .4, l .inv .6, z .pre .3)) (l .inv .2) (l .inv .3) (l .inv .7)),
+    )
+
+same-length : tie.Need-same-length Inv-loop μ-loop
+same-length c = c .before .loop .inv .6
+
+returns : tie.Need-returns Inv-loop μ-loop
+returns c = let z = c .before .before .before .before .before .before .before .before .before in
+    let l = c .before .loop in
+    let e : l .k ≡ z .args .f .p = omega arith in
+    along-all (z .args .f) (now (z .args .low)) (now (z .args .rows)) (z .args .j) (z .args .r) (z .pre .0 .cycles (z .args .j) (z .pre .1) (z .pre .2)) (l .c) (omega (arith, l .inv .6, z .pre .3)) (subst (Along (z .args .f) (now (z .args .low)) (now (z .args .rows)) (z .args .j) (z .args .r) (l .c)) e (l .inv .7))
+
+pub scalars-spec : {M : Type 1} → statement M
+scalars-spec =
+    tie.close
+    (tie.spec
+    Inv-loop
+    μ-loop
+    loop-holds
+    store-requires
+    next-scalar-requires
+    add-k
+    loop-less
+    loop-again
+    same-length
+    returns)
