@@ -1,3 +1,5 @@
 -- Laws of induced representations.
 pub mod Laws
 pub mod Along
+pub mod Cases
+pub mod Parts

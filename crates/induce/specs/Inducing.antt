@@ -8,19 +8,25 @@
 --   NextScalar                 the scalar of the next block
 --   Held                       an entry in a block, within the degree
 --   BlockScalars               an array that holds the scalars of the blocks
+--   Surveyed                   what is known of a level where the next is written
+--   Writing                    and what where one generator is
+--   factorIn, referenceIn      the constant of a block, and its reference
+--   partWords                  the words of a block with given constants
+--   blockWords, generatorWords the words of a block, and of a generator
 use mathlib.Core.Path.{_≡_}
 use mathlib.Core.List.{List, []}
 use Prim.Native.Nat.{ℕ, suc, _+_, _*_, _%_, _≤_, _<_}
 use mathlib.Core.Bool.{cond}
 use lib.ListN.{length, getD}
-use lib.Dec.{ltb}
-use Rattle.definitions.specs.Lists.{iter}
+use lib.Dec.{eqb, ltb, leb}
+use Rattle.definitions.specs.Lists.{iter, blocks}
 use Rattle.definitions.specs.Monomial.{entry, less, act}
-use Rattle.formulas.specs.Formulas.{plus, shift, conjugateEntry, leftAt, rightAt, blockAt, scalar}
+use Rattle.definitions.specs.Table.{lineOf}
+use Rattle.formulas.specs.Formulas.{plus, shift, start, conjugateEntry, leftAt, rightAt, blockAt, scalar, blockTo, inductionAt}
 use Rattle.formulas.specs.Formulas as Fm
-use Rattle.lines.specs.Lines.{Below}
+use Rattle.lines.specs.Lines.{Below, blockLines}
 use Rattle.survey.specs.declared.Frame.{Frame}
-use Rattle.survey.specs.Below.{degOf, targetOf, sourceIn, leaderIn, positionIn, Stands, Rows, Array, Lines}
+use Rattle.survey.specs.Below.{degOf, targetOf, matrixOf, sourceIn, leaderIn, positionIn, Stands, Rows, Array, Lines}
 use Rattle.induce.specs.declared.Moved.{Moved}
 use Rattle.induce.specs.declared.Scaled.{Scaled}
 
@@ -89,3 +95,51 @@ pub record NextScalar (f : Frame) (W : List ℕ) (rows : List (List ℕ)) (j r :
   pub scalar-is : t .exp ≡ less (f .m) ((s .exp + rightAt (sourceIn f W rows) j r (s .block)) % f .m) (leftAt (sourceIn f W rows) j r (s .block))
   pub block-below : t .block < f .p
   pub scalar-below : t .exp < f .m
+
+-- arrays that hold what the survey of a level finds
+pub record Surveyed (f : Frame) (W : List ℕ) (rows : List (List ℕ)) (first leaders places numbers shifts : List ℕ) : Type 0 where
+  pub stands : Stands f W
+  pub lines : Lines f W first
+  pub words : Rows f W rows
+  pub leaders-are : Array f W leaders (leaderIn f W)
+  pub places-are : Array f W places (positionIn f W)
+  pub numbers-are : Array f W numbers (start (sourceIn f W rows))
+  pub shifts-are : Array f W shifts (shift (sourceIn f W rows))
+  pub cycles : (r : ℕ) → r < f .reps → ¬ (targetOf f W (f .top) r ≡ r) → (j : ℕ) → f .top < j → j < f .gens → Cycles f W rows j r
+
+-- what is known where generator g of the representation induced from r is written
+pub record Writing (f : Frame) (W : List ℕ) (first places shifts orbit scalars : List ℕ) (r g : ℕ) : Type 0 where
+  pub stands : Stands f W
+  pub lines : Lines f W first
+  pub places-are : Array f W places (positionIn f W)
+  pub listed : r < f .reps
+  pub orbit-is : OrbitArray f W orbit r
+  pub shift-below : (r < length shifts) × (getD shifts r 0 < f .m)
+  pub scalars-long : f .p ≤ length scalars
+  pub scalars-below : f .top < g → (b : ℕ) → b < f .p → getD scalars b 0 < f .m
+
+-- ---- The lines
+
+-- the constant of block b for generator g, from the shifts and the scalars
+unfoldable pub factorIn : Frame → List ℕ → List ℕ → (r g b : ℕ) → ℕ
+factorIn f shifts scalars r g b = cond (ltb g (f .top)) 0 (cond (eqb g (f .top)) (cond (ltb (suc b) (f .p)) 0 (getD shifts r 0)) (getD scalars b 0))
+
+-- the reference there, from the orbit and that of the generators above
+unfoldable pub referenceIn : Frame → List ℕ → (x g b : ℕ) → ℕ
+referenceIn f orbit x g b = cond (leb g (f .top)) (getD orbit b 0) x
+
+-- block b of generator g goes to block t by the c-th power of the root, with reference x
+unfoldable pub partWords : Frame → List ℕ → (rep r g b t c x : ℕ) → List ℕ
+partWords f W rep r g b t c x =
+    let d = degOf f W r in
+    blockLines (f .m) (record { level = suc (f .top); rep = rep; deg = f .p * d; generator = suc g; refn = x }) (b * d) (t * d) c d W (matrixOf f W g (iter (targetOf f W (f .top)) b r))
+
+-- what a generator's blocks are written with
+unfoldable pub partsIn : Frame → List ℕ → (orbit shifts scalars : List ℕ) → (x rep r g : ℕ) → ℕ → List ℕ
+partsIn f W orbit shifts scalars x rep r g b = partWords f W rep r g b (blockTo (sourceIn f W []) r g b) (factorIn f shifts scalars r g b) (referenceIn f orbit x g b)
+
+unfoldable pub blockWords : Frame → List ℕ → List (List ℕ) → (rep r g b : ℕ) → List ℕ
+blockWords f W rows rep r g b = blocks (degOf f W r) (λ k. lineOf (suc (f .top)) rep (inductionAt (sourceIn f W rows) r) g (b * degOf f W r + k))
+
+unfoldable pub generatorWords : Frame → List ℕ → List (List ℕ) → (rep r g : ℕ) → List ℕ
+generatorWords f W rows rep r g = blocks (f .p * degOf f W r) (λ c. lineOf (suc (f .top)) rep (inductionAt (sourceIn f W rows) r) g c)

@@ -4,16 +4,20 @@ ghost use mathlib.Core.List.{List, []};
 ghost use Prim.Native.Nat.{ℕ, suc, _+_, _*_, _≤_, _<_};
 ghost use mathlib.Core.Bool.{cond};
 ghost use lib.ListN.{length, getD, take};
-ghost use lib.Dec.{ltb};
-ghost use Rattle.definitions.specs.Lists.{iter};
+ghost use lib.Dec.{ltb, leb};
+ghost use Rattle.definitions.specs.Lists.{iter, blocks};
 ghost use Rattle.definitions.specs.Presentation.{pairNumber};
 ghost use Rattle.definitions.specs.Monomial.{entry, act};
-ghost use Rattle.formulas.specs.Formulas.{shift, cycleEntry, conjugateEntry};
+ghost use Rattle.formulas.specs.Formulas.{shift, start, leader, cycleEntry, conjugateEntry, blockTo, inductionAt};
 ghost use Rattle.lines.specs.Lines.{Below};
 ghost use Rattle.survey.specs.Below.{degOf, targetOf, sourceIn, Stands, Lines};
-ghost use Rattle.induce.specs.Inducing.{OrbitArray, Inducing, BlockScalars, Held, Cycled, Righting, rightIn, NextScalar};
+ghost use Rattle.induce.specs.Inducing.{OrbitArray, Inducing, BlockScalars, Held, Cycled, Righting, rightIn, NextScalar, Surveyed, Writing, factorIn, referenceIn, partWords, partsIn, generatorWords};
+ghost use Rattle.survey.specs.Below.{positionIn, leaderIn, Array};
+ghost use Rattle.text.specs.Writing.{Wrote};
+ghost use Rattle.definitions.specs.Table.{repWords};
 use collector::rows;
 use definitions::Entry;
+use lines::Head;
 use survey::Frame;
 
 // An entry in a block of an orbit.
@@ -200,4 +204,122 @@ pub fn scalars(
         survey::store(c, s.block, s.exp);
         s = next_scalar(low, first, rows, leaders, places, shifts, orbit, f, j, r, s);
     }
+}
+
+// The block to which generator g takes block b.
+pub fn block_to(
+    low: &[u32],
+    first: &[u32],
+    places: &[u32],
+    orbit: &[u32],
+    f: Frame,
+    r: u32,
+    g: u32,
+    b: u32,
+) -> u32
+    requires { ⌜ Stands f (now low) × Lines f (now low) (now first) × Array f (now low) (now places) (positionIn f (now low)) × (r < f .reps) × OrbitArray f (now low) (now orbit) r × (g < f .gens) × (b < f .p) ⌝ }
+    ensures { λ t. ⌜ (t ≡ blockTo (sourceIn f (now (low .entry)) []) r g b) × (t < f .p) ⌝ }
+{
+    if g < f.top {
+        return b;
+    }
+    if g == f.top {
+        return if b + 1 < f.p { b + 1 } else { 0 };
+    }
+    let q = survey::element(orbit, b);
+    let s = survey::target(low, first, f, g, q);
+    survey::element(places, s)
+}
+
+// Its constant: the scalars are those of a generator above the one on top.
+pub fn block_by(shifts: &[u32], scalars: &[u32], f: Frame, r: u32, g: u32, b: u32) -> u32
+    requires { ⌜ (r < length (now shifts)) × (b < length (now scalars)) × (b < f .p) × (f .p ≤ 4096) × (0 < f .m) × (getD (now shifts) r 0 < f .m) × (f .top < g → getD (now scalars) b 0 < f .m) ⌝ }
+    ensures { λ c. ⌜ (c ≡ factorIn f (now (shifts .entry)) (now (scalars .entry)) r g b) × (c < f .m) ⌝ }
+{
+    if g < f.top {
+        return 0;
+    }
+    if g > f.top {
+        return survey::element(scalars, b);
+    }
+    if b + 1 < f.p {
+        0
+    } else {
+        survey::element(shifts, r)
+    }
+}
+
+// Its reference: x for the generators above the one on top.
+pub fn block_reference(orbit: &[u32], f: Frame, g: u32, b: u32, x: u32) -> u32
+    requires { ⌜ b < length (now orbit) ⌝ }
+    ensures { λ y. ⌜ y ≡ referenceIn f (now (orbit .entry)) x g b ⌝ }
+{
+    if g <= f.top {
+        survey::element(orbit, b)
+    } else {
+        x
+    }
+}
+
+// Appends block b of generator g of the representation induced from r, numbered rep: it goes to block t by the c-th power
+// of the root. Returns the next line's number.
+pub fn append_part(
+    words: &mut [u32],
+    first: &[u32],
+    orbit: &[u32],
+    f: Frame,
+    at: usize,
+    rep: u32,
+    r: u32,
+    g: u32,
+    b: u32,
+    t: u32,
+    c: u32,
+    x: u32,
+) -> usize
+    requires { ⌜ Stands f (take (8 * f .end) (now words)) × Lines f (take (8 * f .end) (now words)) (now first) × (r < f .reps) × OrbitArray f (take (8 * f .end) (now words)) (now orbit) r × (g < f .gens) × (b < f .p) × (t < f .p) × (c < f .m) × (f .end ≤ at) × (8 * at + 8 * degOf f (take (8 * f .end) (now words)) r ≤ length (now words)) ⌝ }
+    ensures { λ y. ⌜ Wrote (now (words .entry)) (8 * at) (partWords f (take (8 * f .end) (now (words .entry))) rep r g b t c x) (now (words .exit)) (8 * y) ⌝ }
+{
+    let n = 8 * f.end;
+    let q = survey::element(orbit, b);
+    let src = survey::matrix_line(&words[..n], first, f, g, q);
+    let d = survey::degree(&words[..n], first, f, q);
+    let h = Head {
+        level: f.top + 1,
+        rep: rep,
+        deg: f.p * d,
+        generator: g + 1,
+        refn: x,
+    };
+    lines::append_block(words, f.end, at, h, b * d, t * d, src, d, c, f.m)
+}
+
+// Appends generator g, block by block; x is the reference of the generators above the one on top.
+pub fn append_generator(
+    words: &mut [u32],
+    first: &[u32],
+    places: &[u32],
+    shifts: &[u32],
+    orbit: &[u32],
+    scalars: &[u32],
+    f: Frame,
+    at: usize,
+    rep: u32,
+    r: u32,
+    g: u32,
+    x: u32,
+) -> usize
+    requires { ⌜ Writing f (take (8 * f .end) (now words)) (now first) (now places) (now shifts) (now orbit) (now scalars) r g × (g < f .gens) × (f .end ≤ at) × (8 * at + f .p * (8 * degOf f (take (8 * f .end) (now words)) r) ≤ length (now words)) ⌝ }
+    ensures { λ y. ⌜ Wrote (now (words .entry)) (8 * at) (blocks (f .p) (partsIn f (take (8 * f .end) (now (words .entry))) (now (orbit .entry)) (now (shifts .entry)) (now (scalars .entry)) x rep r g)) (now (words .exit)) (8 * y) ⌝ }
+{
+    let n = 8 * f.end;
+    let mut pos = at;
+    let p = f.p;
+    for b in 0..p {
+        let t = block_to(&words[..n], first, places, orbit, f, r, g, b);
+        let c = block_by(shifts, scalars, f, r, g, b);
+        let y = block_reference(orbit, f, g, b, x);
+        pos = append_part(words, first, orbit, f, pos, rep, r, g, b, t, c, y);
+    }
+    pos
 }

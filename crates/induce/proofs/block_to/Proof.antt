@@ -1,0 +1,71 @@
+-- `block_to`, case by case.
+use mathlib.Core.Path.{_≡_, refl, sym, ap, ap₂, _∙_, subst}
+use mathlib.Core.List.{List, []}
+use Prim.Native.Nat.{ℕ, suc, _+_, _*_, _-_, _≤_, _<_, _%_}
+use native.Mathlib.Omega.{arith}
+use native.Mathlib.Numerals.{add-one}
+use lib.ListN.{length, getD, set, length-set}
+use denote.Ref.{now}
+use Rattle.definitions.specs.declared.Entry.{Entry}
+use Rattle.definitions.specs.Lists.{iter}
+use Rattle.definitions.specs.Monomial.{entry, act}
+use Rattle.formulas.specs.Formulas.{plus}
+use Rattle.lines.specs.Lines.{Below}
+use Rattle.survey.specs.Below.{degOf, targetOf, sourceIn}
+use borrow.Author.Needs.{needs}
+use Rattle.survey.specs.Below.{matrixOf, positionIn}
+use Rattle.survey.proofs.Marking.{orbit-inside, pos-below}
+use Rattle.induce.proofs.Laws.{orbit-degree}
+use Rattle.induce.proofs.Cases.{to-low, to-next, to-last, to-above, by-low, by-next, by-last, by-above, reference-low, reference-above, block-fits}
+use borrow.Author.Needs.{needs}
+use Rattle.induce.proofs.block_to.Statement.{statement}
+use Rattle.induce.proofs.block_to.Tie as tie
+
+returns : tie.Need-returns
+returns c = let z = c .before .before .before .before .before .before in (to-low (z .args .f) (now (z .args .low)) (z .args .r) (z .args .g) (z .args .b) (omega (arith, c .if1 .taken)), z .pre .6)
+
+add-if3 : tie.Need-add-if3
+add-if3 c = search needs
+
+add-result : tie.Need-add-result
+add-result c = search needs
+
+returns-2 : tie.Need-returns-2
+returns-2 c = let z = c .before .before .before .before .before .before .before .before .before .before in (add-one _ ∙ to-next (z .args .f) (now (z .args .low)) (z .args .r) (z .args .g) (z .args .b) (omega (arith, c .before .before .if2 .taken)) (omega (arith, c .if3 .taken)), omega (arith, c .if3 .taken))
+
+returns-3 : tie.Need-returns-3
+returns-3 c = let z = c .before .before .before .before .before .before .before .before .before .before in (to-last (z .args .f) (now (z .args .low)) (z .args .r) (z .args .g) (z .args .b) (omega (arith, c .before .before .if2 .taken)) (omega (arith, c .if3 .left)), omega (arith, z .pre .0 .prime))
+
+element-requires : tie.Need-element-requires
+element-requires c κs = search needs
+
+target-requires : tie.Need-target-requires
+target-requires c κs = let z = c .before .before .before .before .before .before .before .before .before in
+    let above : z .args .f .top < z .args .g = omega (arith, c .before .if2 .left, c .before .before .before .if1 .left) in
+    (z .pre .0, z .pre .1, subst (λ q. q < z .args .f .reps) (sym (c .element .ensures ∙ z .pre .4 .at (z .args .b) (z .pre .6))) (orbit-inside (z .args .f) (now (z .args .low)) (z .pre .0) (z .args .r) (z .args .b) (z .pre .3)), omega (arith, above), z .pre .5)
+
+element-requires-2 : tie.Need-element-requires-2
+element-requires-2 c κs = let z = c .before .before .before .before .before .before .before .before .before .before in omega (arith, c .target .ensures .1, z .pre .2 .long)
+
+returns-4 : tie.Need-returns-4
+returns-4 c = let z = c .before .before .before .before .before .before .before .before .before .before .before in
+    let above : z .args .f .top < z .args .g = omega (arith, c .before .before .before .if2 .left, c .before .before .before .before .before .if1 .left) in
+    let t = c .before .target .ensures in
+    let e = c .element2 .ensures ∙ z .pre .2 .at _ (t .1) in (
+      e ∙ ap (positionIn (z .args .f) (now (z .args .low))) (t .0 ∙ ap (targetOf (z .args .f) (now (z .args .low)) (z .args .g)) (c .before .before .element .ensures ∙ z .pre .4 .at (z .args .b) (z .pre .6))) ∙ to-above (z .args .f) (now (z .args .low)) (z .args .r) (z .args .g) (z .args .b) above,
+      subst (λ x. x < z .args .f .p) (sym e) (pos-below (z .args .f) (now (z .args .low)) (z .pre .0) _ (t .1)),
+    )
+
+pub block-to-spec : {M : Type 1} → statement M
+block-to-spec =
+    tie.close
+    (tie.spec
+    returns
+    add-if3
+    add-result
+    returns-2
+    returns-3
+    element-requires
+    target-requires
+    element-requires-2
+    returns-4)
