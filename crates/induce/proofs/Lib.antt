@@ -3,3 +3,4 @@ pub mod Laws
 pub mod Along
 pub mod Cases
 pub mod Parts
+pub mod Generators

@@ -105,7 +105,7 @@ pub record Surveyed (f : Frame) (W : List ℕ) (rows : List (List ℕ)) (first l
   pub places-are : Array f W places (positionIn f W)
   pub numbers-are : Array f W numbers (start (sourceIn f W rows))
   pub shifts-are : Array f W shifts (shift (sourceIn f W rows))
-  pub cycles : (r : ℕ) → r < f .reps → ¬ (targetOf f W (f .top) r ≡ r) → (j : ℕ) → f .top < j → j < f .gens → Cycles f W rows j r
+  pub cycles : (r : ℕ) → r < f .reps → ¬ (targetOf f W (f .top) r ≡ r) → leaderIn f W r ≡ r → (j : ℕ) → f .top < j → j < f .gens → Cycles f W rows j r
 
 -- what is known where generator g of the representation induced from r is written
 pub record Writing (f : Frame) (W : List ℕ) (first places shifts orbit scalars : List ℕ) (r g : ℕ) : Type 0 where

@@ -323,3 +323,128 @@ pub fn append_generator(
     }
     pos
 }
+
+// For a generator above the one on top, fills the array with its scalars.
+pub fn find_scalars(
+    low: &[u32],
+    first: &[u32],
+    rows: &[[u32; 12]; 78],
+    leaders: &[u32],
+    places: &[u32],
+    shifts: &[u32],
+    orbit: &[u32],
+    c: &mut [u32],
+    f: Frame,
+    r: u32,
+    g: u32,
+)
+    requires { ⌜ Inducing f (now low) (now rows) (now first) (now leaders) (now places) (now shifts) (now orbit) r × (g < f .gens) × (f .p ≤ length (now c)) ⌝ }
+    ensures { λ _. ⌜ (f .top < g → BlockScalars f (now (low .entry)) (now (rows .entry)) (now (c .exit)) g r) ⌝ }
+{
+    if g > f.top {
+        scalars(low, first, rows, leaders, places, shifts, orbit, c, f, g, r);
+    }
+}
+
+// The number of the representation to which a generator above the one on top takes the one induced from r.
+pub fn induced_target(
+    low: &[u32],
+    first: &[u32],
+    leaders: &[u32],
+    numbers: &[u32],
+    f: Frame,
+    r: u32,
+    g: u32,
+) -> u32
+    requires { ⌜ Stands f (now low) × Lines f (now low) (now first) × Array f (now low) (now leaders) (leaderIn f (now low)) × (f .reps ≤ length (now numbers)) × (r < f .reps) × (g < f .gens) ⌝ }
+    ensures { λ x. ⌜ (f .top < g → x ≡ getD (now (numbers .entry)) (leaderIn f (now (low .entry)) (targetOf f (now (low .entry)) g r)) 0) ⌝ }
+{
+    if g <= f.top {
+        return 0;
+    }
+    let q = survey::target(low, first, f, g, r);
+    let l = survey::element(leaders, q);
+    survey::element(numbers, l)
+}
+
+// Appends generator g of the representation induced from r, numbered rep.
+pub fn append_one(
+    words: &mut [u32],
+    first: &[u32],
+    rows: &[[u32; 12]; 78],
+    leaders: &[u32],
+    places: &[u32],
+    numbers: &[u32],
+    shifts: &[u32],
+    orbit: &[u32],
+    c: &mut [u32],
+    f: Frame,
+    at: usize,
+    rep: u32,
+    r: u32,
+    g: u32,
+) -> usize
+    requires { ⌜ Inducing f (take (8 * f .end) (now words)) (now rows) (now first) (now leaders) (now places) (now shifts) (now orbit) r × Array f (take (8 * f .end) (now words)) (now numbers) (start (sourceIn f (take (8 * f .end) (now words)) (now rows))) × (g < f .gens) × (f .p ≤ length (now c)) × (f .end ≤ at) × (8 * at + f .p * (8 * degOf f (take (8 * f .end) (now words)) r) ≤ length (now words)) ⌝ }
+    ensures { λ y. ⌜ Wrote (now (words .entry)) (8 * at) (generatorWords f (take (8 * f .end) (now (words .entry))) (now (rows .entry)) rep r g) (now (words .exit)) (8 * y) ⌝ }
+{
+    let n = 8 * f.end;
+    let x = induced_target(&words[..n], first, leaders, numbers, f, r, g);
+    find_scalars(
+        &words[..n],
+        first,
+        rows,
+        leaders,
+        places,
+        shifts,
+        orbit,
+        c,
+        f,
+        r,
+        g,
+    );
+    append_generator(words, first, places, shifts, orbit, c, f, at, rep, r, g, x)
+}
+
+// Appends the representation induced from the orbit of r, the least of it.
+pub fn append_induction(
+    words: &mut [u32],
+    first: &[u32],
+    rows: &[[u32; 12]; 78],
+    leaders: &[u32],
+    places: &[u32],
+    numbers: &[u32],
+    shifts: &[u32],
+    orbit: &mut [u32],
+    c: &mut [u32],
+    f: Frame,
+    at: usize,
+    r: u32,
+) -> usize
+    requires { ⌜ Surveyed f (take (8 * f .end) (now words)) (now rows) (now first) (now leaders) (now places) (now numbers) (now shifts) × (r < f .reps) × (¬ (targetOf f (take (8 * f .end) (now words)) (f .top) r ≡ r)) × (leaderIn f (take (8 * f .end) (now words)) r ≡ r) × (f .end ≤ at) × (8 * at + 8 * (f .gens * (f .p * degOf f (take (8 * f .end) (now words)) r)) ≤ length (now words)) × (f .p ≤ length (now orbit)) × (f .p ≤ length (now c)) ⌝ }
+    ensures { λ y. ⌜ Wrote (now (words .entry)) (8 * at) (repWords (f .gens) (suc (f .top)) (start (sourceIn f (take (8 * f .end) (now (words .entry))) (now (rows .entry))) r) (inductionAt (sourceIn f (take (8 * f .end) (now (words .entry))) (now (rows .entry))) r)) (now (words .exit)) (8 * y) ⌝ }
+{
+    let n = 8 * f.end;
+    list_orbit(&words[..n], first, orbit, f, r);
+    let rep = survey::element(numbers, r);
+    let mut pos = at;
+    let gens = f.gens;
+    for g in 0..gens {
+        pos = append_one(
+            words,
+            first,
+            rows,
+            leaders,
+            places,
+            numbers,
+            shifts,
+            orbit,
+            c,
+            f,
+            pos,
+            rep,
+            r,
+            g,
+        );
+    }
+    pos
+}
