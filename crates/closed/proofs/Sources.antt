@@ -196,3 +196,142 @@ module _ (T : Twins) where
     scalar-same : (k : ℕ) → Fm.scalar left j r k ≡ Fm.scalar right j r k
     unfolding Fm.scalar
     scalar-same k = scalarAt-same _ ∙ ap (Fm.scalarAt right j r) (least-below p _ _ (λ t l. ap (λ s. eqb s k) (block-same t)))
+
+  -- ---- Representations
+
+  module _ (r : ℕ) (h : r < count) where
+    extension-matrix : (k g : ℕ) → g < n → Fm.extensionAt left r k .matrix g ≡ Fm.extensionAt right r k .matrix g
+    unfolding Fm.extensionAt
+    extension-matrix k g l = ap₂ (λ s M. scale m (cond (eqb g i) (s / p + k * (m / p)) 0) M) (shift-same r h) (T .matrix-same r g h l)
+
+    extension-ref : (k g c : ℕ) → g < n → Fm.extensionAt left r k .ref g c ≡ Fm.extensionAt right r k .ref g c
+    unfolding Fm.extensionAt
+    extension-ref k g c l = go (decLt i g)
+      where
+        go : Dec (i < g) → cond (leb g i) r (Fm.start left (target g r) + (Fm.landing left g r + k * suc (w g .0)) % p) ≡ cond (leb g i) r (Fm.start right (target′ g r) + (Fm.landing right g r + k * suc (w g .0)) % p)
+        go (yes a) =
+            let in-t : target g r < count = T .target-below g r (omega arith) l h in
+            ap₂ (λ s d. cond (leb g i) r (s + (d + k * suc (w g .0)) % p)) (start-same (target g r) (omega arith) ∙ ap (Fm.start right) (T .target-same g r (omega arith) l h)) (landing-same g r a l h)
+        go (no a) = cond-true (leb g i) _ _ (le-leb g i (omega arith)) ∙ sym (cond-true (leb g i) _ _ (le-leb g i (omega arith)))
+
+    to-block : (g b : ℕ) → g < n → Fm.blockTo left r g b ≡ Fm.blockTo right r g b
+    unfolding Fm.blockTo
+    to-block g b l = go (decLt i g)
+      where
+        go : Dec (i < g) → cond (ltb g i) b (cond (eqb g i) (Fm.nextOf left b) (Fm.position left (target g (Fm.orbit left r b)))) ≡ cond (ltb g i) b (cond (eqb g i) (Fm.nextOf right b) (Fm.position right (target′ g (Fm.orbit right r b))))
+        go (yes a) = ap (λ x. cond (ltb g i) b (cond (eqb g i) (Fm.nextOf left b) x)) (position-same _ (to-in g r a l h b) ∙ ap (Fm.position right) (to-same g r a l h b))
+        go (no a) = low (ℕ-discrete g i)
+          where
+            low : Dec (g ≡ i) → cond (ltb g i) b (cond (eqb g i) (Fm.nextOf left b) (Fm.position left (target g (Fm.orbit left r b)))) ≡ cond (ltb g i) b (cond (eqb g i) (Fm.nextOf right b) (Fm.position right (target′ g (Fm.orbit right r b))))
+            low (yes e) = ap (cond (ltb g i) b) (cond-eq g i _ _ e ∙ sym (cond-eq g i _ _ e))
+            low (no e) = cond-lt g i _ _ (omega arith) ∙ sym (cond-lt g i _ _ (omega arith))
+
+    by-block : (g b : ℕ) → g < n → Fm.blockBy left r g b ≡ Fm.blockBy right r g b
+    unfolding Fm.blockBy
+    by-block g b l = go (decLt i g)
+      where
+        go : Dec (i < g) → cond (ltb g i) 0 (cond (eqb g i) (Fm.shiftOf left r b) (Fm.scalar left g r b)) ≡ cond (ltb g i) 0 (cond (eqb g i) (Fm.shiftOf right r b) (Fm.scalar right g r b))
+        go (yes a) = ap₂ (λ x y. cond (ltb g i) 0 (cond (eqb g i) x y)) (shiftOf-same r b h) (scalar-same g r a l h b)
+        go (no a) = low (ℕ-discrete g i)
+          where
+            low : Dec (g ≡ i) → cond (ltb g i) 0 (cond (eqb g i) (Fm.shiftOf left r b) (Fm.scalar left g r b)) ≡ cond (ltb g i) 0 (cond (eqb g i) (Fm.shiftOf right r b) (Fm.scalar right g r b))
+            low (yes e) = ap (cond (ltb g i) 0) (cond-eq g i _ _ e ∙ shiftOf-same r b h ∙ sym (cond-eq g i _ _ e))
+            low (no e) = cond-lt g i _ _ (omega arith) ∙ sym (cond-lt g i _ _ (omega arith))
+
+    induction-matrix : (g : ℕ) → g < n → Fm.inductionAt left r .matrix g ≡ Fm.inductionAt right r .matrix g
+    unfolding Fm.inductionAt
+    induction-matrix g l = blocks-below p _ _ (λ b a.
+        ap₂ (λ x d. lift (x * d) (scale m (Fm.blockBy left r g b) (matrix (Fm.orbit left r b) g))) (to-block g b l) (T .degree-same r h)
+        ∙ ap₂ (λ y M. lift (Fm.blockTo right r g b * degree′ r) (scale m y M)) (by-block g b l) (orbit-matrix r b g h l))
+
+    induction-ref : (g c : ℕ) → g < n → Fm.inductionAt left r .ref g c ≡ Fm.inductionAt right r .ref g c
+    unfolding Fm.inductionAt
+    induction-ref g c l = go (decLt i g)
+      where
+        go : Dec (i < g) → cond (leb g i) (Fm.orbit left r (c / degree r)) (Fm.start left (Fm.leader left (target g r))) ≡ cond (leb g i) (Fm.orbit right r (c / degree′ r)) (Fm.start right (Fm.leader right (target′ g r)))
+        go (yes a) =
+            let in-t : target g r < count = T .target-below g r (omega arith) l h in
+            let in-l : Fm.leader left (target g r) < count = leader-in (target g r) in-t in
+            ap₂ (cond (leb g i)) (orbit-same (c / degree r) r h .0 ∙ ap (λ d. Fm.orbit right r (c / d)) (T .degree-same r h)) (start-same _ (omega arith) ∙ ap (Fm.start right) (leader-same (target g r) ∙ ap (Fm.leader right) (T .target-same g r (omega arith) l h)))
+        go (no a) =
+            cond-true (leb g i) _ _ (le-leb g i (omega arith)) ∙ orbit-same (c / degree r) r h .0 ∙ ap (λ d. Fm.orbit right r (c / d)) (T .degree-same r h)
+            ∙ sym (cond-true (leb g i) _ _ (le-leb g i (omega arith)))
+
+  -- ---- The level
+
+  -- what two representations say alike
+  record Alike (D D′ : Rep) : Type 0 where
+    deg-same : D .deg ≡ D′ .deg
+    mat-same : (g : ℕ) → g < n → D .matrix g ≡ D′ .matrix g
+    ref-same : (g c : ℕ) → g < n → D .ref g c ≡ D′ .ref g c
+
+  given-length : (S : Source) (r : ℕ) → length (Fm.givenAt S r) ≡ Fm.made S r
+  unfolding Fm.givenAt Fm.made
+  given-length S r = go (Fm.fixed S r) (eqb (Fm.leader S r) r)
+    where
+      go : (b c : Bool) → length (cond b (map (Fm.extensionAt S r) (upto (S .p))) (cond c (Fm.inductionAt S r ∷ []) [])) ≡ cond b (S .p) (cond c 1 0)
+      go true c = length-table (Fm.extensionAt S r) (S .p)
+      go false true = refl
+      go false false = refl
+
+  level-length : (S : Source) → length (Fm.levelBy S) ≡ sum (S .count) (Fm.made S)
+  unfolding Fm.levelBy
+  level-length S = length-blocks (S .count) (Fm.givenAt S) ∙ sum-below (S .count) _ (Fm.made S) (λ r l. given-length S r)
+
+  level-at : (S : Source) (s κ : ℕ) → s < S .count → κ < Fm.made S s → repOf (Fm.levelBy S) (sum s (Fm.made S) + κ) ≡ getD (Fm.givenAt S s) κ noRep
+  unfolding Fm.levelBy repOf
+  level-at S s κ h l =
+      ap (λ z. getD (blocks (S .count) (Fm.givenAt S)) (z + κ) noRep) (sym (sum-below s (λ k. length (Fm.givenAt S k)) (Fm.made S) (λ k a. given-length S k)))
+      ∙ getD-blocks noRep (S .count) (Fm.givenAt S) s κ h (subst (λ z. κ < z) (sym (given-length S s)) l)
+
+  extension-alike : (r k : ℕ) → r < count → Alike (Fm.extensionAt left r k) (Fm.extensionAt right r k)
+  extension-alike r k h = record { deg-same = deg-of; mat-same = extension-matrix r h k; ref-same = λ g c l. extension-ref r h k g c l }
+    where
+      deg-of : Fm.extensionAt left r k .deg ≡ Fm.extensionAt right r k .deg
+      deg-of = unfold Fm.extensionAt in (T .degree-same r h)
+
+  induction-alike : (r : ℕ) → r < count → Alike (Fm.inductionAt left r) (Fm.inductionAt right r)
+  induction-alike r h = record { deg-same = deg-of; mat-same = induction-matrix r h; ref-same = λ g c l. induction-ref r h g c l }
+    where
+      deg-of : Fm.inductionAt left r .deg ≡ Fm.inductionAt right r .deg
+      deg-of = unfold Fm.inductionAt in (ap (λ d. p * d) (T .degree-same r h))
+
+  none-alike : Alike noRep noRep
+  none-alike = record { deg-same = refl; mat-same = λ g l. refl; ref-same = λ g c l. refl }
+
+  given-alike : (s κ : ℕ) → s < count → κ < Fm.made left s → Alike (getD (Fm.givenAt left s) κ noRep) (getD (Fm.givenAt right s) κ noRep)
+  unfolding Fm.givenAt Fm.made
+  given-alike s κ h l =
+      subst (λ z. Alike (getD (Fm.givenAt left s) κ noRep) (getD z κ noRep)) (ap₂ (λ t q. cond (eqb t s) (map (Fm.extensionAt right s) (upto p)) (cond (eqb q s) (Fm.inductionAt right s ∷ []) [])) (turn-same s h) (leader-same s))
+      (go (eqb (target i s) s) (eqb (Fm.leader left s) s) l)
+    where
+      go : (b c : Bool) → κ < cond b p (cond c 1 0)
+          → Alike (getD (cond b (map (Fm.extensionAt left s) (upto p)) (cond c (Fm.inductionAt left s ∷ []) [])) κ noRep) (getD (cond b (map (Fm.extensionAt right s) (upto p)) (cond c (Fm.inductionAt right s ∷ []) [])) κ noRep)
+      go true c a =
+          subst (λ D. Alike D (getD (map (Fm.extensionAt right s) (upto p)) κ noRep)) (sym (getD-table (Fm.extensionAt left s) p κ noRep a))
+          (subst (λ D. Alike (Fm.extensionAt left s κ) D) (sym (getD-table (Fm.extensionAt right s) p κ noRep a)) (extension-alike s κ h))
+      go false true a = let z : 0 ≡ κ = omega arith in subst (λ k. Alike (getD (Fm.inductionAt left s ∷ []) k noRep) (getD (Fm.inductionAt right s ∷ []) k noRep)) z (induction-alike s h)
+      go false false a = absurd (omega arith)
+
+  rep-alike : (r : ℕ) → r < length (Fm.levelBy left) → Alike (repOf (Fm.levelBy left) r) (repOf (Fm.levelBy right) r)
+  rep-alike r l =
+      let o = owner (Fm.made left) count r (subst (λ z. r < z) (level-length left) l) in
+      let κ′ : o .κ < Fm.made right (o .s) = subst (λ z. o .κ < z) (made-same (o .s) (o .s-below)) (o .κ-below) in
+      let start : sum (o .s) (Fm.made right) ≡ sum (o .s) (Fm.made left) = sym (sum-below (o .s) _ _ (λ k a. made-same k (omega (arith, o .s-below)))) in
+      subst (λ D. Alike D (repOf (Fm.levelBy right) r)) (sym (ap (repOf (Fm.levelBy left)) (sym (o .is)) ∙ level-at left (o .s) (o .κ) (o .s-below) (o .κ-below)))
+      (subst (λ D. Alike (getD (Fm.givenAt left (o .s)) (o .κ) noRep) D) (sym (ap (repOf (Fm.levelBy right)) (sym (ap (λ z. z + o .κ) start ∙ o .is)) ∙ level-at right (o .s) (o .κ) (o .s-below) κ′)) (given-alike (o .s) (o .κ) (o .s-below) (o .κ-below)))
+
+  pub twins-length : length (Fm.levelBy left) ≡ length (Fm.levelBy right)
+  twins-length = level-length left ∙ sum-below count _ _ made-same ∙ sym (level-length right)
+
+  pub twins-words : (k : ℕ) → levelWords (T .n) k (Fm.levelBy left) ≡ levelWords (T .n) k (Fm.levelBy right)
+  unfolding levelWords repWords lineOf
+  twins-words k =
+      blocks-below (length (Fm.levelBy left)) _ (λ r. repWords n k r (repOf (Fm.levelBy right) r)) (λ r h. rep-words r (repOf (Fm.levelBy left) r) (repOf (Fm.levelBy right) r) (rep-alike r h))
+      ∙ ap (λ z. blocks z (λ r. repWords n k r (repOf (Fm.levelBy right) r))) twins-length
+    where
+      rep-words : (r : ℕ) (D D′ : Rep) → Alike D D′ → repWords n k r D ≡ repWords n k r D′
+      rep-words r D D′ a =
+          blocks-below n _ (λ g. blocks (D′ .deg) (λ c. lineOf k r D′ g c)) (λ g l.
+          blocks-below (D .deg) _ (λ c. lineOf k r D′ g c) (λ c b. λ o. k ∷ r ∷ a .deg-same o ∷ suc g ∷ a .ref-same g c l o ∷ c ∷ col (a .mat-same g l o) c .row ∷ col (a .mat-same g l o) c .exp ∷ [])
+          ∙ ap (λ d. blocks d (λ c. lineOf k r D′ g c)) (a .deg-same))
