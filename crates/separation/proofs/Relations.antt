@@ -1,0 +1,1 @@
+-- For any table that 21 and 23 let pass, 22 is decided by the relations of the generator on top of each level.
