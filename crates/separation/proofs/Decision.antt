@@ -28,8 +28,8 @@ use Rattle.monomial.proofs.Exponents.{cancel}
 use Rattle.monomial.proofs.Residues.{residues, Residue-path}
 use Rattle.separation.specs.Decision.{blockCount, blockStarts, reference, outside, unshared, differs, parted, quick}
 use Rattle.separation.proofs.Foreign.{Index, Index-path, d, reached, separated, separates-intro}
-use Rattle.separation.proofs.Cutting.{cut, cut-zero, cut-one, width, Cut, cuts-each, cuts-all}
-use Rattle.separation.proofs.Restricted.{Two, P, Low, High, Rp, S, Ω, Ω⁺, F, passing, all-both, all-pass, wide, locate, locate-is, base, blocked, block-known}
+use Rattle.separation.proofs.Cutting.{all-both, cut, cut-zero, cut-one, width, Cut, cuts-each, cuts-all}
+use Rattle.separation.proofs.Restricted.{Two, P, Low, High, Rp, S, Ω, Ω⁺, F, passing, all-pass, wide, locate, locate-is, base, blocked, block-known}
 use Rattle.separation.proofs.Blocks as B
 use Rattle.separation.proofs.Numbers.{count, count-end, starts, passes-at, begins-below, block-below, count-pos, at-block, at-located, first-index, first-located, G, Gᵏ, form-rep, G-rep, Gᵏ-rep, G-exp, block, same-block, Stays, stays?, outside-moves, moves-outside, powers-inject}
 
@@ -134,7 +134,7 @@ module _ (W : Two) where
             (cuts-each (Low W) (Rp W r) (λ o. passing W r o && q o) (λ o s. wide W r o (and-left (passing W r o) _ s)) (both (blockStarts (P W) table i r) (all-pass W r h) t) b (starts W r b l))
           where
             both : (xs : List ℕ) → all (passing W r) xs ≡ true → all q xs ≡ true → all (λ o. passing W r o && q o) xs ≡ true
-            both xs s t = all-both W (passing W r) q xs s t
+            both xs s t = all-both (passing W r) q xs s t
 
         go : OneOf (eqb (x .0 .0) (y .0 .0) && eqb (cut (Low W) (Rp W (x .0 .0)) (locate W x .b)) (cut (Low W) (Rp W (y .0 .0)) (locate W y .b))) (not (eqb (ref (x .0 .0) (cut (Low W) (Rp W (x .0 .0)) (locate W x .b))) (ref (y .0 .0) (cut (Low W) (Rp W (y .0 .0)) (locate W y .b)))))
             → block W x ≡ block W y

@@ -41,7 +41,7 @@ use Rattle.separation.specs.Blocked.{Blocked}
 use Rattle.separation.specs.Fair.{Fair}
 use Rattle.separation.specs.Restricting.{Restricting}
 use Rattle.separation.proofs.Foreign.{Index, Index-path, D, D-shows, d, d-hom, word, form-shows, foreign-family}
-use Rattle.separation.proofs.Cutting.{cut, width, cut-one, Cut, cut-at}
+use Rattle.separation.proofs.Cutting.{all-both, cut, width, cut-one, Cut, cut-at}
 
 pub record Two : Type 0 where
   pub C : Context
@@ -91,11 +91,6 @@ module _ (W : Two) where
 
   unfoldable pub passing : ℕ → ℕ → Bool
   passing r o = Judgement.wholeBlock Low (Rp r) o && Judgement.blockRestricts P m table i (Rp r) o
-
-  pub all-both : (q q′ : ℕ → Bool) (xs : List ℕ) → all q xs ≡ true → all q′ xs ≡ true → all (λ x. q x && q′ x) xs ≡ true
-  unfolding all
-  all-both q q′ [] h k = refl
-  all-both q q′ (x ∷ xs) h k = and-intro _ _ (and-intro _ _ (and-left (q x) (all q xs) h) (and-left (q′ x) (all q′ xs) k)) (all-both q q′ xs (and-right (q x) (all q xs) h) (and-right (q′ x) (all q′ xs) k))
 
   pub all-pass : (r : ℕ) → r < length High → all (passing r) (Judgement.cuts Low (Rp r)) ≡ true
   unfolding passing
