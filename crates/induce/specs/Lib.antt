@@ -1,2 +1,0 @@
--- What an induced representation is made with.
-pub mod Inducing
