@@ -20,3 +20,4 @@ pub mod Judged
 pub mod Cuts
 pub mod Theorem
 pub mod Formulas
+pub mod Calls

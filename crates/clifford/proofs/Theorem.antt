@@ -115,6 +115,9 @@ module _ (A : Accepted) where
   unfolding Judgement.everywhere
   everywhere-holds q h = allBelow-intro n _ (λ i l. allBelow-intro (length (Lv (suc i))) _ (λ r a. h i l r a))
 
+  pub whole-words : (k : ℕ) × (length (tableOf (A .C .P)) ≡ lineWords * k)
+  whole-words = (_, ap length table-is ∙ table-length W)
+
   -- ---- 21
 
   whole-lines : eqb (length T % lineWords) 0 ≡ true
@@ -192,3 +195,7 @@ module _ (R : Relations) (formed : wellFormed R ≡ true) (primes : someNotPrime
 
   pub built-passes : judgement (presentation R) (tableOf (presentation R)) ≡ 0
   built-passes = subst (λ P. judgement P (tableOf P) ≡ 0) accepted-is (table-passes accepted)
+
+  -- the words of the table are whole lines
+  pub table-words : (k : ℕ) × (length (tableOf (presentation R)) ≡ lineWords * k)
+  table-words = let (k, e) = whole-words accepted in (k, ap (λ P. length (tableOf P)) (sym accepted-is) ∙ e)
