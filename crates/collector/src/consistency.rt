@@ -141,9 +141,9 @@ pub fn is_inner_at(primes: &Row, words: &Words, i: usize, k: usize) -> bool
     let g = generator(k);
     let p = primes[i];
     let t = turned(primes, words, i, g, p);
-    let l = product(primes, words, i, u, t);
-    let r = product(primes, words, i, g, u);
-    same(i, l, r)
+    let left = product(primes, words, i, u, t);
+    let right = product(primes, words, i, g, u);
+    same(i, left, right)
 }
 
 // The same at every generator below i.

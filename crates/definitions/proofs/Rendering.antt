@@ -222,7 +222,7 @@ Fields (x ∷ xs) = Field x × Fields xs
 digit-plain : (b : ℕ) → Digit b → Plain b
 digit-plain b h = (λ q. omega arith, λ q. omega arith)
 
-field-each : (x : Bytes) → Field x → Each Plain x
+pub field-each : (x : Bytes) → Field x → Each Plain x
 field-each [] h = tt
 field-each (b ∷ bs) h = h
 

@@ -5,17 +5,16 @@
 --   product-turn, order-exceeds, order-within   a turn of the product; the ceiling
 --   entry-high, entry-zero, entry-power, entry-commutator     an exponent, case by case
 --   p-power, p-commutator, pair-stray, pair-row     a line, by its p and its word
---   allBelow-fails                 one number fails the test of all
 --   Tested, tested-none, tested-more, tested-all, tested-fails      a loop of tests
 --   Listed, listed-none, listed-more, listed-all      the primes of the first generators
 use mathlib.Core.Path.{_≡_, refl, sym, ap, ap₂, subst, _∙_}
 use mathlib.Core.Logic.{_≢_}
-use mathlib.Core.Bool.{Bool, true, false, _&&_, _||_, cond, false≢true}
+use mathlib.Core.Bool.{Bool, true, false, _&&_, _||_}
 use mathlib.Core.List.{List, []}
 use Prim.Native.Nat.{ℕ, zero, suc, _+_, _*_, _/_, _<_, _≤_}
 use native.Mathlib.Nat.{mul-div-cancel-left, mul-le-mul-right, mul-comm}
 use native.Mathlib.Numerals.{add-one}
-use native.Mathlib.Decide.{decLt, ℕ-discrete}
+use native.Mathlib.Decide.{ℕ-discrete}
 use native.Mathlib.Omega.{arith}
 use lib.ListN.{length, getD, set, replicate, length-set}
 use lib.Seq.{getD-set-same, getD-set-other}
@@ -25,19 +24,15 @@ use borrow.Author.Tests.{lt-ltb, le-ltb, le-leb, lt-leb, eq-eqb, ne-eqb}
 use Rattle.definitions.specs.Lists.{sum, allBelow}
 use Rattle.definitions.specs.Presentation.{pairNumber, allowed, maxOrder}
 use Rattle.numbers.proofs.Bools.{cond-eq, cond-ne}
-use Rattle.numbers.proofs.Lists.{allBelow-elim, allBelow-intro, sum-mono}
+use Rattle.numbers.proofs.Lists.{allBelow-intro, allBelow-fails, sum-mono}
+use Rattle.numbers.proofs.Sums.{sum-zero, sum-suc}
 use Rattle.group.proofs.Pairs.{pairNumber-below}
 use Rattle.presentation.specs.Conditions.{product, entryWell, rowWells, pairWell, Primes}
-use Rattle.presentation.proofs.Pairs.{sum-suc}
 
 -- ---- Numbers of pairs
 
-zero-sum : sum 0 suc ≡ 0
-unfolding sum
-zero-sum = refl
-
 pub twice : (j : ℕ) → 2 * sum j suc ≡ j * (j + 1)
-twice zero = omega (arith, zero-sum)
+twice zero = omega (arith, sum-zero suc)
 twice (suc j) = omega (arith, twice j, sum-suc j suc)
 
 pub triangle : (j : ℕ) → j * (j + 1) / 2 ≡ sum j suc
@@ -140,13 +135,6 @@ module _ (words : List (List ℕ)) (ps primes : List ℕ) (n j i r : ℕ) (is : 
   pair-row h = tests ∙ ap (λ (b : Bool). b && rowWells (getD words r []) primes n j i) h
 
 -- ---- Tests
-
-pub allBelow-fails : (n : ℕ) (q : ℕ → Bool) (k : ℕ) → k < n → q k ≡ false → allBelow n q ≡ false
-allBelow-fails n q k l h = pick (allBelow n q) refl
-  where
-    pick : (b : Bool) → allBelow n q ≡ b → b ≡ false
-    pick true w = absurd (false≢true (sym h ∙ allBelow-elim n q w k l))
-    pick false w = refl
 
 -- a test that the numbers below k have passed
 pub record Tested (q : ℕ → Bool) (k : ℕ) : Type 0 where

@@ -4,17 +4,17 @@
 --   head-known                the p that was read is the one that stands there
 --   head-none, head-other, head-none-2, head-other-2     why none stands there
 --   head-some                 what the third read says
-use mathlib.Core.Path.{_≡_, refl, sym, ap, subst, _∙_}
-use mathlib.Core.List.{List, [], _∷_, _++_, append-assoc, append-cancel-left}
-use Prim.Native.Nat.{ℕ, suc, _+_, _<_, _≤_}
+use mathlib.Core.Path.{_≡_, sym, ap, _∙_}
+use mathlib.Core.List.{[], _∷_, _++_, append-assoc, append-cancel-left}
+use Prim.Native.Nat.{ℕ, suc, _<_}
 use native.Mathlib.Omega.{arith}
 use lib.ListN.{drop}
 use Rattle.definitions.specs.Text.{Bytes, largest, decimal}
 use Rattle.text.specs.Reading.{Ends, ValueAt, NoValue, ReadAt, trail}
 use Rattle.text.specs.declared.Read.{Read}
-use Rattle.text.specs.declared.Read.the-variants.{Value, Nothing}
+use Rattle.text.specs.declared.Read.the-variants.{Nothing}
 use Rattle.text.proofs.Reading.{read-known, value-unique}
-use Rattle.text.proofs.Trail.{trail-nil, trail-cons, ends-byte}
+use Rattle.text.proofs.Trail.{trail-nil, trail-cons}
 use Rattle.presentation.specs.Lines.{headText, HeadLine, NoHead, HeadAt}
 
 pub head-text : (j i p : ℕ) (r : Bytes) → headText j i p ++ r ≡ decimal (suc j) ++ (32 ∷ decimal (suc i) ++ (32 ∷ decimal p ++ r))

@@ -5,31 +5,29 @@
 --   refused-form, not-prime, too-many, concluded     the answers 11, 12, 13, and what `Concluded` says
 --   primes-positive             a prime is not 0
 --   concluded-large, concluded-misused, concluded-well     how `Concluded` is reached
---   accept-refused, accept-consistent  the same answers as the call that also asks 15
 use mathlib.Core.Path.{_≡_, refl, sym, ap, ap₂, subst, _∙_}
-use mathlib.Core.Logic.{_⊎_, inl, inr}
-use mathlib.Core.Bool.{Bool, true, false, _&&_, _||_, not, cond, true≢false, false≢true}
-use mathlib.Core.List.{List, [], _∷_, _++_}
+use mathlib.Core.Logic.{inl, inr}
+use mathlib.Core.Bool.{Bool, true, false, _&&_, _||_, not, cond, false≢true}
+use mathlib.Core.List.{List, [], _++_}
 use Prim.Native.Nat.{ℕ, zero, suc, _*_, _<_, _≤_}
 use native.Mathlib.Omega.{arith}
 use lib.ListN.{length, getD, drop}
 use lib.Dec.{ltb, leb, eqb}
 use borrow.Author.Tests.{lt-ltb, le-ltb, leb-true, leb-false}
-use Rattle.definitions.specs.Lists.{sum, all, allBelow}
+use Rattle.definitions.specs.Lists.{all, allBelow}
 use Rattle.definitions.specs.Text.{Bytes, line, render}
-use Rattle.definitions.specs.Presentation.{Relations, Says, InForm, textOf, presentationNames, pairs, pairNumber, rowOf, presentation, order, isPrime, allowed, maxGenerators, maxOrder, someNotPrime, tooLarge, misused, rowWell}
-use Rattle.definitions.specs.Consistency.{Consistent}
-use Rattle.definitions.specs.Answers.{First, says, Accept}
-use Rattle.definitions.proofs.Rendering.{rowFormed, Formed, wellFormed-formed, formed-wellFormed, line-unique, presentationNames-fields, presentationNames-injective, says-unique}
-use Rattle.numbers.proofs.Lists.{allBelow-intro}
+use Rattle.definitions.specs.Presentation.{Relations, Says, InForm, textOf, presentationNames, pairs, pairNumber, rowOf, presentation, order, isPrime, maxGenerators, maxOrder, someNotPrime, tooLarge, misused, rowWell}
+use Rattle.definitions.specs.Answers.{says}
+use Rattle.definitions.proofs.Rendering.{rowFormed, wellFormed-formed, formed-wellFormed, line-unique, presentationNames-fields, presentationNames-injective, says-unique}
+use Rattle.numbers.proofs.Lists.{allBelow-intro, allBelow-fails}
 use Rattle.group.proofs.Pairs.{length-pairs, pairNumber-below}
 use Rattle.presentation.specs.declared.Outcome.{Outcome}
 use Rattle.presentation.specs.Lines.{NamesLine, NoNames}
-use Rattle.presentation.specs.Rows.{noRow, rowText, Stored, AllLines, NoLines}
+use Rattle.presentation.specs.Rows.{noRow, rowText, AllLines, NoLines}
 use Rattle.presentation.specs.Conditions.{product, entryWell, rowWells, pairWell, allWell, Primes}
-use Rattle.presentation.specs.Outcome.{Holds, textRefusals, ReadText, Concluded}
+use Rattle.presentation.specs.Outcome.{Holds, ReadText, Concluded}
 use Rattle.presentation.proofs.Primes.{not-prime-small}
-use Rattle.presentation.proofs.Conditions.{allBelow-fails, product-zero, product-suc, number-within}
+use Rattle.presentation.proofs.Conditions.{product-zero, product-suc, number-within}
 
 -- ---- Texts that are not in the form
 
@@ -201,21 +199,6 @@ module _ {t : Bytes} {n next : ℕ} (nm : NamesLine t n next) {words : List (Lis
 
 pub refused-form : {t : Bytes} → ¬ InForm t → {o : Outcome} → o .status ≡ 11 → ReadText t o
 refused-form h e = record { answered = inl (h, e); held = λ z. absurd (omega arith) }
-
--- the call that also asks 15 answers the same, and 15 is asked where none of these applies
-pub accept-refused : {t : Bytes} {a : ℕ} → First (textRefusals t) a → (a ≡ 0 → ⊥) → Accept t a
-accept-refused (inl h) n = inl h
-accept-refused (inr (h, inl k)) n = inr (h, inl k)
-accept-refused (inr (h, inr (k, inl l))) n = inr (h, inr (k, inl l))
-accept-refused (inr (h, inr (k, inr (l, inl m)))) n = inr (h, inr (k, inr (l, inl m)))
-accept-refused (inr (h, inr (k, inr (l, inr (m, e))))) n = absurd (n e)
-
-pub accept-consistent : {t : Bytes} {a : ℕ} → First (textRefusals t) 0 → First ((15, says t (λ (R : Relations). ¬ Consistent (presentation R))) ∷ []) a → Accept t a
-accept-consistent (inl h) f = absurd (omega (arith, h .1))
-accept-consistent (inr (h, inl k)) f = absurd (omega (arith, k .1))
-accept-consistent (inr (h, inr (k, inl l))) f = absurd (omega (arith, l .1))
-accept-consistent (inr (h, inr (k, inr (l, inl m)))) f = absurd (omega (arith, m .1))
-accept-consistent (inr (h, inr (k, inr (l, inr (m, e))))) f = inr (h, inr (k, inr (l, inr (m, f))))
 
 -- ---- What was kept
 

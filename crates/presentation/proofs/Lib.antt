@@ -1,4 +1,5 @@
 -- Laws of reading a presentation.
+pub mod Nested
 pub mod Primes
 pub mod Pairs
 pub mod Heads
@@ -8,3 +9,4 @@ pub mod Rows
 pub mod Reading
 pub mod Conditions
 pub mod Judged
+pub mod Accepted

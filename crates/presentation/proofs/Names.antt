@@ -6,9 +6,10 @@
 --   names-ahead               the names behind the first n
 --   NamesGoing                n names have been read
 --   names-none, names-more    none; one more
---   names-unstarted, names-refuse, names-end     why the line is refused; the whole line
+--   names-unstarted, names-refuse, names-fails, names-other, names-stops    why the line is refused
+--   names-end                 the whole line
 use mathlib.Core.Path.{_≡_, refl, sym, ap, subst, _∙_}
-use mathlib.Core.List.{List, [], _∷_, _++_, map, map-append, append-assoc, append-nil, append-cancel-left, head-eq-of-cons-eq}
+use mathlib.Core.List.{[], _∷_, _++_, map, map-append, append-assoc, append-nil, append-cancel-left, head-eq-of-cons-eq}
 use Prim.Native.Nat.{ℕ, zero, suc, _+_, _<_, _≤_}
 use native.Mathlib.Numerals.{add-one}
 use native.Mathlib.Decide.{decLt, ℕ-discrete}

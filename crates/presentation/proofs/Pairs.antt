@@ -1,18 +1,14 @@
 -- The pair of the next line.
 --
---   sum-suc                      one term more
 --   next-inner, next-generator, next-first, next-power     the four ways to go on from a pair
-use mathlib.Core.Path.{_≡_, refl, sym, ap, _∙_}
+use mathlib.Core.Path.{_≡_, ap, _∙_}
 use Prim.Native.Nat.{ℕ, suc, _+_, _<_, _≤_}
 use native.Mathlib.Numerals.{add-one}
 use native.Mathlib.Omega.{arith}
 use Rattle.definitions.specs.Lists.{sum}
 use Rattle.definitions.specs.Presentation.{pairNumber}
+use Rattle.numbers.proofs.Sums.{sum-suc}
 use Rattle.group.proofs.Pairs.{pairNumber-power, pairNumber-commutator}
-
-pub sum-suc : (n : ℕ) (f : ℕ → ℕ) → sum (suc n) f ≡ sum n f + f n
-unfolding sum
-sum-suc n f = refl
 
 -- from (j, i) to (j, i + 1)
 pub next-inner : (j i : ℕ) → i + 1 < j → pairNumber j (i + 1) ≡ pairNumber j i + 1

@@ -5,7 +5,7 @@
 --   Tried, tried-none, tried-more       no divisor below d
 --   prime-tried            none up to the root: prime
 --   square-fits, root-below, root-less   bounds of the trial divisors
-use mathlib.Core.Path.{_≡_, refl, sym, ap, subst, _∙_}
+use mathlib.Core.Path.{_≡_, refl, sym, ap, _∙_}
 use mathlib.Core.Bool.{Bool, true, false, _&&_, _||_, not, false≢true}
 use Prim.Native.Nat.{ℕ, zero, suc, _+_, _*_, _/_, _%_, _<_, _≤_}
 use native.Mathlib.Nat.{div-add-mod', mul-le-mul, mul-mod-left, mul-comm}

@@ -1,14 +1,16 @@
 -- Laws of reading all lines of values.
 --
+--   kept-words-length, kept-ps-length, stored-one     what is kept of one line more
+--   passes-prime, passes-composite     what the test of a p says
 --   Reading                     k lines have been read, and the next is that of (j, i)
 --   reading-none, reading-more  none; one more
---   reading-no-line             the next line is none: the text is not in the form
+--   reading-below, reading-no-line, reading-over      a line is wanted; it is none; more stands behind the last
 --   reading-end, reading-refused     every line has been read; a line was refused
-use mathlib.Core.Path.{_≡_, refl, sym, ap, ap₂, subst, _∙_}
+use mathlib.Core.Path.{_≡_, refl, sym, ap, _∙_}
 use mathlib.Core.Logic.{_≢_}
 use mathlib.Core.Bool.{Bool, true, false, _&&_, _||_, not, true≢false, false≢true}
 use mathlib.Core.List.{List, [], _∷_, _++_, append-nil}
-use Prim.Native.Nat.{ℕ, zero, suc, _+_, _<_, _≤_}
+use Prim.Native.Nat.{ℕ, suc, _+_, _<_, _≤_}
 use native.Mathlib.Decide.{decLt, ℕ-discrete}
 use native.Mathlib.Omega.{arith}
 use lib.ListN.{length, getD, set, drop, length-append, length-set, length-drop, drop-of-length-le}
@@ -16,15 +18,14 @@ use lib.Seq.{getD-set-same, getD-set-other}
 use lib.Dec.{eqb}
 use borrow.Author.Tests.{eqb-true, eqb-false, eq-eqb, ne-eqb}
 use Rattle.definitions.specs.Lists.{sum, all}
-use Rattle.definitions.specs.Text.{Bytes, largest}
-use Rattle.definitions.specs.Presentation.{Row, pairs, pairNumber, rowValues, isPrime}
+use Rattle.definitions.specs.Text.{Bytes}
+use Rattle.definitions.specs.Presentation.{Row, pairs, pairNumber, isPrime}
 use Rattle.definitions.proofs.Rendering.{rowFormed}
 use Rattle.numbers.proofs.Bools.{and-left, and-right}
 use Rattle.numbers.proofs.Lists.{all-getD}
+use Rattle.numbers.proofs.Sums.{sum-zero}
 use Rattle.group.proofs.Pairs.{length-pairs, pairNumber-power, pairNumber-commutator, pairNumber-below}
-use Rattle.text.proofs.Reading.{drop-front}
 use Rattle.text.proofs.Trail.{all-one}
-use Rattle.presentation.specs.declared.lines.Lines.{Lines}
 use Rattle.presentation.specs.Lines.{HeadLine, WordLine}
 use Rattle.presentation.specs.Rows.{noRow, rowText, passes, Kept, Stored, AllLines, NoLines, LinesAt}
 use Rattle.presentation.proofs.Words.{getD-snoc, getD-snoc-other}
@@ -126,10 +127,6 @@ all-nil : {A : Type 0} (q : A → Bool) → all q [] ≡ true
 unfolding all
 all-nil q = refl
 
-zero-sum : sum 0 suc ≡ 0
-unfolding sum
-zero-sum = refl
-
 number-least : (j i : ℕ) → i ≤ j → sum j suc ≤ pairNumber j i
 number-least j i l = pick (ℕ-discrete i j)
   where
@@ -146,7 +143,7 @@ module _ {t : Bytes} {start n : ℕ} where
         count = refl;
         formed = none;
         text = ap (λ (xs : Bytes). xs ++ drop start t) (sym (rowText-nil n));
-        number = pairNumber-power 0 ∙ zero-sum;
+        number = pairNumber-power 0 ∙ sum-zero suc;
         below = omega arith;
         top = omega arith;
         few = omega arith;

@@ -5,18 +5,18 @@
 --   NoLine, line-no-head, line-no-word      why no line of a pair stands somewhere
 --   rowText-nil, rowText-one     no rows; one row more
 --   rows-ahead, rows-whole       rows that stand before others are the first of them
---   formed-row                   what the form asks of a row
-use mathlib.Core.Path.{_≡_, refl, sym, ap, ap₂, subst, _∙_}
-use mathlib.Core.Bool.{Bool, true, _&&_}
-use mathlib.Core.List.{List, [], _∷_, _++_, map, flatMap, zipWith, append-assoc, append-nil, tail-eq-of-cons-eq}
-use Prim.Native.Nat.{ℕ, zero, suc, _+_, _<_, _≤_}
+--   formed-count, formed-p, formed-small, formed-row      what the form asks of a row
+use mathlib.Core.Path.{_≡_, refl, sym, ap, _∙_}
+use mathlib.Core.Bool.{true, _&&_}
+use mathlib.Core.List.{List, [], _∷_, _++_, flatMap, zipWith, append-assoc, append-nil}
+use Prim.Native.Nat.{ℕ, suc, _+_, _<_, _≤_}
 use native.Mathlib.Nat.{le-of-suc-le-suc, suc-inj}
 use native.Mathlib.Decide.{ℕ-discrete}
 use native.Mathlib.Omega.{arith}
 use lib.ListN.{length, getD, drop, length-map}
 use lib.Dec.{eqb, leb}
 use borrow.Author.Tests.{eqb-true, eq-eqb, le-leb, leb-true}
-use Rattle.definitions.specs.Lists.{upto, blocks, sum, all}
+use Rattle.definitions.specs.Lists.{upto, blocks, sum}
 use Rattle.definitions.specs.Text.{Bytes, largest, decimal, valueLine, small}
 use Rattle.definitions.specs.Presentation.{Row, pairsOf, pairs, pairNumber, rowValues}
 use Rattle.definitions.proofs.Rendering.{rowFormed, valueLine-unique, flatMap-cons, flatMap-nil}

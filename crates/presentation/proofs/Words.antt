@@ -4,22 +4,21 @@
 --   Going                     k exponents have been read
 --   going-none, going-more, going-past      none; one more, kept or not
 --   going-fails, going-stops, going-end     why a word is refused; a whole word
+--   going-as                  what is kept, said otherwise
 use mathlib.Core.Path.{_≡_, refl, sym, ap, subst, _∙_}
 use mathlib.Core.Logic.{_≢_}
 use mathlib.Core.Bool.{true, false, true≢false, false≢true}
-use mathlib.Core.List.{List, [], _∷_, _++_, append-nil}
+use mathlib.Core.List.{List, [], _∷_, _++_}
 use Prim.Native.Nat.{ℕ, zero, suc, _+_, _<_, _≤_}
-use native.Mathlib.Numerals.{add-one}
 use native.Mathlib.Decide.{ℕ-discrete}
 use native.Mathlib.Omega.{arith}
 use lib.ListN.{length, getD, drop, set, replicate, length-append, length-set, getD-replicate, drop-of-length-le}
 use lib.Seq.{drop-cons, getD-at, getD-set-same, getD-set-other}
-use Rattle.definitions.specs.Text.{Bytes, largest, decimal, small}
+use Rattle.definitions.specs.Text.{Bytes, small}
 use Rattle.text.specs.Reading.{Ends, ValueAt, NoValue, trail}
 use Rattle.text.proofs.Reading.{drop-front, drop-byte}
 use Rattle.text.proofs.Trail.{trail-nil, trail-cons, trail-one, trail-ahead, ends-byte, ends-trail, small-nil, small-one, small-at}
-use Rattle.presentation.specs.declared.lines.Word.{Word}
-use Rattle.presentation.specs.Lines.{WordLine, NoWord, WordAt}
+use Rattle.presentation.specs.Lines.{NoWord, WordAt}
 
 -- ---- The last element of a list
 

@@ -11,6 +11,7 @@ use lib.ListN.{length, getD}
 use lib.Dec.{ltb, eqb}
 use Rattle.definitions.specs.Lists.{allBelow}
 use Rattle.definitions.specs.Presentation.{pairNumber, allowed}
+use Rattle.presentation.specs.Lines.{rowWidth}
 
 unfoldable pub product : List ℕ → ℕ → ℕ
 product primes zero = 1
@@ -32,4 +33,4 @@ allWell words ps primes n = allBelow n (λ j. allBelow (suc j) (λ i. pairWell w
 
 pub record Primes (ps : List ℕ) (n : ℕ) (primes : List ℕ) : Type 0 where
   pub each : (j : ℕ) → j < n → getD primes j 0 ≡ getD ps (pairNumber j j) 0
-  pub twelve : length primes ≡ 12
+  pub twelve : length primes ≡ rowWidth

@@ -1,10 +1,11 @@
 -- What stands at the lines of a presentation text.
 --
+--   rowWidth, rowCount             exponents of a row, and rows
 --   NamesLine, NoNames, NamesAt    the names line of n exponents
 --   headText, HeadLine, NoHead, HeadAt     j, i and p of a line
 --   WordLine, NoWord, WordAt       the exponents and the end of a line
 use mathlib.Core.Path.{_≡_}
-use mathlib.Core.Bool.{Bool, true, false}
+use mathlib.Core.Bool.{true, false}
 use mathlib.Core.List.{List, [], _∷_, _++_}
 use Prim.Native.Nat.{ℕ, suc, _<_, _≤_}
 use lib.ListN.{length, getD, drop}
@@ -14,6 +15,14 @@ use Rattle.text.specs.Reading.{Ends, trail}
 use Rattle.text.specs.declared.Read.{Read}
 use Rattle.text.specs.declared.Read.the-variants.{Value, Nothing}
 use Rattle.presentation.specs.declared.lines.Word.{Word}
+
+-- ---- The size of the rows
+
+abbrev pub rowWidth : ℕ
+rowWidth = 12
+
+abbrev pub rowCount : ℕ
+rowCount = 78
 
 -- ---- The names line
 
@@ -53,13 +62,13 @@ module _ (t : Bytes) (at j i : ℕ) where
 -- ---- The exponents
 
 module _ (t : Bytes) (at n : ℕ) where
-  -- n exponents, of which `kept` has the first twelve and zeros behind them
+  -- n exponents, of which `kept` has as many as a row has, and zeros behind them
   pub record WordLine (kept : List ℕ) (next : ℕ) : Type 0 where
     pub word : List ℕ
     pub count : length word ≡ n
     pub small-all : small word ≡ true
     pub text : drop at t ≡ trail word ++ 10 ∷ drop next t
-    pub keeps : (k : ℕ) → k < 12 → getD kept k 0 ≡ getD word k 0
+    pub keeps : (k : ℕ) → k < rowWidth → getD kept k 0 ≡ getD word k 0
     pub further : at < next
     pub within : next ≤ length t
 

@@ -11,7 +11,7 @@ use Prim.Native.Nat.{ℕ, _<_, _≤_}
 use lib.ListN.{getD}
 use lib.Dec.{leb}
 use Rattle.definitions.specs.Text.{Bytes}
-use Rattle.definitions.specs.Presentation.{Relations, Says, InForm, maxGenerators, maxOrder, pairNumber, rowOf, someNotPrime, tooLarge, misused}
+use Rattle.definitions.specs.Presentation.{Relations, InForm, maxGenerators, maxOrder, pairNumber, rowOf, someNotPrime, tooLarge, misused}
 use Rattle.definitions.specs.Answers.{First, says}
 use Rattle.presentation.specs.declared.Presentation.{Presentation}
 use Rattle.presentation.specs.declared.Outcome.{Outcome}

@@ -2,20 +2,21 @@
 --
 --   noRow, rowText          the row that is none; the text of the first rows of a presentation
 --   passes                  the p of a pair (j, i) is no obstacle: i is not j, or p is prime
---   Kept                    a line kept in the words and the list of its p, if it is one of the first 78
---   Stored                  the first 78 rows are kept so
+--   Kept                    a line kept in the words and the list of its p, if there is a row for it
+--   Stored                  every row for which there is room is kept so
 --   AllLines, NoLines, LinesAt     what reading all lines says
 use mathlib.Core.Path.{_≡_}
 use mathlib.Core.Bool.{Bool, true, false, _||_, not}
-use mathlib.Core.List.{List, [], _∷_, zipWith, flatMap}
+use mathlib.Core.List.{List, [], zipWith, flatMap}
 use Prim.Native.Nat.{ℕ, _<_, _≤_}
 use lib.ListN.{length, getD, set, drop}
 use lib.Dec.{eqb}
 use Rattle.definitions.specs.Lists.{all}
 use Rattle.definitions.specs.Text.{Bytes, valueLine}
-use Rattle.definitions.specs.Presentation.{Row, Relations, pairs, pairNumber, rowValues, isPrime}
+use Rattle.definitions.specs.Presentation.{Row, pairs, pairNumber, rowValues, isPrime}
 use Rattle.definitions.proofs.Rendering.{rowFormed}
 use Rattle.presentation.specs.declared.lines.Lines.{Lines}
+use Rattle.presentation.specs.Lines.{rowWidth, rowCount}
 
 abbrev pub noRow : Row
 noRow = record { p = 2; word = [] }
@@ -27,15 +28,15 @@ abbrev pub passes : ℕ → ℕ → ℕ → Bool
 passes j i p = not (eqb i j) || isPrime p
 
 pub record Kept (words : List (List ℕ)) (ps : List ℕ) (k p : ℕ) (e : List ℕ) (words′ : List (List ℕ)) (ps′ : List ℕ) : Type 0 where
-  pub kept-word : k < 78 → words′ ≡ set words k e
-  pub kept-p : k < 78 → ps′ ≡ set ps k p
-  pub past-word : 78 ≤ k → words′ ≡ words
-  pub past-p : 78 ≤ k → ps′ ≡ ps
+  pub kept-word : k < rowCount → words′ ≡ set words k e
+  pub kept-p : k < rowCount → ps′ ≡ set ps k p
+  pub past-word : rowCount ≤ k → words′ ≡ words
+  pub past-p : rowCount ≤ k → ps′ ≡ ps
 
--- of each row the p and the first twelve exponents
+-- of each row the p and as many exponents as are kept
 pub record Stored (rows : List Row) (words : List (List ℕ)) (ps : List ℕ) : Type 0 where
-  pub word-kept : (m : ℕ) → m < length rows → m < 78 → (c : ℕ) → c < 12 → getD (getD words m []) c 0 ≡ getD (getD rows m noRow .word) c 0
-  pub p-kept : (m : ℕ) → m < length rows → m < 78 → getD ps m 0 ≡ getD rows m noRow .p
+  pub word-kept : (m : ℕ) → m < length rows → m < rowCount → (c : ℕ) → c < rowWidth → getD (getD words m []) c 0 ≡ getD (getD rows m noRow .word) c 0
+  pub p-kept : (m : ℕ) → m < length rows → m < rowCount → getD ps m 0 ≡ getD rows m noRow .p
 
 module _ (t : Bytes) (start n : ℕ) where
   -- the lines from `start` on are those of rows in the form, and nothing stands behind them

@@ -4,20 +4,25 @@
 //   primes_of         the primes, from the list of every p
 //   order_fits        whether the order is at most the ceiling
 //   entry_well, row_well, p_well, pair_well, generator_well, well     whether every word is allowed
+use crate::GENERATORS;
+use crate::ORDER;
+use crate::PAIRS;
+use crate::Row;
+use crate::Words;
 ghost use mathlib.Core.Path.{_≡_};
-ghost use mathlib.Core.Bool.{_&&_, _||_};
-ghost use mathlib.Core.List.{[]};
+ghost use mathlib.Core.Bool.{_||_};
 ghost use Prim.Native.Nat.{ℕ, suc, _+_, _<_, _≤_};
 ghost use lib.ListN.{getD};
-ghost use lib.Dec.{ltb, leb, eqb};
+ghost use lib.Dec.{leb, eqb};
 ghost use Rattle.definitions.specs.Lists.{allBelow};
-ghost use Rattle.definitions.specs.Presentation.{pairNumber, allowed, maxOrder};
+ghost use Rattle.definitions.specs.Presentation.{pairNumber, maxOrder};
+ghost use Rattle.presentation.specs.Lines.{rowWidth, rowCount};
 ghost use Rattle.presentation.specs.Conditions.{product, entryWell, rowWells, pairWell, allWell, Primes};
 
 // The number of the pair (j, i).
-pub fn pair_number(j: usize, i: usize) -> usize
-    requires { ⌜ (j < 12) × (i ≤ j) ⌝ }
-    ensures { λ r. ⌜ (r ≡ pairNumber j i) × (r < 78) ⌝ }
+fn pair_number(j: usize, i: usize) -> usize
+    requires { ⌜ (j < rowWidth) × (i ≤ j) ⌝ }
+    ensures { λ r. ⌜ (r ≡ pairNumber j i) × (r < rowCount) ⌝ }
 {
     if i < j {
         return j * (j + 1) / 2 + i + 1;
@@ -26,11 +31,11 @@ pub fn pair_number(j: usize, i: usize) -> usize
 }
 
 // The primes, from the list of every p.
-pub fn primes_of(ps: &[u32; 78], n: usize) -> [u32; 12]
-    requires { ⌜ n ≤ 12 ⌝ }
+pub fn primes_of(ps: &[u32; PAIRS], n: usize) -> Row
+    requires { ⌜ n ≤ rowWidth ⌝ }
     ensures { λ r. ⌜ Primes (now (ps .entry)) n r ⌝ }
 {
-    let mut primes = [0u32; 12];
+    let mut primes = [0u32; GENERATORS];
     let mut j: usize = 0;
     while j < n {
         let r = pair_number(j, j);
@@ -47,8 +52,8 @@ fn up(x: u32) -> u64
 }
 
 // Whether the product of the first n primes is at most the ceiling.
-pub fn order_fits(primes: &[u32; 12], n: usize) -> bool
-    requires { ⌜ n ≤ 12 ⌝ }
+pub fn order_fits(primes: &Row, n: usize) -> bool
+    requires { ⌜ n ≤ rowWidth ⌝ }
     requires { ⌜ ((j : ℕ) → j < n → 0 < getD (now primes) j 0) ⌝ }
     ensures { λ r. ⌜ r ≡ leb (product (now (primes .entry)) n) maxOrder ⌝ }
 {
@@ -56,7 +61,7 @@ pub fn order_fits(primes: &[u32; 12], n: usize) -> bool
     let mut j: usize = 0;
     while j < n {
         order = order * up(primes[j]);
-        if 4096 < order {
+        if ORDER < order {
             return false;
         }
         j += 1;
@@ -81,8 +86,8 @@ fn entry_well(e: u32, p: u32, j: usize, i: usize, k: usize) -> bool
 }
 
 // Whether the word of (j, i) is allowed.
-pub fn row_well(row: &[u32; 12], primes: &[u32; 12], n: usize, j: usize, i: usize) -> bool
-    requires { ⌜ n ≤ 12 ⌝ }
+fn row_well(row: &Row, primes: &Row, n: usize, j: usize, i: usize) -> bool
+    requires { ⌜ n ≤ rowWidth ⌝ }
     ensures { λ r. ⌜ r ≡ rowWells (now (row .entry)) (now (primes .entry)) n j i ⌝ }
 {
     let mut k: usize = 0;
@@ -106,15 +111,8 @@ fn p_well(p: u32, j: usize, i: usize) -> bool
 }
 
 // Whether the line of (j, i) is as it should be.
-fn pair_well(
-    words: &[[u32; 12]; 78],
-    ps: &[u32; 78],
-    primes: &[u32; 12],
-    n: usize,
-    j: usize,
-    i: usize,
-) -> bool
-    requires { ⌜ (n ≤ 12) × (j < n) × (i ≤ j) ⌝ }
+fn pair_well(words: &Words, ps: &[u32; PAIRS], primes: &Row, n: usize, j: usize, i: usize) -> bool
+    requires { ⌜ (n ≤ rowWidth) × (j < n) × (i ≤ j) ⌝ }
     ensures { λ r. ⌜ r ≡ pairWell (now (words .entry)) (now (ps .entry)) (now (primes .entry)) n j i ⌝ }
 {
     let k = pair_number(j, i);
@@ -125,14 +123,8 @@ fn pair_well(
 }
 
 // Whether the lines of generator j are as they should be.
-fn generator_well(
-    words: &[[u32; 12]; 78],
-    ps: &[u32; 78],
-    primes: &[u32; 12],
-    n: usize,
-    j: usize,
-) -> bool
-    requires { ⌜ (n ≤ 12) × (j < n) ⌝ }
+fn generator_well(words: &Words, ps: &[u32; PAIRS], primes: &Row, n: usize, j: usize) -> bool
+    requires { ⌜ (n ≤ rowWidth) × (j < n) ⌝ }
     ensures { λ r. ⌜ r ≡ allBelow (suc j) (λ i. pairWell (now (words .entry)) (now (ps .entry)) (now (primes .entry)) n j i) ⌝ }
 {
     let mut i: usize = 0;
@@ -146,8 +138,8 @@ fn generator_well(
 }
 
 // Whether all lines are as they should be.
-pub fn well(words: &[[u32; 12]; 78], ps: &[u32; 78], primes: &[u32; 12], n: usize) -> bool
-    requires { ⌜ n ≤ 12 ⌝ }
+pub fn well(words: &Words, ps: &[u32; PAIRS], primes: &Row, n: usize) -> bool
+    requires { ⌜ n ≤ rowWidth ⌝ }
     ensures { λ r. ⌜ r ≡ allWell (now (words .entry)) (now (ps .entry)) (now (primes .entry)) n ⌝ }
 {
     let mut j: usize = 0;

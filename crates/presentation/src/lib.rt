@@ -1,5 +1,7 @@
 // The read presentation, and the reader of presentation text (refusals 11 to 14).
 //
+//   GENERATORS, PAIRS, ORDER     the ceilings
+//   Row, Words            a row of exponents, and the rows
 //   Presentation          n, the primes, and the words in rows of rows
 //   make, words_of        the two functions that touch the rows as a field
 //   Outcome, refused      what reading leaves: a refusal, or 0 and the presentation
@@ -10,30 +12,42 @@
 //   judge                 refusals 13 and 14
 use text::Read;
 ghost use mathlib.Core.Path.{_≡_};
-ghost use mathlib.Core.List.{[]};
-ghost use Prim.Native.Nat.{ℕ, _+_, _<_, _≤_};
-ghost use lib.ListN.{length, getD};
+ghost use Prim.Native.Nat.{ℕ, _<_, _≤_};
+ghost use lib.ListN.{getD};
 ghost use Rattle.definitions.specs.Presentation.{pairNumber};
+ghost use Rattle.presentation.specs.Lines.{rowWidth};
 ghost use Rattle.presentation.specs.Outcome.{Concluded, ReadText};
 
 pub mod judge;
 pub mod lines;
 pub mod prime;
 
-// The read presentation. Row r of the words has the exponents of the pair with number r.
+// The ceilings on generators and on the order, and the number of pairs of so many generators.
+pub const GENERATORS: usize = 12;
+
+pub const PAIRS: usize = 78;
+
+pub const ORDER: u64 = 4096;
+
+// An exponent, or a prime, for each generator.
+pub type Row = [u32; GENERATORS];
+// A row for each pair of generators, picked by the pair's number.
+pub type Words = [[u32; GENERATORS]; PAIRS];
+
+// The read presentation.
 pub struct Presentation {
     pub n: usize,
-    pub primes: [u32; 12],
-    pub words: [[u32; 12]; 78],
+    pub primes: Row,
+    pub words: Words,
 }
 
-pub fn make(n: usize, primes: [u32; 12], words: [[u32; 12]; 78]) -> Presentation
+pub fn make(n: usize, primes: Row, words: Words) -> Presentation
     ensures { λ r. ⌜ (r .n ≡ n) × (r .primes ≡ primes) × (r .words ≡ words) ⌝ }
 {
     Presentation { n, primes, words }
 }
 
-pub fn words_of(p: Presentation) -> [[u32; 12]; 78]
+pub fn words_of(p: Presentation) -> Words
     ensures { λ r. ⌜ r ≡ p .words ⌝ }
 {
     p.words
@@ -49,7 +63,7 @@ pub struct Outcome {
 fn refused(status: u32) -> Outcome
     ensures { λ r. ⌜ r .status ≡ status ⌝ }
 {
-    let presentation = make(0, [0u32; 12], [[0u32; 12]; 78]);
+    let presentation = make(0, [0u32; GENERATORS], [[0u32; GENERATORS]; PAIRS]);
     Outcome {
         status,
         presentation,
@@ -57,8 +71,8 @@ fn refused(status: u32) -> Outcome
 }
 
 // Refusals 13 and 14 on what was kept of a text with n generators.
-fn conclude(n: usize, words: [[u32; 12]; 78], ps: [u32; 78]) -> Outcome
-    requires { ⌜ n ≤ 12 ⌝ }
+fn conclude(n: usize, words: Words, ps: [u32; PAIRS]) -> Outcome
+    requires { ⌜ n ≤ rowWidth ⌝ }
     requires { ⌜ ((j : ℕ) → j < n → 0 < getD ps (pairNumber j j) 0) ⌝ }
     ensures { λ r. ⌜ Concluded n words ps r ⌝ }
 {
@@ -83,8 +97,8 @@ pub fn read(text: &[u8]) -> Outcome
     let Read::Value(n, at) = lines::names(text) else {
         return refused(11);
     };
-    let mut words = [[0u32; 12]; 78];
-    let mut ps = [0u32; 78];
+    let mut words = [[0u32; GENERATORS]; PAIRS];
+    let mut ps = [0u32; PAIRS];
     let l = lines::read_lines(text, at, n, &mut words, &mut ps);
     let ok = l.ok;
     if !ok {
@@ -94,8 +108,9 @@ pub fn read(text: &[u8]) -> Outcome
     if !primes {
         return refused(12);
     }
-    if 12 < n {
+    let count = n as usize;
+    if GENERATORS < count {
         return refused(13);
     }
-    conclude(n as usize, words, ps)
+    conclude(count, words, ps)
 }

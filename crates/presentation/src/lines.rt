@@ -7,17 +7,21 @@
 //   keep           keeps a line
 //   still_prime    the primes so far, with one more
 //   read_lines     all lines of values
+use crate::GENERATORS;
+use crate::PAIRS;
+use crate::Row;
+use crate::Words;
 use crate::prime::is_prime;
 use text::Read;
 ghost use mathlib.Core.Path.{_≡_};
 ghost use mathlib.Core.Bool.{_&&_};
 ghost use mathlib.Core.List.{[], _∷_};
-ghost use Prim.Native.Nat.{ℕ, _+_, _<_, _≤_};
+ghost use Prim.Native.Nat.{_+_, _<_, _≤_};
 ghost use lib.ListN.{length, drop};
 ghost use Rattle.definitions.specs.Text.{largest};
 ghost use Rattle.definitions.specs.Presentation.{pairNumber};
 ghost use Rattle.text.specs.Reading.{Ends, ReadAt};
-ghost use Rattle.presentation.specs.Lines.{NamesAt, HeadAt, WordAt};
+ghost use Rattle.presentation.specs.Lines.{rowCount, NamesAt, HeadAt, WordAt};
 ghost use Rattle.presentation.specs.Rows.{passes, Kept, LinesAt};
 
 // The number in the exponent's name at a position.
@@ -59,7 +63,7 @@ pub fn names(text: &[u8]) -> Read
 }
 
 // The p of the line of the pair (j, i), and the position behind it.
-pub fn head(text: &[u8], at: usize, j: u32, i: u32) -> Read
+fn head(text: &[u8], at: usize, j: u32, i: u32) -> Read
     requires { ⌜ (j < largest) × (i ≤ j) ⌝ }
     ensures { λ r. ⌜ HeadAt (now (text .entry)) at j i r ⌝ }
 {
@@ -78,19 +82,19 @@ pub fn head(text: &[u8], at: usize, j: u32, i: u32) -> Read
     text::value_behind(text, behind, 32)
 }
 
-// The exponents of a line, of which the first twelve are kept.
+// The exponents of a line, of which as many are kept as a row has.
 pub struct Word {
     pub ok: bool,
     pub next: usize,
-    pub kept: [u32; 12],
+    pub kept: Row,
 }
 
 // The n exponents behind the p of a line, and the end of the line.
-pub fn exponents(text: &[u8], at: usize, n: u32) -> Word
+fn exponents(text: &[u8], at: usize, n: u32) -> Word
     requires { ⌜ (at ≤ length (now text)) × Ends (drop at (now text)) ⌝ }
     ensures { λ r. ⌜ WordAt (now (text .entry)) at n r ⌝ }
 {
-    let mut kept = [0u32; 12];
+    let mut kept = [0u32; GENERATORS];
     let mut next = at;
     let mut k: u32 = 0;
     while k < n {
@@ -101,8 +105,9 @@ pub fn exponents(text: &[u8], at: usize, n: u32) -> Word
                 kept,
             };
         };
-        if k < 12 {
-            kept[k as usize] = e;
+        let place = k as usize;
+        if place < GENERATORS {
+            kept[place] = e;
         }
         next = behind;
         k += 1;
@@ -128,7 +133,7 @@ pub struct Pair {
 }
 
 // The pair with the next number.
-pub fn next_pair(j: u32, i: u32) -> Pair
+fn next_pair(j: u32, i: u32) -> Pair
     requires { ⌜ (j < largest) × (i ≤ j) ⌝ }
     ensures { λ r. ⌜ (pairNumber (r .j) (r .i) ≡ pairNumber j i + 1) × (r .i ≤ r .j) × (r .j ≤ j + 1) ⌝ }
 {
@@ -144,11 +149,11 @@ pub fn next_pair(j: u32, i: u32) -> Pair
     Pair { j, i: 0 }
 }
 
-// Keeps a line, if it is one of the first 78.
-fn keep(words: &mut [[u32; 12]; 78], ps: &mut [u32; 78], k: usize, p: u32, e: [u32; 12])
+// Keeps a line, if there is a row for it.
+fn keep(words: &mut Words, ps: &mut [u32; PAIRS], k: usize, p: u32, e: Row)
     ensures { λ r. ⌜ Kept (now (words .entry)) (now (ps .entry)) k p e (now (words .exit)) (now (ps .exit)) ⌝ }
 {
-    if k < 78 {
+    if k < PAIRS {
         words[k] = e;
         ps[k] = p;
     }
@@ -174,15 +179,15 @@ pub struct Lines {
     pub primes: bool,
 }
 
-// The lines of values of a text, from the end of its names line to its own. The first 78 are kept.
+// The lines of values of a text, from the end of its names line to its own. Those are kept for which there is a row.
 pub fn read_lines(
     text: &[u8],
     start: usize,
     n: u32,
-    words: &mut [[u32; 12]; 78],
-    ps: &mut [u32; 78],
+    words: &mut Words,
+    ps: &mut [u32; PAIRS],
 ) -> Lines
-    requires { ⌜ (start ≤ length (now text)) × (n ≤ largest) × (length (now words) ≡ 78) × (length (now ps) ≡ 78) ⌝ }
+    requires { ⌜ (start ≤ length (now text)) × (n ≤ largest) × (length (now words) ≡ rowCount) × (length (now ps) ≡ rowCount) ⌝ }
     ensures { λ r. ⌜ LinesAt (now (text .entry)) start n (now (words .exit)) (now (ps .exit)) r ⌝ }
 {
     let mut at = start;

@@ -5,20 +5,25 @@
 --   sourceIn                   the level, as the formulas ask for it
 --   Stands f W                 the lines of a level stand in W as a build leaves them: bounds, valid matrices, targets of one
 --                              degree, and orbits of the generator on top that close after p steps
+--   Rows                       exponents of words in range
 --   Array                      an array that holds a function below the number of representations
---   MarkedTo, Marked           orbits while they are marked
+--   madeIn, numberIn, aroundIn, closingIn      the formulas, of this level
+--   MarkedTo, Marked, Turned   orbits while they are marked; a step along one
 use mathlib.Core.Path.{_≡_}
-use Prim.Native.Nat.{ℕ, zero, suc, _+_, _*_, _≤_, _<_}
+use Prim.Native.Nat.{ℕ, zero, suc, _+_, _*_, _/_, _≤_, _<_}
 use mathlib.Core.List.{List, []}
 use lib.ListN.{length, getD, set}
 use Rattle.definitions.specs.Lists.{iter}
 use Rattle.definitions.specs.Presentation.{toNF, pairNumber}
+use Rattle.definitions.specs.declared.Entry.{Entry}
+use Rattle.definitions.specs.Monomial.{entry, less, act}
 use Rattle.definitions.specs.Table.{wordAt}
 use Rattle.numbers.proofs.Prime.{Units}
 use Rattle.numbers.proofs.Orbits.{leaderOf, positionOf}
-use Rattle.formulas.specs.Formulas.{Source}
-use Rattle.lines.specs.Lines.{matrixIn, Holds}
+use Rattle.formulas.specs.Formulas.{Source, walk, made, start, around}
+use Rattle.lines.specs.Lines.{matrixIn, Below, Holds}
 use Rattle.survey.specs.declared.Frame.{Frame}
+use Rattle.survey.specs.declared.Carried.{Carried}
 
 module _ (f : Frame) (W : List ℕ) where
   unfoldable pub firstOf : ℕ → ℕ
@@ -54,18 +59,37 @@ module _ (f : Frame) (W : List ℕ) where
   abbrev pub positionIn : ℕ → ℕ
   positionIn = positionOf (f .reps) (f .p) (targetOf (f .top))
 
+  -- the formulas of this level that ask for no words, or for a power word alone
+  abbrev pub madeIn : ℕ → ℕ
+  madeIn = made (sourceIn [])
+
+  abbrev pub numberIn : ℕ → ℕ
+  numberIn = start (sourceIn [])
+
+  abbrev pub aroundIn : ℕ → ℕ → Entry
+  aroundIn = around (sourceIn [])
+
+  -- the constant of r for the row u of the power word
+  unfoldable pub closingIn : List ℕ → ℕ → ℕ
+  closingIn u r = less (f .m) (walk (f .m) (sourceIn [] .matrix r) (f .top) (toNF (f .top) u) (entry 0 0) .exp) (aroundIn r (f .p) .exp)
+
   pub record Stands : Type 0 where
     pub few : f .reps ≤ 4096
     pub gens : (f .top < f .gens) × (f .gens ≤ 12)
-    pub prime : (1 < f .p) × (f .p ≤ 65536)
+    pub prime : (1 < f .p) × (f .p ≤ 4096)
     pub units : Units (f .p)
-    pub modulus : (0 < f .m) × (f .m ≤ 65536)
+    pub modulus : (0 < f .m) × (f .m ≤ 16384)
+    pub whole : f .m ≡ f .p * (f .m / f .p)
     pub short : (8 * f .end ≤ length W) × (f .end ≤ 16777216)
     pub inside : (r : ℕ) → r < f .reps → firstOf (suc r) ≤ f .end
     pub wide : (r : ℕ) → r < f .reps → (0 < degOf r) × (f .p * degOf r ≤ 65536)
     pub valid : (r : ℕ) → r < f .reps → (g : ℕ) → g < f .gens → Holds (f .m) W (matrixOf g r) (degOf r)
     pub target : (r : ℕ) → r < f .reps → (j : ℕ) → f .top ≤ j → j < f .gens → (targetOf j r < f .reps) × (degOf (targetOf j r) ≡ degOf r)
     pub cycle : (r : ℕ) → r < f .reps → iter (targetOf (f .top)) (f .p) r ≡ r
+
+  -- the exponents of the generator on top in its words with the generators above are below its prime
+  pub record Rows (rows : List (List ℕ)) : Type 0 where
+    pub below : (j : ℕ) → f .top < j → j < f .gens → getD (getD rows (pairNumber j (f .top)) []) (f .top) 0 < f .p
 
   pub record Array (a : List ℕ) (g : ℕ → ℕ) : Type 0 where
     pub long : f .reps ≤ length a
@@ -83,6 +107,14 @@ module _ (f : Frame) (W : List ℕ) where
     pub these : (q : ℕ) → q < f .reps → leaderIn q ≡ r → positionIn q < k → (getD leaders q 0 ≡ r) × (getD places q 0 ≡ positionIn q)
     pub later : (q : ℕ) → q < f .reps → leaderIn q ≡ r → k ≤ positionIn q → getD leaders q 0 ≡ f .reps
     pub others : (q : ℕ) → q < f .reps → r < leaderIn q → getD leaders q 0 ≡ f .reps
+
+-- an entry taken one step along the orbit
+pub record Turned (f : Frame) (W : List ℕ) (d : ℕ) (s t : Carried) : Type 0 where
+  pub rep-is : t .rep ≡ targetOf f W (f .top) (s .rep)
+  pub rep-below : t .rep < f .reps
+  pub same-degree : d ≡ degOf f W (t .rep)
+  pub entry-is : t .x ≡ act (f .m) (sourceIn f W [] .matrix (s .rep) (f .top)) (s .x)
+  pub entry-below : Below (f .m) d (t .x)
 
 -- one member marked, unless it was
 pub record Marked (leaders places : List ℕ) (reps r q k : ℕ) (leaders′ places′ : List ℕ) : Type 0 where

@@ -4,7 +4,9 @@ ghost use mathlib.Core.Path.{_≡_};
 ghost use Prim.Native.Nat.{ℕ, _+_, _*_, _%_, _≤_, _<_};
 ghost use lib.ListN.{length, getD, set};
 ghost use Rattle.definitions.specs.Presentation.{Presentation};
-ghost use Rattle.survey.specs.Below.{firstOf, degOf, matrixOf, targetOf, leaderIn, positionIn, Stands, Array, Lines, Marked, MarkedTo};
+ghost use Rattle.survey.specs.Below.{firstOf, degOf, matrixOf, targetOf, leaderIn, positionIn, madeIn, numberIn, aroundIn, closingIn, Stands, Array, Lines, Marked, MarkedTo, Turned};
+ghost use Rattle.lines.specs.Lines.{Below};
+use definitions::Entry;
 
 // What a level is made with: the modulus, the generator on top (from 0), how many generators there are, the prime of the
 // one on top, the first line of the level below, how many representations that has, and the line behind it.
@@ -153,5 +155,100 @@ pub fn mark_orbits(low: &[u32], first: &[u32], leaders: &mut [u32], places: &mut
     clear(leaders, reps, reps);
     for r in 0..reps {
         mark_from(low, first, leaders, places, f, r);
+    }
+}
+
+// How many representations r gives.
+pub fn made(low: &[u32], first: &[u32], leaders: &[u32], f: Frame, r: u32) -> u32
+    requires { ⌜ Stands f (now low) × Lines f (now low) (now first) × Array f (now low) (now leaders) (leaderIn f (now low)) × (r < f .reps) ⌝ }
+    ensures { λ x. ⌜ x ≡ madeIn f (now (low .entry)) r ⌝ }
+{
+    if target(low, first, f, f.top, r) == r {
+        return f.p;
+    }
+    if element(leaders, r) == r {
+        return 1;
+    }
+    0
+}
+
+// Fills the array of numbers: of the first representation that each gives.
+pub fn count_numbers(low: &[u32], first: &[u32], leaders: &[u32], numbers: &mut [u32], f: Frame)
+    requires { ⌜ Stands f (now low) × Lines f (now low) (now first) × Array f (now low) (now leaders) (leaderIn f (now low)) × (f .reps ≤ length (now numbers)) ⌝ }
+    ensures { λ _. ⌜ Array f (now (low .entry)) (now (numbers .exit)) (numberIn f (now (low .entry))) × (length (now (numbers .exit)) ≡ length (now (numbers .entry))) ⌝ }
+{
+    let mut c: u32 = 0;
+    let reps = f.reps;
+    for r in 0..reps {
+        store(numbers, r, c);
+        c += made(low, first, leaders, f, r);
+    }
+}
+
+// An entry at a representation.
+pub struct Carried {
+    pub rep: u32,
+    pub x: Entry,
+}
+
+// An entry taken one step along the orbit.
+pub fn carry(low: &[u32], first: &[u32], f: Frame, d: u32, s: Carried) -> Carried
+    requires { ⌜ Stands f (now low) × Lines f (now low) (now first) × (s .rep < f .reps) × (d ≡ degOf f (now low) (s .rep)) × Below (f .m) d (s .x) ⌝ }
+    ensures { λ t. ⌜ Turned f (now (low .entry)) d s t ⌝ }
+{
+    let rep = s.rep;
+    let at = matrix_line(low, first, f, f.top, rep);
+    Carried {
+        rep: lines::word_at(low, at, 4),
+        x: lines::apply(low, at, d, s.x, f.m),
+    }
+}
+
+// Column 0 of representation r taken around its orbit.
+pub fn around(low: &[u32], first: &[u32], f: Frame, r: u32) -> Entry
+    requires { ⌜ Stands f (now low) × Lines f (now low) (now first) × (r < f .reps) ⌝ }
+    ensures { λ x. ⌜ (x ≡ aroundIn f (now (low .entry)) r (f .p)) × Below (f .m) (degOf f (now (low .entry)) r) x ⌝ }
+{
+    let d = degree(low, first, f, r);
+    let mut s = Carried {
+        rep: r,
+        x: Entry { row: 0, exp: 0 },
+    };
+    let p = f.p;
+    for k in 0..p {
+        s = carry(low, first, f, d, s);
+    }
+    s.x
+}
+
+// The constant that closes the orbit of r: an exponent of the power word u less that of the intertwiners around it.
+pub fn closing(low: &[u32], first: &[u32], u: &[u32; 12], f: Frame, r: u32) -> u32
+    requires { ⌜ Stands f (now low) × Lines f (now low) (now first) × (r < f .reps) ⌝ }
+    ensures { λ x. ⌜ (x ≡ closingIn f (now (low .entry)) (now (u .entry)) r) × (x < f .m) ⌝ }
+{
+    let a = around(low, first, f, r);
+    let s = lines::up(element(first, r));
+    let d = lines::word_at(low, s, 2);
+    let b = lines::apply_word(
+        low,
+        s,
+        d,
+        u,
+        lines::up(f.top),
+        Entry { row: 0, exp: 0 },
+        f.m,
+    );
+    lines::sub_mod(b.exp, a.exp, f.m)
+}
+
+// Fills the array of these constants.
+pub fn find_shifts(low: &[u32], first: &[u32], u: &[u32; 12], shifts: &mut [u32], f: Frame)
+    requires { ⌜ Stands f (now low) × Lines f (now low) (now first) × (f .reps ≤ length (now shifts)) ⌝ }
+    ensures { λ _. ⌜ Array f (now (low .entry)) (now (shifts .exit)) (closingIn f (now (low .entry)) (now (u .entry))) × (length (now (shifts .exit)) ≡ length (now (shifts .entry))) ⌝ }
+{
+    let reps = f.reps;
+    for r in 0..reps {
+        let x = closing(low, first, u, f, r);
+        store(shifts, r, x);
     }
 }

@@ -1,17 +1,16 @@
--- Laws of reading a value: how a run of digits grows, and why none is read where none stands.
+-- Laws of reading at a position: how a run of digits grows, and why none is read where none stands.
 --
---   drop-front, drop-byte     the bytes from a position, by the byte that stands there
+--   drop-front, byte-within, drop-byte    the bytes from a position, by the byte that stands there
 --   value-one, value-more     a run of one digit, and of one digit more
+--   digits-shorter, value-unique     digits before the end of others; what stands behind a value, and the value
 --   value-none, value-past    no value: no digit stands there; the run goes on behind a 0 or behind nine digits
---   digits-shorter            digits that stand before others, where those end
---   read-stands, read-fails   what the two answers say
---   read-known                the value that was read is the one that stands there
+--   read-stands, read-fails, read-known   what the two answers say; the value read is the one that stands there
+--   Run, digit-within, run-none, run-one, run-within, run-more, run-past, run-end   a run of digits, turn by turn
 --   behind-none, behind-some  a value behind a byte
---   value-unique              what stands behind a value, and the value
+--   Matched, matched-none, matched-more, matched-all, matched-other, starts-short   given bytes, turn by turn
 use mathlib.Core.Path.{_≡_, refl, sym, ap, ap₂, subst, subst₂, _∙_}
-use mathlib.Core.Logic.{_↔_, _≢_}
 use mathlib.Core.List.{List, [], _∷_, _++_, append-assoc, append-cancel-left, head-eq-of-cons-eq, tail-eq-of-cons-eq}
-use Prim.Native.Nat.{ℕ, zero, suc, _+_, _*_, _-_, _<_, _≤_, _^_, zero-le, suc-le-suc}
+use Prim.Native.Nat.{ℕ, suc, _+_, _*_, _-_, _<_, _≤_, zero-le, suc-le-suc}
 use native.Mathlib.Nat.{le-antisymm, suc-inj, add-zero, add-suc}
 use native.Mathlib.Decide.{decLt}
 use native.Mathlib.Numerals.{add-one}

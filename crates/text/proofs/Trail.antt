@@ -3,14 +3,14 @@
 --   fieldTrail-append, fieldTrail-one, line-trail     the same for fields; a line by its first field
 --   trail-nil, trail-cons, trail-one    the clauses; one more value
 --   valueLine-trail              a line of values: the first, the others, byte 10
---   ends-trail, ends-line        what stands behind a value in a line does not go on with a digit
+--   ends-byte, ends-trail        what stands behind a value in a line does not go on with a digit
 --   trail-ahead                  values that stand before others are the first of them
 --   all-one                      a test of every element, one more
 --   small-nil, small-one, small-at     values of at most nine digits
-use mathlib.Core.Path.{_≡_, refl, sym, ap, ap₂, subst, _∙_}
+use mathlib.Core.Path.{_≡_, refl, sym, ap, ap₂, _∙_}
 use mathlib.Core.Bool.{Bool, true}
 use mathlib.Core.List.{List, [], _∷_, _++_, map, append-assoc, append-nil, tail-eq-of-cons-eq}
-use Prim.Native.Nat.{ℕ, zero, suc, _+_, _<_, _≤_}
+use Prim.Native.Nat.{ℕ, _<_, _≤_}
 use native.Mathlib.Nat.{le-of-suc-le-suc}
 use native.Mathlib.Omega.{arith}
 use lib.ListN.{length, getD, take, drop}

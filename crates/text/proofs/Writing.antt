@@ -2,11 +2,12 @@
 --
 --   put-nil, put-put, length-put, take-put     nothing written; two things; the length; what stands before
 --   wrote-none, wrote-one, wrote-more          nothing, one element, and a second thing behind the first
---   wrote-length                               a buffer keeps its length
---   wrote-digit                                one digit behind the others
+--   wrote-length, wrote-as                     a buffer keeps its length; the same thing said otherwise
+--   wrote-next                                 one element of a list more
+--   wrote-last, wrote-digit                    a value of one digit; one digit behind the others
 use mathlib.Core.Path.{_≡_, refl, sym, ap, subst, _∙_}
 use mathlib.Core.List.{List, [], _∷_, _++_, append-assoc, append-nil}
-use Prim.Native.Nat.{ℕ, zero, suc, _+_, _/_, _%_, _<_, _≤_}
+use Prim.Native.Nat.{ℕ, suc, _+_, _/_, _%_, _<_, _≤_}
 use native.Mathlib.Nat.{add-zero, mod-eq-of-lt}
 use native.Mathlib.Numerals.{add-one}
 use native.Mathlib.Omega.{arith}

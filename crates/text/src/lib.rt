@@ -11,11 +11,10 @@
 //   put_value      writes a value
 ghost use mathlib.Core.Path.{_≡_};
 ghost use mathlib.Core.Logic.{_↔_};
-ghost use mathlib.Core.Bool.{true, _&&_};
+ghost use mathlib.Core.Bool.{true};
 ghost use mathlib.Core.List.{[], _∷_};
-ghost use Prim.Native.Nat.{ℕ, _+_, _%_, _<_, _≤_};
+ghost use Prim.Native.Nat.{_+_, _%_, _<_, _≤_};
 ghost use lib.ListN.{getD, length};
-ghost use lib.Dec.{leb, ltb};
 ghost use Rattle.definitions.specs.Text.{decimal};
 ghost use Rattle.text.specs.Reading.{DigitAt, ReadAt, StartsAt};
 ghost use Rattle.text.specs.Writing.{Wrote};

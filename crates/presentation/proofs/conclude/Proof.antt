@@ -30,18 +30,22 @@ refused-requires-2 c κs = search needs
 
 returns-2 : tie.Need-returns-2
 returns-2 c =
+    let primes-of = c .before .before .before .before .before .before .before .before .before .primes-of in
+    let if1 = c .before .before .before .before .before .before .if1 in
     let f = c .before .before .before .before .before .before .before .order-fits in
     let w = c .before .before .well in
-    concluded-misused (c .before .before .before .before .before .before .before .before .before .primes-of .ensures) (sym (f .ensures) ∙ not-false (f .result) (c .before .before .before .before .before .before .if1 .left)) (sym (w .ensures) ∙ not-true (w .result) (c .before .if2 .taken)) (c .refused2 .ensures)
+    concluded-misused (primes-of .ensures) (sym (f .ensures) ∙ not-false (f .result) (if1 .left)) (sym (w .ensures) ∙ not-true (w .result) (c .before .if2 .taken)) (c .refused2 .ensures)
 
 make-requires : tie.Need-make-requires
 make-requires c κs = search needs
 
 returns-3 : tie.Need-returns-3
 returns-3 c =
+    let primes-of = c .before .before .before .before .before .before .before .before .before .primes-of in
+    let if1 = c .before .before .before .before .before .before .if1 in
     let f = c .before .before .before .before .before .before .before .order-fits in
     let w = c .before .before .well in
-    concluded-well (c .before .before .before .before .before .before .before .before .before .primes-of .ensures) (sym (f .ensures) ∙ not-false (f .result) (c .before .before .before .before .before .before .if1 .left)) (sym (w .ensures) ∙ not-false (w .result) (c .before .if2 .left)) refl (c .make .ensures)
+    concluded-well (primes-of .ensures) (sym (f .ensures) ∙ not-false (f .result) (if1 .left)) (sym (w .ensures) ∙ not-false (w .result) (c .before .if2 .left)) refl (c .make .ensures)
 
 pub conclude-spec : {M : Type 1} → statement M
 conclude-spec =

@@ -22,8 +22,10 @@ shared-slice-read-put-byte c = omega arith
 
 put-byte-requires : tie.Need-put-byte-requires Inv-loop μ-loop
 put-byte-requires c κs =
-    let h = c .before .before .before .loop .inv .1 in
-    omega (arith, h .end, wrote-length h, length-take-le (c .before .before .before .loop .k) (c .before .before .before .before .before .before .args .s .now) (omega arith))
+    let args = c .before .before .before .before .before .before .args in
+    let loop = c .before .before .before .loop in
+    let h = loop .inv .1 in
+    omega (arith, h .end, wrote-length h, length-take-le (loop .k) (args .s .now) (omega arith))
 
 add-k : tie.Need-add-k Inv-loop μ-loop
 add-k c = omega arith
@@ -33,7 +35,10 @@ loop-less c = omega arith
 
 loop-again : tie.Need-loop-again Inv-loop μ-loop
 loop-again c =
-    (omega arith, wrote-next (c .before .before .before .before .before .before .before .before .before .args .s .now) (c .before .before .before .before .before .before .loop .k) (omega arith) (c .before .before .before .before .before .before .loop .inv .1) (c .before .before .put-byte .ensures))
+    let args = c .before .before .before .before .before .before .before .before .before .args in
+    let loop = c .before .before .before .before .before .before .loop in
+    let put-byte = c .before .before .put-byte in
+    (omega arith, wrote-next (args .s .now) (loop .k) (omega arith) (loop .inv .1) (put-byte .ensures))
 
 same-length : tie.Need-same-length Inv-loop μ-loop
 same-length c = wrote-length (c .before .loop .inv .1)

@@ -32,8 +32,10 @@ mul-order c =
 
 returns : tie.Need-returns Inv-loop μ-loop
 returns c =
+    let pre = c .before .before .before .before .before .pre in
+    let loop = c .before .before .before .before .loop in
     let a = c .before .before .before .before .before .args in
-    sym (order-exceeds (a .primes .now) (c .before .before .before .before .loop .j + 1) (a .n) (c .before .before .before .before .loop .order * c .before .up .result) (omega arith) (c .before .before .before .before .before .pre .1) (product-turn (a .primes .now) (c .before .before .before .before .loop .j) (c .before .before .before .before .loop .order) (c .before .up .result) (c .before .before .before .before .loop .inv .0) (c .before .up .ensures .0)) (omega arith))
+    sym (order-exceeds (a .primes .now) (loop .j + 1) (a .n) (loop .order * c .before .up .result) (omega arith) (pre .1) (product-turn (a .primes .now) (loop .j) (loop .order) (c .before .up .result) (loop .inv .0) (c .before .up .ensures .0)) (omega arith))
 
 add-j : tie.Need-add-j Inv-loop μ-loop
 add-j c = omega arith
@@ -43,8 +45,9 @@ loop-less c = omega arith
 
 loop-again : tie.Need-loop-again Inv-loop μ-loop
 loop-again c =
+    let loop = c .before .before .before .before .loop in
     let a = c .before .before .before .before .before .args in
-    (product-turn (a .primes .now) (c .before .before .before .before .loop .j) (c .before .before .before .before .loop .order) (c .before .up .result) (c .before .before .before .before .loop .inv .0) (c .before .up .ensures .0), omega arith, omega arith)
+    (product-turn (a .primes .now) (loop .j) (loop .order) (c .before .up .result) (loop .inv .0) (c .before .up .ensures .0), omega arith, omega arith)
 
 returns-2 : tie.Need-returns-2 Inv-loop μ-loop
 returns-2 c =

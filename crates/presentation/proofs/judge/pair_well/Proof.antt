@@ -35,10 +35,11 @@ row-well-requires c κs = search needs
 
 returns-2 : tie.Need-returns-2
 returns-2 c =
+    let if1 = c .before .before .if1 in
     let a = c .before .before .before .before .before .before .args in
     let n = c .before .before .before .before .before .pair-number in
     let p = c .before .before .before .p-well in
-    c .row-well .ensures ∙ sym (pair-row (a .words .now) (a .ps .now) (a .primes .now) (a .n) (a .j) (a .i) (n .result) (n .ensures .0) (sym (p .ensures) ∙ not-false (p .result) (c .before .before .if1 .left)))
+    c .row-well .ensures ∙ sym (pair-row (a .words .now) (a .ps .now) (a .primes .now) (a .n) (a .j) (a .i) (n .result) (n .ensures .0) (sym (p .ensures) ∙ not-false (p .result) (if1 .left)))
 
 pub pair-well-spec : {M : Type 1} → statement M
 pair-well-spec =

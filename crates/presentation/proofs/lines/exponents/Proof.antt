@@ -31,8 +31,8 @@ returns : tie.Need-returns Inv-loop μ-loop
 returns c =
     going-fails (c .before .before .before .before .loop .inv) (omega arith) (c .before .before .value-behind .ensures .fails (c .enum-told .given .1))
 
-cast-kept : tie.Need-cast-kept Inv-loop μ-loop
-cast-kept c = omega arith
+cast-place : tie.Need-cast-place Inv-loop μ-loop
+cast-place c = omega arith
 
 mul-kept : tie.Need-mul-kept Inv-loop μ-loop
 mul-kept c = omega arith
@@ -48,8 +48,11 @@ loop-less c = omega arith
 
 loop-again : tie.Need-loop-again Inv-loop μ-loop
 loop-again c =
-    let h = c .before .before .before .before .before .before .loop .inv in
-    let v = c .before .before .before .before .value-behind .ensures .stands _ _ (c .before .before .e .given .1) in
+    let loop = c .before .before .before .before .before .before .loop in
+    let value-behind = c .before .before .before .before .value-behind in
+    let e = c .before .before .e in
+    let h = loop .inv in
+    let v = value-behind .ensures .stands _ _ (e .given .1) in
     ⊎-elim (λ w. going-as (w .1) (going-more h (omega arith) (omega (arith, w .0)) v)) (λ w. going-as (w .1) (going-past h (omega arith) (omega (arith, w .0)) v)) (c .if1 .came)
 
 byte-at-requires : tie.Need-byte-at-requires Inv-loop μ-loop
@@ -65,7 +68,9 @@ add-t19 c =
 
 returns-3 : tie.Need-returns-3 Inv-loop μ-loop
 returns-3 c =
-    going-end (c .before .before .before .loop .inv) (omega arith) (omega arith) (byte-within (c .before .before .before .before .before .args .text .now) (c .before .before .before .loop .next) (omega arith))
+    let args = c .before .before .before .before .before .args in
+    let loop = c .before .before .before .loop in
+    going-end (loop .inv) (omega arith) (omega arith) (byte-within (args .text .now) (loop .next) (omega arith))
 
 pub exponents-spec : {M : Type 1} → statement M
 exponents-spec =
@@ -78,7 +83,7 @@ exponents-spec =
     enum-known-e
     enum-told
     returns
-    cast-kept
+    cast-place
     mul-kept
     array-write-kept
     add-k

@@ -1,5 +1,5 @@
 -- The lines are read one by one: `Reading` is what has been read.
-use Prim.Native.Nat.{_-_}
+use Prim.Native.Nat.{_-_, _<_}
 use borrow.Author.Needs.{needs}
 use borrow.Author.Tests.{not-true, not-false}
 use native.Mathlib.Omega.{arith}
@@ -31,8 +31,11 @@ enum-told c = search needs
 
 returns : tie.Need-returns Inv-loop μ-loop
 returns c =
-    let h = c .before .before .before .before .loop .inv in
-    reading-refused h (reading-no-line h (omega arith) (line-no-head (c .before .before .before .before .before .before .args .n) (c .before .before .head .ensures .fails (c .enum-told .given .1))))
+    let args = c .before .before .before .before .before .before .args in
+    let loop = c .before .before .before .before .loop in
+    let head = c .before .before .head in
+    let h = loop .inv in
+    reading-refused h (reading-no-line h (omega arith) (line-no-head (args .n) (head .ensures .fails (c .enum-told .given .1))))
 
 exponents-requires : tie.Need-exponents-requires Inv-loop μ-loop
 exponents-requires c κs =
@@ -41,9 +44,13 @@ exponents-requires c κs =
 
 returns-2 : tie.Need-returns-2 Inv-loop μ-loop
 returns-2 c =
-    let h = c .before .before .before .before .before .before .before .loop .inv in
+    let args = c .before .before .before .before .before .before .before .before .before .args in
+    let loop = c .before .before .before .before .before .before .before .loop in
+    let head = c .before .before .before .before .before .head in
+    let p = c .before .before .before .p in
+    let h = loop .inv in
     let w = c .before .exponents .ensures .fails (not-true (c .before .exponents .result .ok) (c .if1 .taken)) in
-    reading-refused h (reading-no-line h (omega arith) (line-no-word (c .before .before .before .before .before .before .before .before .before .args .n) (c .before .before .before .before .before .head .ensures .stands _ _ (c .before .before .before .p .given .1)) w))
+    reading-refused h (reading-no-line h (omega arith) (line-no-word (args .n) (head .ensures .stands _ _ (p .given .1)) w))
 
 still-prime-requires : tie.Need-still-prime-requires Inv-loop μ-loop
 still-prime-requires c κs =
@@ -54,21 +61,35 @@ keep-requires c κs = tt
 
 add-k : tie.Need-add-k Inv-loop μ-loop
 add-k c =
-    omega (arith, c .before .before .before .before .before .before .before .before .before .before .before .before .loop .inv .turns, c .before .before .before .before .before .before .before .before .before .before .before .before .loop .inv .within)
+    let loop = c .before .before .before .before .before .before .before .before .before .before .before .before .loop in
+    omega (arith, loop .inv .turns, loop .inv .within)
 
 next-pair-requires : tie.Need-next-pair-requires Inv-loop μ-loop
 next-pair-requires c κs =
-    omega (arith, c .before .before .before .before .before .before .before .before .before .before .before .before .before .before .pre, c .before .before .before .before .before .before .before .before .before .before .before .before .loop .inv .below)
+    let pre = c .before .before .before .before .before .before .before .before .before .before .before .before .before .before .pre in
+    let loop = c .before .before .before .before .before .before .before .before .before .before .before .before .loop in
+    omega (arith, pre, loop .inv .below)
 
 loop-less : tie.Need-loop-less Inv-loop μ-loop
 loop-less c =
-    let w = c .before .before .before .before .before .before .before .exponents .ensures .stands (not-false (c .before .before .before .before .before .before .before .exponents .result .ok) (c .before .before .before .before .before .before .if1 .left)) in
-    omega (arith, (c .before .before .before .before .before .before .before .before .before .before .before .head .ensures .stands _ _ (c .before .before .before .before .before .before .before .before .before .p .given .1)) .further, w .further, w .within)
+    let head = c .before .before .before .before .before .before .before .before .before .before .before .head in
+    let p = c .before .before .before .before .before .before .before .before .before .p in
+    let exponents = c .before .before .before .before .before .before .before .exponents in
+    let if1 = c .before .before .before .before .before .before .if1 in
+    let w = exponents .ensures .stands (not-false (exponents .result .ok) (if1 .left)) in
+    omega (arith, (head .ensures .stands _ _ (p .given .1)) .further, w .further, w .within)
 
 loop-again : tie.Need-loop-again Inv-loop μ-loop
 loop-again c =
-    let w = c .before .before .before .before .before .before .before .exponents .ensures .stands (not-false (c .before .before .before .before .before .before .before .exponents .result .ok) (c .before .before .before .before .before .before .if1 .left)) in
-    reading-more (c .before .before .before .before .before .before .before .before .before .before .before .before .before .loop .inv) (omega arith) (c .before .before .before .before .before .before .before .before .before .before .before .head .ensures .stands _ _ (c .before .before .before .before .before .before .before .before .before .p .given .1)) w (c .before .keep .ensures) (c .before .before .before .before .still-prime .ensures) (c .next-pair .ensures)
+    let l : c .before .before .before .before .before .before .before .before .before .before .before .before .before .loop .j < c .before .before .before .before .before .before .before .before .before .before .before .before .before .before .before .args .n = omega arith in
+    let loop = c .before .before .before .before .before .before .before .before .before .before .before .before .before .loop in
+    let head = c .before .before .before .before .before .before .before .before .before .before .before .head in
+    let p = c .before .before .before .before .before .before .before .before .before .p in
+    let exponents = c .before .before .before .before .before .before .before .exponents in
+    let if1 = c .before .before .before .before .before .before .if1 in
+    let still-prime = c .before .before .before .before .still-prime in
+    let w = exponents .ensures .stands (not-false (exponents .result .ok) (if1 .left)) in
+    reading-more (loop .inv) l (head .ensures .stands _ _ (p .given .1)) w (c .before .keep .ensures) (still-prime .ensures) (c .next-pair .ensures)
 
 returns-3 : tie.Need-returns-3 Inv-loop μ-loop
 returns-3 c = reading-end (c .before .loop .inv) (omega arith)

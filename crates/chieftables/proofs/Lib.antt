@@ -1,0 +1,2 @@
+-- Laws behind the public calls.
+pub mod Accepted

@@ -1,0 +1,2 @@
+-- What the functions behind the public calls leave.
+pub mod Accepted

@@ -1,0 +1,183 @@
+-- Laws of extensions.
+--
+--   around-rows, shift-closing       the constant of an orbit asks for the power word alone
+--   shift-below                it is below the modulus
+--   divide-below               a quotient of a number below m
+--   step-positive              m / p is not 0
+--   factor-below, product-fits, landing-small, start-fits, factor-small      bounds
+--   matrix-lines, reference-is the lines of a generator of an extension, and their reference
+--   landing-is                 the number that an intertwiner's exponents tell
+use mathlib.Core.Path.{_≡_, refl, ap, ap₂, sym, _∙_, subst}
+use mathlib.Core.List.{List, [], _∷_}
+use Prim.Native.Nat.{ℕ, zero, suc, _+_, _*_, _/_, _%_, _<_, _≤_}
+use native.Mathlib.Omega.{arith}
+use native.Mathlib.Nat.{zero-add, mod-lt, div-le-self, div-lt-iff-lt-mul, mul-comm, mul-le-mul-left, mul-le-mul-right}
+use lib.ListN.{length, getD, set}
+use lib.Seq.{getD-set-same, getD-set-other}
+use lib.Dec.{leb}
+use borrow.Author.Tests.{le-leb}
+use native.Mathlib.Decide.{decLt, ℕ-discrete}
+use mathlib.Core.Bool.{cond}
+use Rattle.numbers.proofs.Bools.{cond-true}
+use Rattle.definitions.specs.declared.Entry.{Entry}
+use Rattle.definitions.specs.Lists.{iter, blocks}
+use Rattle.definitions.specs.Presentation.{toNF, pairNumber}
+use Rattle.definitions.specs.Monomial.{Matrix, entry, col, less, act, scale}
+use Rattle.definitions.specs.Table.{lineOf, repWords}
+use Rattle.numbers.proofs.Blocks.{getD-map, length-table, blocks-below, length-even}
+use Rattle.formulas.specs.Formulas.{Source, made, start, around, shift, plus, topEntry, landing, walk, extensionAt}
+use Rattle.lines.specs.declared.Head.{Head}
+use Rattle.lines.specs.Lines.{entryIn, matrixIn, headLine, blockLines}
+use Rattle.lines.proofs.Laws.{col-matrixIn}
+use Rattle.survey.specs.declared.Frame.{Frame}
+use Rattle.survey.specs.Below.{degOf, matrixOf, sourceIn, targetOf, closingIn, Stands}
+use Rattle.survey.proofs.Counting.{number-fits}
+use Rattle.extend.specs.Extending.{conjugatedIn, factorOf, referenceOf, Ready, matrixWords}
+
+module _ (f : Frame) (W : List ℕ) (rows : List (List ℕ)) where
+  around-rows : (r k : ℕ) → around (sourceIn f W rows) r k ≡ around (sourceIn f W []) r k
+  unfolding around
+  around-rows r zero = refl
+  around-rows r (suc k) = ap (λ x. act (f .m) (sourceIn f W [] .matrix (iter (targetOf f W (f .top)) k r) (f .top)) x) (around-rows r k)
+
+  pub shift-closing : (r : ℕ) → shift (sourceIn f W rows) r ≡ closingIn f W (getD rows (pairNumber (f .top) (f .top)) []) r
+  unfolding shift closingIn
+  shift-closing r = ap (λ (x : Entry). less (f .m) (walk (f .m) (sourceIn f W [] .matrix r) (f .top) (toNF (f .top) (getD rows (pairNumber (f .top) (f .top)) [])) (entry 0 0) .exp) (x .exp)) (around-rows r (f .p))
+
+  pub shift-below : 0 < f .m → (r : ℕ) → shift (sourceIn f W rows) r < f .m
+  unfolding shift less
+  shift-below h r = mod-lt _ h
+
+  -- the exponents of the two sides, and the number that they tell
+  pub landing-is : (j r a b : ℕ) → a ≡ act (f .m) (sourceIn f W [] .matrix r j) (conjugatedIn f W (getD rows (pairNumber j (f .top)) []) r (shift (sourceIn f W rows) r / f .p)) .exp
+      → b ≡ plus (f .m) (shift (sourceIn f W rows) (targetOf f W j r) / f .p) (act (f .m) (sourceIn f W [] .matrix (targetOf f W j r) (f .top)) (act (f .m) (sourceIn f W [] .matrix r j) (entry 0 0))) .exp
+      → less (f .m) a b / (f .m / f .p) ≡ landing (sourceIn f W rows) j r
+  unfolding landing conjugatedIn topEntry toNF
+  landing-is j r a b e e′ = ap₂ (λ x y. less (f .m) x y / (f .m / f .p)) e e′
+
+pub divide-below : (x p m : ℕ) → x < m → x / p < m
+divide-below x p m h = omega (arith, div-le-self x p)
+
+pub step-positive : (f : Frame) (W : List ℕ) → Stands f W → 0 < f .m / f .p
+step-positive f W S = go (f .m / f .p) (S .whole)
+  where
+    go : (q : ℕ) → f .m ≡ f .p * q → 0 < q
+    go zero e = absurd (omega (arith, S .modulus .0, e))
+    go (suc q) e = omega arith
+
+-- ---- Constants and references
+
+pub factor-below : (s p m k : ℕ) → m ≡ p * (m / p) → s < m → k < p → s / p + k * (m / p) < m
+factor-below s p m k e h l =
+    let pos : 0 < p = omega arith in
+    let a : s / p < m / p = div-lt-iff-lt-mul pos .1 (subst (λ x. s < x) (e ∙ mul-comm p (m / p)) h) in
+    let b : suc k * (m / p) ≤ p * (m / p) = mul-le-mul-right (m / p) l in
+    omega (arith, a, b, e)
+
+pub product-fits : (k a p : ℕ) → k < p → a ≤ p → p ≤ 16384 → k * a ≤ 268435456
+product-fits k a p h l q =
+    let x : k * a ≤ k * 16384 = mul-le-mul-left k (omega arith) in
+    omega (arith, x)
+
+pub landing-small : (f : Frame) (W : List ℕ) (rows : List (List ℕ)) → 0 < f .m → f .m ≤ 16384 → (j r : ℕ) → landing (sourceIn f W rows) j r ≤ 16384
+unfolding landing less
+landing-small f W rows h l j r = quotient-small _ (f .m) (f .m / f .p) h l
+  where
+    quotient-small : (x m q : ℕ) → 0 < m → m ≤ 16384 → x % m / q ≤ 16384
+    quotient-small x m q h l = omega (arith, div-le-self (x % m) q, mod-lt x h)
+
+pub start-fits : (f : Frame) (W : List ℕ) (rows : List (List ℕ)) → Stands f W → (r : ℕ) → r ≤ f .reps → start (sourceIn f W rows) r ≤ 268435456
+unfolding start made
+start-fits f W rows S r l = number-fits f W S r l
+
+-- ---- Lines
+
+col-scale : (m e : ℕ) (M : Matrix) (k : ℕ) → k < length M → col (scale m e M) k ≡ entry (col M k .row) ((col M k .exp + e) % m)
+unfolding col scale
+col-scale m e M k l = getD-map (λ (x : Entry). entry (x .row) ((x .exp + e) % m)) M k (entry 0 0) (entry 0 0) l
+
+-- the lines of one generator of an extension
+pub matrix-lines : (f : Frame) (W : List ℕ) (rows : List (List ℕ)) (h : Head) (rep r k g c d src : ℕ)
+    → h .level ≡ suc (f .top) → h .rep ≡ rep → h .deg ≡ degOf f W r → h .generator ≡ suc g → ((x : ℕ) → h .refn ≡ extensionAt (sourceIn f W rows) r k .ref g x)
+    → d ≡ degOf f W r → src ≡ matrixOf f W g r → c ≡ factorOf f (shift (sourceIn f W rows) r) g k
+    → blockLines (f .m) h 0 0 c d W src ≡ matrixWords f W rows rep r k g
+unfolding blockLines matrixWords headLine lineOf extensionAt factorOf
+matrix-lines f W rows h rep r k g c d src e1 e2 e3 e4 e5 e6 e7 e8 =
+    (λ o. blockLines (f .m) h 0 0 (e8 o) (e6 o) W (e7 o))
+    ∙ blocks-below (degOf f W r) _ _ (λ x l. (λ o. e1 o ∷ e2 o ∷ e3 o ∷ e4 o ∷ e5 x o ∷ zero-add x o ∷ row x l o ∷ exponent x l o ∷ []))
+  where
+    C : ℕ
+    C = factorOf f (shift (sourceIn f W rows) r) g k
+
+    M : Matrix
+    M = matrixIn W (matrixOf f W g r) (degOf f W r)
+
+    at : (x : ℕ) → x < degOf f W r → col (scale (f .m) C M) x ≡ entry (entryIn W (matrixOf f W g r + x) .row) ((entryIn W (matrixOf f W g r + x) .exp + C) % f .m)
+    at x l = col-scale (f .m) C M x (subst (λ n. x < n) (sym (length-table _ (degOf f W r))) l) ∙ ap (λ (y : Entry). entry (y .row) ((y .exp + C) % f .m)) (col-matrixIn W (matrixOf f W g r) (degOf f W r) x l)
+
+    row : (x : ℕ) → x < degOf f W r → 0 + entryIn W (matrixOf f W g r + x) .row ≡ col (scale (f .m) C M) x .row
+    row x l = zero-add _ ∙ sym (ap (λ (y : Entry). y .row) (at x l))
+
+    exponent : (x : ℕ) → x < degOf f W r → (entryIn W (matrixOf f W g r + x) .exp + C) % f .m ≡ col (scale (f .m) C M) x .exp
+    exponent x l = sym (ap (λ (y : Entry). y .exp) (at x l))
+
+pub factor-small : (p d x : ℕ) → 1 < p → p * d ≤ x → d ≤ x
+factor-small p d x h l = let a : 1 * d ≤ p * d = mul-le-mul-right d (omega arith) in omega (arith, a)
+
+-- the reference that was read is that of the formulas
+pub reference-is : (f : Frame) (W : List ℕ) (rows : List (List ℕ)) (first shifts to by : List ℕ) (r : ℕ) → Ready f W rows first shifts to by r → (g k x : ℕ) → g < f .gens
+    → referenceOf f rows to by r g k ≡ extensionAt (sourceIn f W rows) r k .ref g x
+unfolding referenceOf extensionAt toNF
+reference-is f W rows first shifts to by r R g k x l = go (decLt (f .top) g)
+  where
+    S : Source
+    S = sourceIn f W rows
+
+    a : ℕ
+    a = suc (getD (getD rows (pairNumber g (f .top)) []) (f .top) 0)
+
+    go : Dec (f .top < g)
+        → cond (leb g (f .top)) r (getD to g 0 + (getD by g 0 + k * a) % f .p) ≡ cond (leb g (f .top)) r (start S (targetOf f W g r) + (landing S g r + k * a) % f .p)
+    go (yes h) = ap₂ (λ s t. cond (leb g (f .top)) r (s + (t + k * a) % f .p)) (R .to-is g h l) (R .by-is g h l)
+    go (no h) =
+        let e = le-leb g (f .top) (omega arith) in
+        cond-true (leb g (f .top)) r _ e ∙ sym (cond-true (leb g (f .top)) r _ e)
+
+-- ---- Lengths
+
+module _ (f : Frame) (W : List ℕ) (rows : List (List ℕ)) (rep r k : ℕ) where
+  pub matrixWords-length : (g : ℕ) → length (matrixWords f W rows rep r k g) ≡ 8 * degOf f W r
+  unfolding matrixWords lineOf
+  matrixWords-length g = length-even (λ c. lineOf (suc (f .top)) rep (extensionAt (sourceIn f W rows) r k) g c) 8 (degOf f W r) (λ c l. refl) ∙ omega arith
+
+  pub extension-words : repWords (f .gens) (suc (f .top)) rep (extensionAt (sourceIn f W rows) r k) ≡ blocks (f .gens) (matrixWords f W rows rep r k)
+  unfolding repWords matrixWords extensionAt
+  extension-words = refl
+
+  pub extension-length : length (blocks (f .gens) (matrixWords f W rows rep r k)) ≡ 8 * (f .gens * degOf f W r)
+  extension-length = length-even (matrixWords f W rows rep r k) (8 * degOf f W r) (f .gens) (λ g l. matrixWords-length g) ∙ regroup (f .gens) (degOf f W r)
+    where
+      regroup : (n d : ℕ) → n * (8 * d) ≡ 8 * (n * d)
+      regroup n d = omega arith
+
+-- ---- Arrays filled above an index
+
+abbrev pub Between : List ℕ → (ℕ → ℕ) → ℕ → ℕ → Type 0
+Between a g lo j = (k : ℕ) → lo < k → k < j → getD a k 0 ≡ g k
+
+pub between-none : (a : List ℕ) (g : ℕ → ℕ) (lo : ℕ) → Between a g lo (lo + 1)
+between-none a g lo k h l = absurd (omega arith)
+
+pub between-more : (a : List ℕ) (g : ℕ → ℕ) (lo j x : ℕ) → j < length a → x ≡ g j → Between a g lo j → Between (set a j x) g lo (j + 1)
+between-more a g lo j x l e h k a′ b = go (ℕ-discrete k j)
+  where
+    go : Dec (k ≡ j) → getD (set a j x) k 0 ≡ g k
+    go (yes q) = ap (λ z. getD (set a j x) z 0) q ∙ getD-set-same a j x 0 l ∙ e ∙ ap g (sym q)
+    go (no q) = getD-set-other a j k x 0 q ∙ h k a′ (omega arith)
+
+pub rep-length : (f : Frame) (W : List ℕ) (rows : List (List ℕ)) (rep r k : ℕ) → length (repWords (f .gens) (suc (f .top)) rep (extensionAt (sourceIn f W rows) r k)) ≡ 8 * (f .gens * degOf f W r)
+rep-length f W rows rep r k = ap length (extension-words f W rows rep r k) ∙ extension-length f W rows rep r k
+
+pub extensions-length : (f : Frame) (W : List ℕ) (rows : List (List ℕ)) (rep r : ℕ)
+    → length (blocks (f .p) (λ k. repWords (f .gens) (suc (f .top)) (rep + k) (extensionAt (sourceIn f W rows) r k))) ≡ f .p * (8 * (f .gens * degOf f W r))
+extensions-length f W rows rep r = length-even _ (8 * (f .gens * degOf f W r)) (f .p) (λ k l. rep-length f W rows (rep + k) r k)

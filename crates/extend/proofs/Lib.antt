@@ -1,0 +1,2 @@
+-- Laws of extensions.
+pub mod Laws

@@ -1,0 +1,2 @@
+-- What the lines of extensions are.
+pub mod Extending

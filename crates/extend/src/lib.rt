@@ -1,0 +1,293 @@
+// The extensions of a representation that the generator on top fixes, as lines behind the level below.
+ghost use mathlib.Core.Path.{_≡_};
+ghost use mathlib.Core.List.{[]};
+ghost use Prim.Native.Nat.{ℕ, suc, _+_, _*_, _/_, _≤_, _<_};
+ghost use lib.ListN.{length, getD, take};
+ghost use Rattle.definitions.specs.Lists.{iter, blocks};
+ghost use Rattle.definitions.specs.Monomial.{entry, act};
+ghost use Rattle.definitions.specs.Table.{repWords};
+ghost use Rattle.definitions.specs.Presentation.{toNF, pairNumber};
+ghost use Rattle.formulas.specs.Formulas.{walk, plus, landing, shift, start, extensionAt};
+ghost use Rattle.text.specs.Writing.{Wrote};
+ghost use Rattle.lines.specs.Lines.{Below};
+ghost use Rattle.survey.specs.Below.{degOf, targetOf, sourceIn, Stands, Rows, Array, Lines};
+ghost use Rattle.extend.specs.Extending.{conjugatedIn, factorOf, referenceOf, Ready, matrixWords, extensionsWords};
+use collector::rows;
+use definitions::Entry;
+use lines::Head;
+use survey::Frame;
+
+// Generator g of representation r on an entry.
+pub fn moved(low: &[u32], first: &[u32], f: Frame, g: u32, r: u32, x: Entry) -> Entry
+    requires { ⌜ Stands f (now low) × Lines f (now low) (now first) × (r < f .reps) × (g < f .gens) × Below (f .m) (degOf f (now low) r) x ⌝ }
+    ensures { λ y. ⌜ (y ≡ act (f .m) (sourceIn f (now (low .entry)) [] .matrix r g) x) × Below (f .m) (degOf f (now (low .entry)) r) y ⌝ }
+{
+    let d = survey::degree(low, first, f, r);
+    let at = survey::matrix_line(low, first, f, g, r);
+    lines::apply(low, at, d, x, f.m)
+}
+
+// The generator on top of representation r, times the c-th power of the root, on an entry.
+pub fn scaled(low: &[u32], first: &[u32], f: Frame, r: u32, c: u32, x: Entry) -> Entry
+    requires { ⌜ Stands f (now low) × Lines f (now low) (now first) × (r < f .reps) × (c < f .m) × Below (f .m) (degOf f (now low) r) x ⌝ }
+    ensures { λ y. ⌜ (y ≡ plus (f .m) c (act (f .m) (sourceIn f (now (low .entry)) [] .matrix r (f .top)) x)) × Below (f .m) (degOf f (now (low .entry)) r) y ⌝ }
+{
+    let y = moved(low, first, f, f.top, r, x);
+    Entry {
+        row: y.row,
+        exp: lines::add_mod(y.exp, c, f.m),
+    }
+}
+
+// The same k times.
+pub fn scaled_times(low: &[u32], first: &[u32], f: Frame, r: u32, c: u32, k: u32, x: Entry) -> Entry
+    requires { ⌜ Stands f (now low) × Lines f (now low) (now first) × (r < f .reps) × (c < f .m) × Below (f .m) (degOf f (now low) r) x ⌝ }
+    ensures { λ y. ⌜ (y ≡ iter (λ z. plus (f .m) c (act (f .m) (sourceIn f (now (low .entry)) [] .matrix r (f .top)) z)) k x) × Below (f .m) (degOf f (now (low .entry)) r) y ⌝ }
+{
+    let mut y = x;
+    for i in 0..k {
+        y = scaled(low, first, f, r, c, y);
+    }
+    y
+}
+
+// Column 0 of representation r moved by the word w on the generators below the one on top.
+pub fn walked(low: &[u32], first: &[u32], w: &[u32; 12], f: Frame, r: u32) -> Entry
+    requires { ⌜ Stands f (now low) × Lines f (now low) (now first) × (r < f .reps) ⌝ }
+    ensures { λ y. ⌜ (y ≡ walk (f .m) (sourceIn f (now (low .entry)) [] .matrix r) (f .top) (toNF (f .top) (now (w .entry))) (entry 0 0)) × Below (f .m) (degOf f (now (low .entry)) r) y ⌝ }
+{
+    let s = survey::matrix_line(low, first, f, 0, r);
+    let d = survey::degree(low, first, f, r);
+    let t = lines::up(f.top);
+    lines::apply_word(low, s, d, w, t, Entry { row: 0, exp: 0 }, f.m)
+}
+
+// Column 0 of representation r moved by j⁻¹ g j in extension 0, g the generator on top: by the word w of the two, the
+// part of the one on top scaled by c, and once more by that one.
+pub fn conjugated(low: &[u32], first: &[u32], w: &[u32; 12], f: Frame, r: u32, c: u32) -> Entry
+    requires { ⌜ Stands f (now low) × Lines f (now low) (now first) × (r < f .reps) × (c < f .m) × (getD (now w) (f .top) 0 < f .p) ⌝ }
+    ensures { λ y. ⌜ (y ≡ conjugatedIn f (now (low .entry)) (now (w .entry)) r c) × Below (f .m) (degOf f (now (low .entry)) r) y ⌝ }
+{
+    let x = walked(low, first, w, f, r);
+    let t = lines::up(f.top);
+    let k = w[t];
+    scaled_times(low, first, f, r, c, k + 1, x)
+}
+
+// The exponent of column 0 moved by the intertwiner of generator j, and then by the generator on top of q scaled by c.
+pub fn right(low: &[u32], first: &[u32], f: Frame, j: u32, r: u32, q: u32, c: u32) -> u32
+    requires { ⌜ Stands f (now low) × Lines f (now low) (now first) × (r < f .reps) × (j < f .gens) × (c < f .m) × (q < f .reps) × (degOf f (now low) q ≡ degOf f (now low) r) ⌝ }
+    ensures { λ e. ⌜ (e ≡ plus (f .m) c (act (f .m) (sourceIn f (now (low .entry)) [] .matrix q (f .top)) (act (f .m) (sourceIn f (now (low .entry)) [] .matrix r j) (entry 0 0))) .exp) × (e < f .m) ⌝ }
+{
+    let y = moved(low, first, f, j, r, Entry { row: 0, exp: 0 });
+    let z = scaled(low, first, f, q, c, y);
+    z.exp
+}
+
+// The constant of extension 0.
+pub fn root(shifts: &[u32], f: Frame, r: u32) -> u32
+    requires { ⌜ (r < length (now shifts)) × (0 < f .p) × (getD (now shifts) r 0 < f .m) ⌝ }
+    ensures { λ c. ⌜ (c ≡ getD (now (shifts .entry)) r 0 / f .p) × (c < f .m) ⌝ }
+{
+    survey::element(shifts, r) / f.p
+}
+
+// The number among the extensions of the target to which the intertwiner of generator j leads extension 0 of r.
+pub fn landing(
+    low: &[u32],
+    first: &[u32],
+    rows: &[[u32; 12]; 78],
+    shifts: &[u32],
+    f: Frame,
+    j: u32,
+    r: u32,
+) -> u32
+    requires { ⌜ Stands f (now low) × Lines f (now low) (now first) × Rows f (now low) (now rows) × Array f (now low) (now shifts) (shift (sourceIn f (now low) (now rows))) × (r < f .reps) × (f .top < j) × (j < f .gens) ⌝ }
+    ensures { λ x. ⌜ (x ≡ landing (sourceIn f (now (low .entry)) (now (rows .entry))) j r) × (x ≤ f .m) ⌝ }
+{
+    let w = rows::word(rows, lines::up(j), lines::up(f.top));
+    let c = root(shifts, f, r);
+    let x = conjugated(low, first, &w, f, r, c);
+    let y = moved(low, first, f, j, r, x);
+    let q = survey::target(low, first, f, j, r);
+    let b = root(shifts, f, q);
+    let e = right(low, first, f, j, r, q, b);
+    lines::sub_mod(y.exp, e, f.m) / (f.m / f.p)
+}
+
+// The constant of generator g in extension k.
+pub fn factor(shifts: &[u32], f: Frame, r: u32, g: u32, k: u32) -> u32
+    requires { ⌜ (r < length (now shifts)) × (getD (now shifts) r 0 < f .m) × (k < f .p) × (f .m ≡ f .p * (f .m / f .p)) × (f .m ≤ 16384) ⌝ }
+    ensures { λ c. ⌜ (c ≡ factorOf f (getD (now (shifts .entry)) r 0) g k) × (c < f .m) ⌝ }
+{
+    if g == f.top {
+        let s = survey::element(shifts, r);
+        return s / f.p + k * (f.m / f.p);
+    }
+    0
+}
+
+// The reference of generator g in extension k.
+pub fn reference(
+    rows: &[[u32; 12]; 78],
+    to: &[u32],
+    by: &[u32],
+    f: Frame,
+    r: u32,
+    g: u32,
+    k: u32,
+) -> u32
+    requires { ⌜ (f .gens ≤ 12) × (f .top < f .gens) × (g < f .gens) × (f .gens ≤ length (now to)) × (f .gens ≤ length (now by)) × (0 < f .p) × (f .p ≤ 16384) × (k < f .p) ⌝ }
+    requires { ⌜ ((f .top < g) → (getD (now to) g 0 ≤ 268435456) × (getD (now by) g 0 ≤ 16384) × (getD (getD (now rows) (pairNumber g (f .top)) []) (f .top) 0 < f .p)) ⌝ }
+    ensures { λ x. ⌜ x ≡ referenceOf f (now (rows .entry)) (now (to .entry)) (now (by .entry)) r g k ⌝ }
+{
+    if g <= f.top {
+        return r;
+    }
+    let w = rows::word(rows, lines::up(g), lines::up(f.top));
+    let t = lines::up(f.top);
+    let a = w[t] + 1;
+    let l = survey::element(by, g);
+    survey::element(to, g) + (l + k * a) % f.p
+}
+
+// Appends generator g of extension k of r, numbered rep, behind the level below. Returns the next line's number.
+pub fn append_matrix(
+    words: &mut [u32],
+    first: &[u32],
+    rows: &[[u32; 12]; 78],
+    shifts: &[u32],
+    to: &[u32],
+    by: &[u32],
+    f: Frame,
+    at: usize,
+    rep: u32,
+    r: u32,
+    k: u32,
+    g: u32,
+) -> usize
+    requires { ⌜ Ready f (take (8 * f .end) (now words)) (now rows) (now first) (now shifts) (now to) (now by) r × (k < f .p) × (g < f .gens) × (f .end ≤ at) × (8 * at + 8 * degOf f (take (8 * f .end) (now words)) r ≤ length (now words)) ⌝ }
+    ensures { λ x. ⌜ Wrote (now (words .entry)) (8 * at) (matrixWords f (take (8 * f .end) (now (words .entry))) (now (rows .entry)) rep r k g) (now (words .exit)) (8 * x) ⌝ }
+{
+    let n = 8 * f.end;
+    let src = survey::matrix_line(&words[..n], first, f, g, r);
+    let d = survey::degree(&words[..n], first, f, r);
+    let c = factor(shifts, f, r, g, k);
+    let x = reference(rows, to, by, f, r, g, k);
+    let h = Head {
+        level: f.top + 1,
+        rep: rep,
+        deg: d,
+        generator: g + 1,
+        refn: x,
+    };
+    lines::append_block(words, f.end, at, h, 0, 0, src, d, c, f.m)
+}
+
+// Appends extension k of r, numbered rep.
+pub fn append_extension(
+    words: &mut [u32],
+    first: &[u32],
+    rows: &[[u32; 12]; 78],
+    shifts: &[u32],
+    to: &[u32],
+    by: &[u32],
+    f: Frame,
+    at: usize,
+    rep: u32,
+    r: u32,
+    k: u32,
+) -> usize
+    requires { ⌜ Ready f (take (8 * f .end) (now words)) (now rows) (now first) (now shifts) (now to) (now by) r × (k < f .p) × (f .end ≤ at) × (8 * at + 8 * (f .gens * degOf f (take (8 * f .end) (now words)) r) ≤ length (now words)) ⌝ }
+    ensures { λ x. ⌜ Wrote (now (words .entry)) (8 * at) (repWords (f .gens) (suc (f .top)) rep (extensionAt (sourceIn f (take (8 * f .end) (now (words .entry))) (now (rows .entry))) r k)) (now (words .exit)) (8 * x) ⌝ }
+{
+    let mut pos = at;
+    let gens = f.gens;
+    for g in 0..gens {
+        pos = append_matrix(words, first, rows, shifts, to, by, f, pos, rep, r, k, g);
+    }
+    pos
+}
+
+// Fills, for each generator above the one on top, the number of the first extension of the target of r, and the number
+// among them to which extension 0 goes.
+pub fn find_targets(
+    low: &[u32],
+    first: &[u32],
+    rows: &[[u32; 12]; 78],
+    numbers: &[u32],
+    shifts: &[u32],
+    to: &mut [u32],
+    by: &mut [u32],
+    f: Frame,
+    r: u32,
+)
+    requires { ⌜ Stands f (now low) × Lines f (now low) (now first) × Rows f (now low) (now rows) × Array f (now low) (now numbers) (start (sourceIn f (now low) (now rows))) × Array f (now low) (now shifts) (shift (sourceIn f (now low) (now rows))) × (r < f .reps) × (f .gens ≤ length (now to)) × (f .gens ≤ length (now by)) ⌝ }
+    ensures { λ _. ⌜ Ready f (now (low .entry)) (now (rows .entry)) (now (first .entry)) (now (shifts .entry)) (now (to .exit)) (now (by .exit)) r ⌝ }
+{
+    let lo = f.top + 1;
+    let gens = f.gens;
+    for j in lo..gens {
+        let q = survey::target(low, first, f, j, r);
+        let x = survey::element(numbers, q);
+        survey::store(to, j, x);
+        let l = landing(low, first, rows, shifts, f, j, r);
+        survey::store(by, j, l);
+    }
+}
+
+// Appends the extensions of r, numbered from rep.
+pub fn append_each(
+    words: &mut [u32],
+    first: &[u32],
+    rows: &[[u32; 12]; 78],
+    shifts: &[u32],
+    to: &[u32],
+    by: &[u32],
+    f: Frame,
+    at: usize,
+    rep: u32,
+    r: u32,
+) -> usize
+    requires { ⌜ Ready f (take (8 * f .end) (now words)) (now rows) (now first) (now shifts) (now to) (now by) r × (rep ≤ 268435456) × (f .end ≤ at) × (8 * at + f .p * (8 * (f .gens * degOf f (take (8 * f .end) (now words)) r)) ≤ length (now words)) ⌝ }
+    ensures { λ x. ⌜ Wrote (now (words .entry)) (8 * at) (extensionsWords f (take (8 * f .end) (now (words .entry))) (now (rows .entry)) rep r) (now (words .exit)) (8 * x) ⌝ }
+{
+    let mut pos = at;
+    let p = f.p;
+    for k in 0..p {
+        pos = append_extension(words, first, rows, shifts, to, by, f, pos, rep + k, r, k);
+    }
+    pos
+}
+
+// Appends the extensions of r, which the generator on top fixes.
+pub fn append_extensions(
+    words: &mut [u32],
+    first: &[u32],
+    rows: &[[u32; 12]; 78],
+    numbers: &[u32],
+    shifts: &[u32],
+    f: Frame,
+    at: usize,
+    r: u32,
+) -> usize
+    requires { ⌜ Stands f (take (8 * f .end) (now words)) × Lines f (take (8 * f .end) (now words)) (now first) × Rows f (take (8 * f .end) (now words)) (now rows) × Array f (take (8 * f .end) (now words)) (now numbers) (start (sourceIn f (take (8 * f .end) (now words)) (now rows))) × Array f (take (8 * f .end) (now words)) (now shifts) (shift (sourceIn f (take (8 * f .end) (now words)) (now rows))) × (r < f .reps) × (f .end ≤ at) × (8 * at + f .p * (8 * (f .gens * degOf f (take (8 * f .end) (now words)) r)) ≤ length (now words)) ⌝ }
+    ensures { λ x. ⌜ Wrote (now (words .entry)) (8 * at) (extensionsWords f (take (8 * f .end) (now (words .entry))) (now (rows .entry)) (start (sourceIn f (take (8 * f .end) (now (words .entry))) (now (rows .entry))) r) r) (now (words .exit)) (8 * x) ⌝ }
+{
+    let n = 8 * f.end;
+    let mut to = [0u32; 12];
+    let mut by = [0u32; 12];
+    find_targets(
+        &words[..n],
+        first,
+        rows,
+        numbers,
+        shifts,
+        &mut to,
+        &mut by,
+        f,
+        r,
+    );
+    let rep = survey::element(numbers, r);
+    append_each(words, first, rows, shifts, &to, &by, f, at, rep, r)
+}

@@ -1,0 +1,79 @@
+-- Laws of the numbers and the constants of a level that stands in words.
+--
+--   made-fixed, made-leader, made-none    what a representation gives
+--   number-zero, number-next, number-small      numbers
+--   around-zero, around-next   an entry along an orbit
+--   column-zero                column 0 is there
+use mathlib.Core.Path.{_≡_, refl, ap, sym, _∙_, subst}
+use mathlib.Core.List.{List, []}
+use mathlib.Core.Bool.{Bool, true, false, cond}
+use Prim.Native.Nat.{ℕ, zero, suc, _+_, _*_, _<_, _≤_}
+use native.Mathlib.Omega.{arith}
+use native.Mathlib.Numerals.{add-one}
+use native.Mathlib.Nat.{mul-le-mul-right}
+use lib.Dec.{eqb}
+use Rattle.definitions.specs.declared.Entry.{Entry}
+use Rattle.definitions.specs.Lists.{sum, iter}
+use Rattle.definitions.specs.Monomial.{entry, act}
+use Rattle.numbers.proofs.Bools.{cond-eq, cond-ne}
+use Rattle.formulas.specs.Formulas.{made, start, around}
+use Rattle.lines.specs.Lines.{Below}
+use Rattle.survey.specs.declared.Frame.{Frame}
+use Rattle.survey.specs.Below.{degOf, targetOf, sourceIn, leaderIn, madeIn, numberIn, aroundIn, Stands}
+
+module _ (f : Frame) (W : List ℕ) where
+  abbrev τ : ℕ → ℕ
+  τ = targetOf f W (f .top)
+
+  -- ---- Numbers
+
+  pub made-fixed : (r : ℕ) → τ r ≡ r → f .p ≡ madeIn f W r
+  unfolding made
+  made-fixed r e = sym (cond-eq (τ r) r (f .p) _ e)
+
+  pub made-leader : (r : ℕ) → ¬ (τ r ≡ r) → leaderIn f W r ≡ r → 1 ≡ madeIn f W r
+  unfolding made
+  made-leader r n e = sym (cond-ne (τ r) r (f .p) _ n ∙ cond-eq (leaderIn f W r) r 1 0 e)
+
+  pub made-none : (r : ℕ) → ¬ (τ r ≡ r) → ¬ (leaderIn f W r ≡ r) → 0 ≡ madeIn f W r
+  unfolding made
+  made-none r n n′ = sym (cond-ne (τ r) r (f .p) _ n ∙ cond-ne (leaderIn f W r) r 1 0 n′)
+
+  pub number-zero : 0 ≡ numberIn f W 0
+  unfolding start sum
+  number-zero = refl
+
+  pub number-next : (r : ℕ) → numberIn f W (r + 1) ≡ numberIn f W r + madeIn f W r
+  unfolding start sum
+  number-next r = ap (numberIn f W) (add-one r)
+
+  made-small : 1 < f .p → (r : ℕ) → madeIn f W r ≤ f .p
+  unfolding made
+  made-small h r = go (eqb (τ r) r) (eqb (leaderIn f W r) r)
+    where
+      go : (a b : Bool) → cond a (f .p) (cond b 1 0) ≤ f .p
+      go true b = omega arith
+      go false true = omega arith
+      go false false = omega arith
+
+  pub number-small : 1 < f .p → (r : ℕ) → numberIn f W r ≤ r * f .p
+  number-small h zero = omega (arith, number-zero)
+  number-small h (suc r) = omega (arith, ap (numberIn f W) (sym (add-one r)) ∙ number-next r, number-small h r, made-small h r)
+
+  pub number-fits : Stands f W → (r : ℕ) → r ≤ f .reps → numberIn f W r ≤ 268435456
+  number-fits S r l =
+      let a : r * f .p ≤ 4096 * f .p = mul-le-mul-right (f .p) (omega (arith, S .few)) in
+      omega (arith, number-small (S .prime .0) r, S .prime .1, a)
+
+  -- ---- Along an orbit
+
+  pub around-zero : (r : ℕ) → entry 0 0 ≡ aroundIn f W r 0
+  unfolding around
+  around-zero r = refl
+
+  pub around-next : (r k : ℕ) → aroundIn f W r (k + 1) ≡ act (f .m) (sourceIn f W [] .matrix (iter τ k r) (f .top)) (aroundIn f W r k)
+  unfolding around
+  around-next r k = ap (aroundIn f W r) (add-one k)
+
+  pub column-zero : Stands f W → (r : ℕ) → r < f .reps → Below (f .m) (degOf f W r) (entry 0 0)
+  column-zero S r l = record { row = S .wide r l .0; exp = S .modulus .0 }

@@ -1,0 +1,2 @@
+-- What stands in a table text, word by word.
+pub mod Pieces
