@@ -27,7 +27,8 @@ use Rattle.monomial.specs.Families.{Separated, Family}
 use Rattle.monomial.proofs.Exponents.{cancel}
 use Rattle.monomial.proofs.Residues.{residues, Residue-path}
 use Rattle.separation.specs.Decision.{blockCount, blockStarts, reference, outside, unshared, differs, parted, quick}
-use Rattle.separation.proofs.Foreign.{Index, Index-path, d, reached, separated, separates-intro}
+use Rattle.separation.proofs.Foreign.{Index, Index-path, foreign-complete, d, form-shows, reached, separated}
+use Rattle.clifford.proofs.Separates.{separates-from}
 use Rattle.separation.proofs.Cutting.{all-both, cut, cut-zero, cut-one, width, Cut, cuts-each, cuts-all}
 use Rattle.separation.proofs.Restricted.{Two, P, Low, High, Rp, S, Ω, Ω⁺, F, passing, all-pass, wide, locate, locate-is, base, blocked, block-known}
 use Rattle.separation.proofs.Blocks as B
@@ -211,7 +212,8 @@ module _ (W : Two) where
             B.reaches (S W) (F W) (blocked W) k x y (same-block W ((Gᵏ W k x) .0) y (Gᵏ-rep W k x) s)
 
     pub quick-separates : (r : ℕ) → r < length (High W) → Judgement.separates (W .C .P) (W .m) (W .table) (suc (W .i)) r ≡ true
-    quick-separates r h = separates-intro C m pos table (suc i) fair r h (λ k a. all-reached r k h a) all-separated
+    quick-separates r h =
+        separates-from C m pos table (suc i) (λ (x : Ω⁺ W). x .1 .1) (foreign-complete (P W) m pos (suc i) (High W) fair) act (form-shows C m pos (suc i) (High W) fair) r h (fair .degree-pos r h) (λ k a. all-reached r k h a) all-separated
 
   -- ---- 25 gives the quick test
 
