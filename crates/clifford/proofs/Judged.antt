@@ -2,38 +2,34 @@
 -- intertwiners (24), separation (25) and squares (26).
 --
 --   valid-holds, listed-holds, relations-hold, intertwiners-hold, separates-hold, squares-hold
-use mathlib.Core.Path.{_≡_, refl, sym, _∙_, ap, ap₂, subst}
-use mathlib.Core.Bool.{Bool, true, false, _&&_, _||_, not, cond, false≢true}
-use mathlib.Core.List.{List, [], _∷_, _++_, map}
-use Prim.Native.Nat.{ℕ, zero, suc, _+_, _*_, _-_, _%_, _≤_, _<_}
-use native.Mathlib.Nat.{mod-eq-of-lt}
+use mathlib.Core.Path.{_≡_, refl, sym, _∙_, ap, subst}
+use mathlib.Core.Bool.{Bool, true, _||_}
+use mathlib.Core.List.{List}
+use Prim.Native.Nat.{ℕ, suc, _*_, _-_, _≤_, _<_}
 use native.Mathlib.Omega.{arith}
-use native.Mathlib.Decide.{decLt, ℕ-discrete}
-use lib.Dec.{eqb, ltb, leb}
+use native.Mathlib.Decide.{decLt}
+use lib.Dec.{eqb, ltb}
 use lib.ListN.{length}
-use borrow.Author.Tests.{eq-eqb, ne-eqb, lt-ltb, le-leb}
-use Rattle.definitions.specs.declared.Entry.{Entry}
-use Rattle.definitions.specs.Lists.{blocks, sum, iter, allBelow, any}
-use Rattle.definitions.specs.Presentation.{NF, Presentation, Valid, order, Mul, power, value}
-use Rattle.definitions.specs.Monomial.{Matrix, entry, col, product, matrices, valid, sameMatrix, Rep, Level, repOf, image, conjugate}
+use borrow.Author.Tests.{eq-eqb, lt-ltb, le-leb}
+use Rattle.definitions.specs.Lists.{iter}
+use Rattle.definitions.specs.Presentation.{NF, Presentation, order, Mul, power, value}
+use Rattle.definitions.specs.Monomial.{product, valid, Rep, Level, repOf, image, conjugate}
 use Rattle.definitions.specs.Table.{levelAt}
 use Rattle.definitions.specs.Judgement
 use Rattle.numbers.proofs.Bools.{and-intro, or-left, or-right}
 use Rattle.numbers.proofs.Lists.{allBelow-intro, iter-suc}
 use Rattle.numbers.proofs.Sums.{term-le}
 use Rattle.group.specs.Context.{Context, Nf}
-use Rattle.group.specs.Models.{Laws, Hom}
 use Rattle.group.proofs.Values.{power-hom, value-hom}
 use Rattle.group.proofs.Level.{level, conjNf, genNf}
 use Rattle.group.proofs.Group.{Test, Tested, group}
 use Rattle.group.proofs.Order.{order-positive, inverse, inverse-right, inverse-left}
 use Rattle.group.proofs.Conjugation.{conj-period}
-use Rattle.monomial.specs.Exponents.{Residue}
 use Rattle.monomial.specs.Maps.{Map, maps, Inverse}
-use Rattle.monomial.specs.Families.{Separated, Family}
-use Rattle.monomial.specs.Frames.{Frame, Complete, Shows}
+use Rattle.monomial.specs.Families.{Family}
+use Rattle.monomial.specs.Frames.{Frame, Shows}
 use Rattle.monomial.proofs.Maps.{at-mul, at-one, column as at-column}
-use Rattle.monomial.proofs.Residues.{residues, Residue-path}
+use Rattle.monomial.proofs.Residues.{residues}
 use Rattle.monomial.proofs.Frames.{shows-mul, shows-power, shows-value, shows-map, same-shown, shows-valid}
 use Rattle.monomial.proofs.Schur.{intertwiner-inverse, power-commutes, commuting-fixes, rep-power}
 use Rattle.clifford.specs.Stands.{frame, Stands}

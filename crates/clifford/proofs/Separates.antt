@@ -13,7 +13,7 @@ use lib.Dec.{eqb}
 use lib.ListN.{length}
 use borrow.Author.Tests.{eq-eqb, ne-eqb}
 use Rattle.definitions.specs.declared.Entry.{Entry}
-use Rattle.definitions.specs.Lists.{blocks, allBelow, any}
+use Rattle.definitions.specs.Lists.{blocks, any}
 use Rattle.definitions.specs.Presentation.{NF, Presentation, Valid}
 use Rattle.definitions.specs.Monomial.{entry, col, Rep, Level, repOf, image}
 use Rattle.definitions.specs.Table.{levelAt}
@@ -24,7 +24,7 @@ use Rattle.group.specs.Context.{Context, Nf}
 use Rattle.monomial.specs.Exponents.{Residue}
 use Rattle.monomial.specs.Maps.{Map}
 use Rattle.monomial.specs.Families.{Separated}
-use Rattle.monomial.specs.Frames.{Frame, Complete, Shows}
+use Rattle.monomial.specs.Frames.{Complete, Shows}
 use Rattle.monomial.proofs.Residues.{residues, Residue-path}
 use Rattle.clifford.specs.Stands.{frame}
 

@@ -3,7 +3,7 @@
 --   rungs                   every level of an accepted presentation stands, with what its step needs
 --   table-by-formulas       the table of the steps is the lines of the closed formulas
 --   Reads, level-from       a source that reads level i as it is written gives the lines of level suc i
-use mathlib.Core.Path.{_≡_, refl, sym, _∙_, ap, subst}
+use mathlib.Core.Path.{_≡_, _∙_, subst}
 use Prim.Native.Nat.{ℕ, suc, _≤_, _<_}
 use native.Mathlib.Omega.{arith}
 use lib.ListN.{length}
@@ -11,7 +11,7 @@ use Rattle.definitions.specs.Lists.{blocks}
 use Rattle.definitions.specs.Presentation.{Presentation, order}
 use Rattle.definitions.specs.Monomial.{Matrix, repOf}
 use Rattle.definitions.specs.Table.{levelWords}
-use Rattle.definitions.specs.Steps.{nextLevel, levels, tableWith, tableOf}
+use Rattle.definitions.specs.Steps.{levels, tableWith, tableOf}
 use Rattle.formulas.specs.Formulas.{sourceOf, levelBy}
 use Rattle.numbers.proofs.Blocks.{blocks-below}
 use Rattle.group.proofs.Order.{order-positive}

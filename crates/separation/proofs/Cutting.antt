@@ -6,16 +6,14 @@
 --   Cut, cut-at              the block of a column, and what every cut passes
 --   cuts-end                 the last block ends with the columns; how many blocks there are
 --   cut-below, cuts-each, cuts-all      blocks by their number
-use mathlib.Core.Path.{_≡_, refl, sym, _∙_, ap, ap₂, subst}
-use mathlib.Core.Bool.{Bool, true, false, _&&_, cond}
+use mathlib.Core.Path.{_≡_, refl, sym, _∙_, ap, subst}
+use mathlib.Core.Bool.{Bool, true, _&&_}
 use mathlib.Core.List.{List, [], _∷_}
 use Prim.Native.Nat.{ℕ, zero, suc, _+_, _-_, _≤_, _<_}
 use native.Mathlib.Omega.{arith}
 use native.Mathlib.Decide.{decLt}
-use lib.Dec.{eqb, ltb, leb}
 use lib.ListN.{length}
-use borrow.Author.Tests.{ltb-true, leb-true}
-use Rattle.definitions.specs.Lists.{sum, allBelow, all}
+use Rattle.definitions.specs.Lists.{sum, all}
 use Rattle.definitions.specs.Monomial.{Rep, Level, repOf}
 use Rattle.definitions.specs.Judgement
 use Rattle.numbers.proofs.Bools.{and-left, and-right, and-intro, cond-lt, cond-ge}

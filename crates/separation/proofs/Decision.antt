@@ -3,36 +3,35 @@
 --   quick-separates       the quick test gives 25
 --   separates-quick       25 gives the quick test
 --   decides               so the quick test decides 25
-use mathlib.Core.Path.{_≡_, refl, sym, _∙_, ap, ap₂, subst}
-use mathlib.Core.Bool.{Bool, true, false, _&&_, _||_, not, cond}
+use mathlib.Core.Path.{_≡_, refl, sym, _∙_, ap, subst}
+use mathlib.Core.Bool.{Bool, true, _&&_, _||_, not}
 use mathlib.Core.List.{List}
 use mathlib.Core.Logic.{_↔_}
-use Prim.Native.Nat.{ℕ, zero, suc, _+_, _-_, _≤_, _<_}
+use Prim.Native.Nat.{ℕ, suc, _+_, _≤_, _<_}
 use native.Mathlib.Omega.{arith}
 use native.Mathlib.Decide.{decLt, ℕ-discrete}
-use lib.Dec.{eqb, leb}
+use lib.Dec.{eqb}
 use lib.ListN.{length}
 use borrow.Author.Tests.{eqb-true, eqb-false, eq-eqb, ne-eqb, not-true}
 use Rattle.definitions.specs.Lists.{allBelow, all}
-use Rattle.definitions.specs.Monomial.{col, Rep, repOf}
+use Rattle.definitions.specs.Monomial.{col}
 use Rattle.definitions.specs.Judgement
 use Rattle.numbers.proofs.Bools.{and-left, and-right, and-intro, or-left, or-right, OneOf, first, second, or-cases, cond-eq, cond-ne}
 use Rattle.numbers.proofs.Lists.{allBelow-elim, allBelow-intro}
 use Rattle.numbers.proofs.Pigeonhole.{Injects, injects-le, injects-onto}
 use Rattle.group.specs.Context.{Nf}
-use Rattle.group.proofs.Level.{level, low}
-use Rattle.monomial.specs.Exponents.{Exponents, Residue}
-use Rattle.monomial.specs.Maps.{Map, maps}
-use Rattle.monomial.specs.Families.{Separated, Family}
+use Rattle.group.proofs.Level.{low}
+use Rattle.monomial.specs.Maps.{Map}
+use Rattle.monomial.specs.Families.{Separated}
 use Rattle.monomial.proofs.Exponents.{cancel}
 use Rattle.monomial.proofs.Residues.{residues, Residue-path}
-use Rattle.separation.specs.Decision.{blockCount, blockStarts, reference, outside, unshared, differs, parted, quick}
-use Rattle.separation.proofs.Foreign.{Index, Index-path, foreign-complete, d, form-shows, reached, separated}
+use Rattle.separation.specs.Decision.{blockStarts, outside, unshared, differs, parted, quick}
+use Rattle.separation.proofs.Foreign.{Index-path, foreign-complete, d, form-shows, reached, separated}
 use Rattle.clifford.proofs.Separates.{separates-from}
-use Rattle.separation.proofs.Cutting.{all-both, cut, cut-zero, cut-one, width, Cut, cuts-each, cuts-all}
-use Rattle.separation.proofs.Restricted.{Two, P, Low, High, Rp, S, Ω, Ω⁺, F, passing, all-pass, wide, locate, locate-is, base, blocked, block-known}
+use Rattle.separation.proofs.Cutting.{all-both, cut, cut-zero, cut-one, cuts-each, cuts-all}
+use Rattle.separation.proofs.Restricted.{Two, P, Low, High, Rp, S, Ω⁺, F, passing, all-pass, wide, locate, base, blocked, block-known}
 use Rattle.separation.proofs.Blocks as B
-use Rattle.separation.proofs.Numbers.{count, count-end, starts, passes-at, begins-below, block-below, count-pos, at-block, at-located, first-index, first-located, G, Gᵏ, form-rep, G-rep, Gᵏ-rep, G-exp, block, same-block, Stays, stays?, outside-moves, moves-outside, powers-inject}
+use Rattle.separation.proofs.Numbers.{count, starts, passes-at, begins-below, block-below, count-pos, at-block, at-located, first-index, first-located, G, Gᵏ, G-rep, Gᵏ-rep, G-exp, block, same-block, Stays, stays?, outside-moves, moves-outside, powers-inject}
 
 module _ (W : Two) where
   open Two W using (C, tests, m, pos, table, i, in-range, fair)

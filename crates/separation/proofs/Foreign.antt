@@ -8,40 +8,38 @@
 --   satisfies, d, d-hom       they satisfy the relations, so normal forms act
 --   form-shows                the image of a normal form shows its map
 --   foreign-family            a family, where separation holds
-use mathlib.Core.Path.{_≡_, refl, sym, _∙_, ap, ap₂, subst, fun-ext}
+use mathlib.Core.Path.{_≡_, refl, sym, _∙_, ap, fun-ext}
 use mathlib.Core.HLevel.{Σ-prop-path, ×-prop}
 use mathlib.Core.Bool.{Bool, true, false, _&&_, _||_, not, false≢true}
 use mathlib.Core.List.{List, [], _∷_, _++_, map}
-use Prim.Native.Nat.{ℕ, zero, suc, _+_, _%_, _≤_, _<_}
-use native.Mathlib.Nat.{mod-eq-of-lt}
+use Prim.Native.Nat.{ℕ, zero, suc, _%_, _≤_, _<_}
 use native.Mathlib.Bridge.{le-prop}
 use native.Mathlib.Omega.{arith}
 use native.Mathlib.Decide.{decLt, ℕ-discrete}
 use lib.Dec.{eqb}
 use lib.ListN.{length}
-use borrow.Author.Tests.{eqb-true, eqb-false, eq-eqb, ne-eqb, not-true}
+use borrow.Author.Tests.{eqb-true, eqb-false, not-true}
 use Rattle.definitions.specs.declared.Entry.{Entry}
-use Rattle.definitions.specs.Lists.{blocks, allBelow, any}
-use Rattle.definitions.specs.Presentation.{NF, Presentation, Valid, Mul, power, value}
-use Rattle.definitions.specs.Monomial.{Matrix, entry, col, product, matrices, sameMatrix, Rep, Level, repOf, image, conjugate}
+use Rattle.definitions.specs.Lists.{blocks, any}
+use Rattle.definitions.specs.Presentation.{NF, Presentation, Valid, value}
+use Rattle.definitions.specs.Monomial.{col, product, Level, repOf, image, conjugate}
 use Rattle.definitions.specs.Table.{levelAt}
 use Rattle.definitions.specs.Judgement
-use Rattle.numbers.proofs.Bools.{and-left, and-right, and-intro, or-left, or-right, OneOf, first, second, or-cases}
-use Rattle.numbers.proofs.Lists.{allBelow-elim, allBelow-intro}
+use Rattle.numbers.proofs.Bools.{and-left, and-right, OneOf, first, second, or-cases}
+use Rattle.numbers.proofs.Lists.{allBelow-elim}
 use Rattle.group.specs.Context.{Context, Nf}
-use Rattle.group.specs.Models.{Laws, Hom, Satisfies, Model}
+use Rattle.group.specs.Models.{Hom, Satisfies, Model}
 use Rattle.group.proofs.Values.{value-trivial}
 use Rattle.group.proofs.Sound.{sound}
 use Rattle.group.proofs.Level.{level, conjNf}
-use Rattle.group.proofs.Group.{Test, Tested, group}
+use Rattle.group.proofs.Group.{Test, Tested}
 use Rattle.group.proofs.Order.{inverse, inverse-left}
-use Rattle.monomial.specs.Exponents.{Residue}
 use Rattle.monomial.specs.Maps.{Map, maps}
 use Rattle.monomial.specs.Families.{Separated, Family}
 use Rattle.monomial.specs.Frames.{Frame, Complete, Shows}
 use Rattle.monomial.proofs.Maps.{column, at-mul, at-one, maps-laws}
-use Rattle.monomial.proofs.Residues.{residues, Residue-path}
-use Rattle.monomial.proofs.Frames.{shows-mul, shows-power, shows-value, shown-same, entry-path}
+use Rattle.monomial.proofs.Residues.{residues}
+use Rattle.monomial.proofs.Frames.{shows-mul, shows-power, shows-value, shown-same}
 use Rattle.clifford.specs.Stands.{frame}
 use Rattle.separation.specs.Fair.{Fair}
 

@@ -2,19 +2,18 @@
 --
 --   lower-power, lower-commutator      the relations of the level below hold above it
 --   relations-decide                   22 applies exactly if a relation of a generator on top fails
-use mathlib.Core.Path.{_≡_, refl, sym, _∙_, ap, ap₂, subst}
+use mathlib.Core.Path.{_≡_, refl, sym, _∙_, ap, subst}
 use mathlib.Core.Bool.{Bool, true, false, _&&_, not}
 use mathlib.Core.List.{List}
-use Prim.Native.Nat.{ℕ, zero, suc, _+_, _*_, _%_, _≤_, _<_}
+use Prim.Native.Nat.{ℕ, zero, suc, _+_, _≤_, _<_}
 use native.Mathlib.Nat.{mod-eq-of-lt}
 use native.Mathlib.Omega.{arith}
-use lib.Dec.{eqb, ltb, leb}
+use lib.Dec.{eqb, ltb}
 use lib.ListN.{length}
 use borrow.Author.Tests.{eqb-true, ltb-true, leb-true, eq-eqb}
-use Rattle.definitions.specs.declared.Entry.{Entry}
 use Rattle.definitions.specs.Lists.{allBelow, all}
-use Rattle.definitions.specs.Presentation.{NF, Presentation, power, value}
-use Rattle.definitions.specs.Monomial.{Matrix, entry, col, product, matrices, sameEntry, sameMatrix, Rep, Level, repOf, image, conjugate}
+use Rattle.definitions.specs.Presentation.{NF, Presentation, power}
+use Rattle.definitions.specs.Monomial.{Matrix, col, product, matrices, sameEntry, sameMatrix, Rep, Level, repOf, image, conjugate}
 use Rattle.definitions.specs.Table.{levelAt}
 use Rattle.definitions.specs.Judgement
 use Rattle.numbers.proofs.Bools.{and-left, and-right, and-intro}
@@ -22,7 +21,7 @@ use Rattle.numbers.proofs.Lists.{allBelow-elim, allBelow-intro}
 use Rattle.group.specs.Context.{Context}
 use Rattle.monomial.proofs.Frames.{entry-path}
 use Rattle.separation.specs.Relations.{topRelations}
-use Rattle.separation.proofs.Cutting.{all-both, cut, width, Cut, cut-at}
+use Rattle.separation.proofs.Cutting.{all-both, cut, cut-at}
 use Rattle.separation.proofs.Within.{Within, within-mul, within-power, within-value, within-same}
 use Rattle.separation.proofs.Walk.{same-test, valid-parts, valid-columns, whole-at, acts-at}
 

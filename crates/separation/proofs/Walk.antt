@@ -5,17 +5,17 @@
 --   fair-at, restricting-at      its levels are well formed, satisfy the relations and restrict to those below
 --   zero-separates               level 0 is separated
 --   separation-decides           25 applies exactly if the quick test fails on some level
-use mathlib.Core.Path.{_≡_, refl, sym, _∙_, ap, ap₂, subst}
-use mathlib.Core.Bool.{Bool, true, false, _&&_, _||_, not, cond, false≢true}
-use mathlib.Core.List.{List, [], _∷_}
-use Prim.Native.Nat.{ℕ, zero, suc, _+_, _*_, _%_, _≤_, _<_}
+use mathlib.Core.Path.{_≡_, refl, sym, ap, subst}
+use mathlib.Core.Bool.{Bool, true, false, _&&_, not, false≢true}
+use mathlib.Core.List.{List}
+use Prim.Native.Nat.{ℕ, zero, suc, _*_, _%_, _≤_, _<_}
 use native.Mathlib.Omega.{arith}
 use lib.Dec.{eqb, ltb, leb}
-use lib.ListN.{length, getD}
+use lib.ListN.{length}
 use borrow.Author.Tests.{eqb-true, ltb-true, not-false}
-use Rattle.definitions.specs.Lists.{upto, allBelow, anyBelow, all, any}
-use Rattle.definitions.specs.Presentation.{lineWords, Presentation, order, Mul, power, value}
-use Rattle.definitions.specs.Monomial.{entry, col, identity, product, matrices, valid, sameMatrix, Rep, Level, repOf, image, conjugate}
+use Rattle.definitions.specs.Lists.{upto, allBelow, all, any}
+use Rattle.definitions.specs.Presentation.{lineWords, Presentation, order, value}
+use Rattle.definitions.specs.Monomial.{col, identity, valid, Rep, Level, repOf, image}
 use Rattle.definitions.specs.Table.{levelZero, levelAt, complete}
 use Rattle.definitions.specs.Judgement
 use Rattle.numbers.proofs.Bools.{and-left, and-right}

@@ -3,21 +3,20 @@
 --   Within m o M N            columns o, o + 1, .. of M act as those of N
 --   within-one, within-mul, within-power, within-value      products act as products
 --   same-within               what is equal in every block is equal
-use mathlib.Core.Path.{_≡_, refl, sym, _∙_, ap, ap₂, subst}
-use mathlib.Core.Bool.{Bool, true, _&&_}
+use mathlib.Core.Path.{_≡_, sym, _∙_, ap, subst}
+use mathlib.Core.Bool.{true}
 use Prim.Native.Nat.{ℕ, zero, suc, _+_, _%_, _≤_, _<_}
 use native.Mathlib.Omega.{arith}
 use lib.Dec.{eqb}
 use lib.ListN.{length, length-map}
 use borrow.Author.Tests.{eqb-true, eq-eqb}
 use Rattle.definitions.specs.declared.Entry.{Entry}
-use Rattle.definitions.specs.Lists.{allBelow}
 use Rattle.definitions.specs.Presentation.{NF, power, value}
 use Rattle.definitions.specs.Monomial.{Matrix, entry, col, identity, act, product, matrices, sameEntry, sameMatrix}
 use Rattle.numbers.proofs.Bools.{and-left, and-right, and-intro}
-use Rattle.numbers.proofs.Lists.{allBelow-elim, allBelow-intro}
+use Rattle.numbers.proofs.Lists.{allBelow-elim}
 use Rattle.numbers.proofs.Blocks.{length-table}
-use Rattle.monomial.proofs.Frames.{col-map, col-table, entry-path}
+use Rattle.monomial.proofs.Frames.{col-map, col-table}
 
 module _ (m o w d : ℕ) (fits : o + w ≤ d) where
   pub record Within (M N : Matrix) : Type 0 where
