@@ -1,0 +1,2 @@
+-- Laws of the words of a level by turns.
+pub mod Turns
