@@ -1,0 +1,2 @@
+-- Laws of the words of level 1.
+pub mod Laws
