@@ -6,18 +6,17 @@
 --   turn-given                 the words of what a representation gives are those of its turn
 --   level-turns                the words of a level by turns
 --   turn-fixed, turn-led, turn-none      a turn by its case
---   turn-extensions            the turn of a fixed representation of a level that stands in words
 --   fixed-length, led-length, none-length      how many words a turn has
 --   level-length, turn-le      how many a level has; a turn has no more
---   fixed-room, led-room       where there is room for the level, there is room for a turn
+--   turn-room, fixed-room, led-room      where there is room for the level, there is room for a turn
 --   level-wrote                after the last turn the level is written
-use mathlib.Core.Path.{_≡_, refl, ap, ap₂, sym, _∙_, subst}
+use mathlib.Core.Path.{_≡_, refl, ap, sym, _∙_, subst}
 use mathlib.Core.Bool.{Bool, true, false, cond}
-use mathlib.Core.List.{List, [], _∷_, _++_, map}
-use Prim.Native.Nat.{ℕ, zero, suc, _+_, _*_, _<_, _≤_}
+use mathlib.Core.List.{List, [], _∷_, map}
+use Prim.Native.Nat.{ℕ, suc, _+_, _*_, _<_, _≤_}
 use native.Mathlib.Omega.{arith}
 use native.Mathlib.Nat.{add-zero}
-use lib.ListN.{length, getD}
+use lib.ListN.{length}
 use lib.Dec.{eqb}
 use Rattle.definitions.specs.Lists.{upto, blocks, sum}
 use Rattle.definitions.specs.Monomial.{Rep, Level, noRep, repOf}
@@ -30,9 +29,6 @@ use Rattle.formulas.specs.Formulas.{Source, fixed, leader, made, start, extensi
 use Rattle.text.specs.Writing.{Wrote}
 use Rattle.text.proofs.Writing.{wrote-as}
 use Rattle.lines.proofs.Appending.{Going, going-room}
-use Rattle.survey.specs.declared.Frame.{Frame}
-use Rattle.survey.specs.Below.{sourceIn}
-use Rattle.extend.specs.Extending.{extensionsWords}
 use Rattle.turns.specs.Turns.{turnWords}
 
 -- ---- Words of representations
@@ -129,7 +125,7 @@ module _ (n : ℕ) (S : Source) where
 -- ---- Room
 
 module _ (n : ℕ) (S : Source) {low : ℕ} {w₀ : List ℕ} {at₀ : ℕ} where
-  turn-room : (r : ℕ) {w : List ℕ} {at : ℕ} → Going low (turnWords n S) w₀ at₀ r w at → r < S .count → 8 * at₀ + length (levelWords n (suc (S .i)) (levelBy S)) ≤ length w₀
+  pub turn-room : (r : ℕ) {w : List ℕ} {at : ℕ} → Going low (turnWords n S) w₀ at₀ r w at → r < S .count → 8 * at₀ + length (levelWords n (suc (S .i)) (levelBy S)) ≤ length w₀
       → 8 * at + length (turnWords n S r) ≤ length w
   turn-room r G l h = going-room (S .count) G l (subst (λ s. 8 * at₀ + length s ≤ length w₀) (level-turns n S) h)
 
@@ -143,9 +139,3 @@ module _ (n : ℕ) (S : Source) {low : ℕ} {w₀ : List ℕ} {at₀ : ℕ} wher
 
   pub level-wrote : {w : List ℕ} {at : ℕ} → Going low (turnWords n S) w₀ at₀ (S .count) w at → Wrote w₀ (8 * at₀) (levelWords n (suc (S .i)) (levelBy S)) w (8 * at)
   level-wrote G = wrote-as (G .wrote) (sym (level-turns n S))
-
--- the turn of a fixed representation is what its extensions leave in the words
-pub turn-extensions : (f : Frame) (W : List ℕ) (rows : List (List ℕ)) (r : ℕ) → fixed (sourceIn f W rows) r ≡ true
-    → extensionsWords f W rows (start (sourceIn f W rows) r) r ≡ turnWords (f .gens) (sourceIn f W rows) r
-unfolding extensionsWords
-turn-extensions f W rows r h = sym (turn-fixed (f .gens) (sourceIn f W rows) r h)
