@@ -1,0 +1,3 @@
+-- The levels of the steps, as they stand in words.
+pub mod Places
+pub mod Room
