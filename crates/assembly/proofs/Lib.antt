@@ -1,3 +1,5 @@
 -- The levels of the steps, as they stand in words.
 pub mod Places
 pub mod Room
+pub mod Words
+pub mod Standing
