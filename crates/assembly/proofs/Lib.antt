@@ -3,3 +3,4 @@ pub mod Places
 pub mod Room
 pub mod Words
 pub mod Standing
+pub mod Next
