@@ -4,3 +4,5 @@ pub mod Room
 pub mod Words
 pub mod Standing
 pub mod Next
+pub mod Cycles
+pub mod First

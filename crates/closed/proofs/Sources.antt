@@ -88,7 +88,7 @@ module _ (T : Twins) where
   orbit-in : (r k : ℕ) → r < count → Fm.orbit left r k < count
   orbit-in r k h = orbit-same k r h .1
 
-  leader-same : (r : ℕ) → Fm.leader left r ≡ Fm.leader right r
+  pub leader-same : (r : ℕ) → Fm.leader left r ≡ Fm.leader right r
   leader-same r = least-below count _ _ (λ q l. anyBelow-below p _ _ (λ k a. ap (λ s. eqb s r) (orbit-same k q l .0)))
 
   leader-in : (r : ℕ) → r < count → Fm.leader left r < count
@@ -157,7 +157,7 @@ module _ (T : Twins) where
   unfolding Fm.cycleEntry
   cycle-same r h x = λ o. record { block = Fm.nextOf left (x .block); at = ap₂ (λ c M. Fm.plus m c (act m M (x .at))) (shiftOf-same r (x .block) h) (orbit-matrix r (x .block) i h in-range) o }
 
-  module _ (j r : ℕ) (a : i < j) (b : j < n) (h : r < count) where
+  module _ (j r : ℕ) (a : T .i < j) (b : j < T .n) (h : r < T .count) where
     conj-same : (k : ℕ) → Fm.conjugateEntry left j r k ≡ Fm.conjugateEntry right j r k
     unfolding Fm.conjugateEntry
     conj-same k =
@@ -186,7 +186,7 @@ module _ (T : Twins) where
         (shiftOf-same (Fm.leader left q) (Fm.position left q) (leader-in q (to-in k)) ∙ ap₂ (Fm.shiftOf right) (leader-same q ∙ ap (Fm.leader right) (to-same k)) (position-same q (to-in k) ∙ ap (Fm.position right) (to-same k)))
         (ap₂ (λ M N. act m M (act m N (entry 0 0))) (T .matrix-same q i (to-in k) in-range ∙ ap (λ t. matrix′ t i) (to-same k)) (orbit-matrix r k j h b))
 
-    block-same : (t : ℕ) → Fm.blockAt left j r t ≡ Fm.blockAt right j r t
+    pub block-same : (t : ℕ) → Fm.blockAt left j r t ≡ Fm.blockAt right j r t
     unfolding Fm.blockAt
     block-same zero = refl
     block-same (suc t) = ap (λ (x : Moved). x .block) (conj-same (Fm.blockAt left j r t)) ∙ ap (λ k. Fm.conjugateEntry right j r k .block) (block-same t)

@@ -55,12 +55,13 @@ module _ (A : Accepted) where
     pub targets : (j r : ℕ) → i ≤ j → j < n → r < length (levels P m i) → repOf (levels P m i) r .ref j 0 ≡ target j r
 
   module _ (i : ℕ) (l : i < A .C .P .n) (degree : ℕ → ℕ) (matrix : ℕ → ℕ → Matrix) (target : ℕ → ℕ → ℕ) (reads : Reads i degree matrix target) where
-    target-in : (j r : ℕ) → i ≤ j → j < n → r < length (levels P m i) → repOf (levels P m i) r .ref j 0 < length (levels P m i)
+    pub target-in : (j r : ℕ) → i ≤ j → j < n → r < length (levels P m i) → repOf (levels P m i) r .ref j 0 < length (levels P m i)
     target-in j r a b h =
         let St = standing (setting A) i (omega arith) in
         subst (λ s. s < length (levels P m i)) (St .literal j r) (target-listed (A .C) n m (order-positive (A .C) n) i (levels P m i) (St .F) (St .stands) j a b r h)
 
-    abbrev twins : (w : (j : ℕ) → NF (suc i)) → ((j : ℕ) → i < j → j < A .C .P .n → A .C .P .w i j ≡ w j) → Twins
+    -- the level, and what reads it
+    abbrev pub twins : (w : (j : ℕ) → NF (suc i)) → ((j : ℕ) → i < j → j < A .C .P .n → A .C .P .w i j ≡ w j) → Twins
     twins w told = record {
       m = m;
       i = i;
