@@ -6,3 +6,4 @@ pub mod Standing
 pub mod Next
 pub mod Cycles
 pub mod First
+pub mod Climb

@@ -102,7 +102,7 @@ module _ (T : Twins) where
   turn-same : (r : ℕ) → r < count → target i r ≡ target′ i r
   turn-same r h = T .target-same i r (omega arith) in-range h
 
-  made-same : (r : ℕ) → r < count → Fm.made left r ≡ Fm.made right r
+  pub made-same : (r : ℕ) → r < T .count → Fm.made left r ≡ Fm.made right r
   unfolding Fm.made
   made-same r h = ap₂ (λ t l. cond (eqb t r) p (cond (eqb l r) 1 0)) (turn-same r h) (leader-same r)
 
