@@ -4,11 +4,11 @@
 --   next-reps                 how many representations the formulas give
 --   next-placed               the frame of the level after
 --   one-upTo, one-reps, one-length, one-placed      the same for level 1
-use mathlib.Core.Path.{_≡_, refl, sym, _∙_, ap, ap₂, subst}
-use mathlib.Core.List.{List, [], _∷_, _++_}
-use Prim.Native.Nat.{ℕ, zero, suc, _+_, _*_, _-_, _≤_, _<_}
+use mathlib.Core.Path.{_≡_, refl, sym, _∙_, ap, ap₂}
+use mathlib.Core.List.{List, _++_}
+use Prim.Native.Nat.{ℕ, zero, suc, _+_, _*_, _-_, _<_}
 use native.Mathlib.Omega.{arith}
-use lib.ListN.{length, getD, length-append}
+use lib.ListN.{length, length-append}
 use Rattle.definitions.specs.Lists.{blocks, sum}
 use Rattle.definitions.specs.Presentation.{Presentation, order}
 use Rattle.definitions.specs.Monomial.{Level, repOf}
@@ -19,17 +19,16 @@ use Rattle.formulas.specs.Formulas as Fm
 use Rattle.formulas.specs.Formulas.{levelBy}
 use Rattle.numbers.proofs.Sums.{sum-suc, sum-zero, sum-below}
 use Rattle.numbers.proofs.Blocks.{length-even}
-use Rattle.clifford.specs.Stands.{Rung}
 use Rattle.clifford.specs.Accepted.{Accepted}
-use Rattle.clifford.proofs.Standing.{rung, standing, setting}
+use Rattle.clifford.proofs.Standing.{rung}
 use Rattle.clifford.proofs.Numbering.{next-length, made-fixed}
 use Rattle.closed.proofs.Sources.{Twins, made-same}
 use Rattle.closed.proofs.Table.{rungs, twins}
 use Rattle.lines.specs.Lines.{matrixIn}
 use Rattle.survey.specs.declared.Frame.{Frame}
 use Rattle.survey.specs.Below.{sourceIn, degOf, matrixOf, targetOf, madeIn, numberIn}
-use Rattle.assembly.specs.Built.{upTo, linesTo, frameAt, Placed, Told, lineOne, levelOne}
-use Rattle.assembly.proofs.Places.{upTo-suc, upTo-length}
+use Rattle.assembly.specs.Built.{upTo, frameAt, Placed, Told, lineOne, levelOne}
+use Rattle.assembly.proofs.Places.{upTo-suc}
 use Rattle.assembly.proofs.Words.{reads}
 use Rattle.assembly.proofs.Standing.{placed}
 use Rattle.assembly.proofs.Next.{next-words}

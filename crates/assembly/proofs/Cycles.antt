@@ -4,25 +4,24 @@
 --   unit-at                   which the prime does not divide, where something moves
 --   once-at, visits-at        so no block comes twice in p steps, and every block comes
 --   Visited, visited          the same in any frame that says so
-use mathlib.Core.Path.{_≡_, refl, sym, _∙_, ap, ap₂, subst}
+use mathlib.Core.Path.{_≡_, sym, _∙_, ap, subst}
 use mathlib.Core.List.{List, []}
-use Prim.Native.Nat.{ℕ, zero, suc, _+_, _*_, _%_, _≤_, _<_, _∣_}
+use Prim.Native.Nat.{ℕ, zero, suc, _*_, _%_, _<_, _∣_}
 use native.Mathlib.Omega.{arith}
 use lib.ListN.{length, getD}
 use Rattle.definitions.specs.Presentation.{NF, toNF, pairNumber, Presentation, order}
 use Rattle.definitions.specs.Monomial.{Level, repOf}
 use Rattle.definitions.specs.Steps.{levels}
-use Rattle.formulas.specs.Formulas.{Source, blockAt}
-use Rattle.numbers.proofs.Orbits.{leader, unit-injective, unit-onto}
+use Rattle.formulas.specs.Formulas.{blockAt}
+use Rattle.numbers.proofs.Orbits.{unit-injective, unit-onto}
 use Rattle.clifford.specs.Stands.{Rung}
 use Rattle.clifford.specs.Accepted.{Accepted}
-use Rattle.clifford.proofs.Standing.{rung, standing, setting}
+use Rattle.clifford.proofs.Standing.{rung}
 use Rattle.clifford.proofs.Numbering.{O}
 use Rattle.clifford.proofs.Next.{moved-unit}
-use Rattle.closed.proofs.Entries.{Sc}
 use Rattle.closed.proofs.Induced.{block-is}
 use Rattle.closed.proofs.Scalar.{leader-of}
-use Rattle.closed.proofs.Sources.{Twins, left, right, leader-same, block-same}
+use Rattle.closed.proofs.Sources.{Twins, left, leader-same, block-same}
 use Rattle.closed.proofs.Table.{rungs, twins}
 use Rattle.lines.specs.Lines.{matrixIn}
 use Rattle.survey.specs.declared.Frame.{Frame}

@@ -6,17 +6,17 @@
 --   level-one-told                 the same, with the exponents that rows tell
 use mathlib.Core.Path.{_≡_, refl, sym, _∙_, ap, ap₂, subst}
 use mathlib.Core.Bool.{Bool, true, false, cond}
-use mathlib.Core.List.{List, [], _∷_, _++_, map}
-use Prim.Native.Nat.{ℕ, zero, suc, _+_, _*_, _-_, _/_, _%_, _≤_, _<_}
+use mathlib.Core.List.{List, [], _∷_, map}
+use Prim.Native.Nat.{ℕ, zero, suc, _+_, _*_, _-_, _/_, _%_, _<_}
 use native.Mathlib.Nat.{zero-mod, mod-self, mod-eq-of-lt, zero-div, mul-div-right, mul-lt-mul-of-pos-right}
 use native.Mathlib.Omega.{arith}
 use native.Mathlib.Decide.{ℕ-discrete}
 use lib.Dec.{eqb, leb}
 use lib.ListN.{length, getD}
 use Rattle.definitions.specs.declared.Entry.{Entry}
-use Rattle.definitions.specs.Lists.{upto, blocks, sum, iter}
+use Rattle.definitions.specs.Lists.{upto, blocks, sum}
 use Rattle.definitions.specs.Presentation.{NF, toNF, pairNumber, Presentation, order}
-use Rattle.definitions.specs.Monomial.{Matrix, entry, col, identity, less, act, scale, Rep, Level, repOf, noRep}
+use Rattle.definitions.specs.Monomial.{entry, col, identity, less, act, scale, repOf, noRep}
 use Rattle.definitions.specs.Table.{lineOf, repWords, levelWords, levelZero}
 use Rattle.definitions.specs.Steps.{levels}
 use Rattle.formulas.specs.Formulas as Fm

@@ -7,3 +7,4 @@ pub mod Next
 pub mod Cycles
 pub mod First
 pub mod Climb
+pub mod Stated

@@ -2,15 +2,15 @@
 --
 --   next-at, next-words       its lines are those of the formulas, which read the level before off the words
 --   below-at, rows-below      exponents of the generator on top are below its prime
-use mathlib.Core.Path.{_≡_, refl, sym, _∙_, ap, ap₂, subst}
+use mathlib.Core.Path.{_≡_, sym, _∙_, ap, ap₂, subst}
 use mathlib.Core.List.{List, []}
-use Prim.Native.Nat.{ℕ, zero, suc, _≤_, _<_}
+use Prim.Native.Nat.{ℕ, zero, suc, _<_}
 use native.Mathlib.Omega.{arith}
 use lib.ListN.{length, getD}
 use Rattle.definitions.specs.Presentation.{NF, toNF, pairNumber, order}
 use Rattle.definitions.specs.Table.{levelWords}
 use Rattle.definitions.specs.Steps.{levels}
-use Rattle.formulas.specs.Formulas.{Source, levelBy}
+use Rattle.formulas.specs.Formulas.{levelBy}
 use Rattle.clifford.specs.Accepted.{Accepted}
 use Rattle.closed.proofs.Table.{level-told}
 use Rattle.lines.specs.Lines.{matrixIn}

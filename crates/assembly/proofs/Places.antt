@@ -6,10 +6,9 @@
 --   startOf                    the line at which a representation begins
 --   start-suc, start-end       the next one; the last ends where the level ends
 --   word-in                    a word of the line of a level, representation, generator and column
-use mathlib.Core.Path.{_≡_, refl, sym, _∙_, ap, ap₂, subst}
-use mathlib.Core.List.{List, [], _∷_, _++_}
-use Prim.Native.Nat.{ℕ, zero, suc, _+_, _*_, _-_, _≤_, _<_}
-use native.Mathlib.Nat.{mul-le-mul-left}
+use mathlib.Core.Path.{_≡_, refl, sym, _∙_, ap, ap₂}
+use mathlib.Core.List.{_++_}
+use Prim.Native.Nat.{ℕ, suc, _+_, _*_, _-_, _≤_, _<_}
 use native.Mathlib.Omega.{arith}
 use lib.Arith.{digits-lt}
 use lib.ListN.{length, getD, List·getD-append}
@@ -19,7 +18,7 @@ use Rattle.definitions.specs.Monomial.{Rep, Level, repOf}
 use Rattle.definitions.specs.Table.{lineOf, repWords, levelWords, wordAt}
 use Rattle.definitions.specs.Steps.{levels, tableWith, tableOf}
 use Rattle.numbers.proofs.Lists.{length-blocks, sum-mono}
-use Rattle.numbers.proofs.Sums.{sum-suc, sum-below, sum-mul, first-le, stretch-below}
+use Rattle.numbers.proofs.Sums.{sum-suc, sum-below, sum-mul}
 use Rattle.numbers.proofs.Blocks.{length-even, blocks-suc, blocks-split}
 use Rattle.clifford.specs.Accepted.{Accepted}
 use Rattle.clifford.proofs.Standing.{standing, setting}

@@ -1,24 +1,22 @@
 -- How large the levels are: the squares of the degrees of a level add up to its order.
 --
 --   order-step, order-le       orders grow, and are at most that of the group
---   square-le, reps-le, columns-le     degrees, representations and columns of a level are at most its order
+--   degree-le, reps-le, columns-le     degrees, representations and columns of a level are at most its order
 --   lines-le, room             the words of the first levels have room in those that a build wants
 --   line-count                 the lines of the table
 --   lines-small                under the ceilings they are few
-use mathlib.Core.Path.{_≡_, refl, sym, _∙_, ap, ap₂, subst}
+use mathlib.Core.Path.{_≡_, sym, _∙_, ap, subst}
 use Prim.Native.Nat.{ℕ, zero, suc, _+_, _*_, _-_, _/_, _≤_, _<_}
 use native.Mathlib.Nat.{mul-le-mul-left, mul-le-mul-right, mul-div-right}
 use native.Mathlib.Omega.{arith}
 use lib.ListN.{length}
 use Rattle.definitions.specs.Lists.{sum}
 use Rattle.definitions.specs.Presentation.{Presentation, order, buildWords, lineWords}
-use Rattle.definitions.specs.Monomial.{Level, repOf}
+use Rattle.definitions.specs.Monomial.{Level}
 use Rattle.definitions.specs.Table.{lineCount}
 use Rattle.definitions.specs.Steps.{levels, tableOf}
 use Rattle.numbers.proofs.Lists.{sum-mono}
 use Rattle.numbers.proofs.Sums.{sum-le, sum-mul, sum-const, sum-below, term-le}
-use Rattle.group.proofs.Order.{order-positive}
-use Rattle.clifford.specs.Stands.{Stands}
 use Rattle.clifford.specs.Accepted.{Accepted}
 use Rattle.clifford.proofs.Standing.{standing, setting}
 use Rattle.assembly.specs.Built.{upTo, linesTo, degreeIn, Small}
@@ -73,8 +71,8 @@ module _ (A : Accepted) where
     pub degree-pos : (r : ℕ) → r < length (levels (A .C .P) (order (A .C .P) (A .C .P .n)) (suc k)) → 0 < degreeIn A k r
     degree-pos r h = standing (setting A) (suc k) l .stands .degree-pos r h
 
-    pub square-le : (r : ℕ) → r < length (levels (A .C .P) (order (A .C .P) (A .C .P .n)) (suc k)) → degreeIn A k r ≤ order (A .C .P) (suc k)
-    square-le r h =
+    pub degree-le : (r : ℕ) → r < length (levels (A .C .P) (order (A .C .P) (A .C .P .n)) (suc k)) → degreeIn A k r ≤ order (A .C .P) (suc k)
+    degree-le r h =
         let a = self-square (d k r) in
         let b = term-le (λ r. d k r * d k r) (length (level k)) r h in
         let e = squares in

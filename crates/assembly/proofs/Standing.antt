@@ -5,12 +5,12 @@
 --   holds                        d lines hold each matrix
 --   stands-at                    all of it, in the frame of the next level
 --   placed, stands               the same in any frame that says so
-use mathlib.Core.Path.{_≡_, refl, sym, _∙_, ap, ap₂, subst}
-use mathlib.Core.List.{List, []}
+use mathlib.Core.Path.{_≡_, sym, _∙_, ap, subst}
+use mathlib.Core.List.{List}
 use Prim.Native.Nat.{ℕ, zero, suc, _+_, _*_, _-_, _/_, _≤_, _<_}
 use native.Mathlib.Nat.{mul-le-mul-left, mul-le-mul-right, mul-div-right}
 use native.Mathlib.Omega.{arith}
-use lib.ListN.{length, getD}
+use lib.ListN.{length}
 use Rattle.definitions.specs.Lists.{iter}
 use Rattle.definitions.specs.Presentation.{Presentation, order}
 use Rattle.definitions.specs.Monomial.{Level, repOf}
@@ -18,7 +18,6 @@ use Rattle.definitions.specs.Steps.{levels}
 use Rattle.numbers.proofs.Lists.{iter-zero, iter-suc}
 use Rattle.numbers.proofs.Orbits.{Orbits}
 use Rattle.group.proofs.Order.{order-positive}
-use Rattle.clifford.specs.Stands.{Stands as Level-stands, Rung}
 use Rattle.clifford.specs.Accepted.{Accepted}
 use Rattle.clifford.proofs.Standing.{Standing, standing, setting, rung, order-split}
 use Rattle.clifford.proofs.Agreement.{target-listed}
@@ -29,7 +28,7 @@ use Rattle.survey.specs.declared.Frame.{Frame}
 use Rattle.survey.specs.Below.{Stands, firstOf, degOf, matrixOf, targetOf}
 use Rattle.assembly.specs.Built.{upTo, linesTo, degreeIn, frameAt, Small, Placed}
 use Rattle.assembly.proofs.Places.{upTo-length, startOf, start-suc, start-end}
-use Rattle.assembly.proofs.Room.{order-le, degree-pos, square-le, reps-le, lines-small}
+use Rattle.assembly.proofs.Room.{order-le, degree-pos, degree-le, reps-le, lines-small}
 use Rattle.assembly.proofs.Words.{first-of, deg-of, line-of, target-of, entry-of, column-below}
 
 -- iterates of maps that agree below N
@@ -163,7 +162,7 @@ module _ (A : Accepted) (k : ℕ) where
       where
         narrow : Small A → (r : ℕ) → r < length L → p * d r ≤ 65536
         narrow S r h =
-            let a : p * d r ≤ p * order P (suc k) = mul-le-mul-left p (square-le A k lower r h) in
+            let a : p * d r ≤ p * order P (suc k) = mul-le-mul-left p (degree-le A k lower r h) in
             let b = prime-order in
             omega (arith, S .low)
 

@@ -5,31 +5,29 @@
 --   size-of, column-below     matrices have as many columns as their degree, and their columns are in range
 --   reads                     all of it
 use mathlib.Core.Path.{_≡_, refl, sym, _∙_, ap, ap₂, subst}
-use mathlib.Core.List.{List, [], _∷_, map}
+use mathlib.Core.List.{List}
 use Prim.Native.Nat.{ℕ, zero, suc, _+_, _*_, _-_, _≤_, _<_}
 use native.Mathlib.Omega.{arith}
 use native.Mathlib.Decide.{decLt}
 use lib.ListN.{length, getD}
 use lib.Seq.{ext-getD}
-use Rattle.definitions.specs.declared.Entry.{Entry}
-use Rattle.definitions.specs.Lists.{upto}
 use Rattle.definitions.specs.Presentation.{Presentation, order}
-use Rattle.definitions.specs.Monomial.{Matrix, entry, col, Level, Rep, repOf}
+use Rattle.definitions.specs.Monomial.{Matrix, entry, col, Level, repOf}
 use Rattle.definitions.specs.Table.{lineOf, wordAt}
 use Rattle.definitions.specs.Steps.{levels}
 use Rattle.numbers.proofs.Blocks.{getD-table, length-table}
 use Rattle.group.proofs.Order.{order-positive}
 use Rattle.monomial.specs.Maps.{Map}
-use Rattle.monomial.specs.Frames.{Frame as Indexed, Complete, Shows}
+use Rattle.monomial.specs.Frames.{Frame as Indexed, Shows}
 use Rattle.monomial.proofs.Residues.{residues}
-use Rattle.clifford.specs.Stands.{Stands, frame}
+use Rattle.clifford.specs.Stands.{frame}
 use Rattle.clifford.specs.Accepted.{Accepted}
 use Rattle.clifford.proofs.Standing.{Standing, standing, setting}
 use Rattle.closed.proofs.Table.{Reads}
 use Rattle.lines.specs.Lines.{Below, entryIn, matrixIn}
 use Rattle.survey.specs.declared.Frame.{Frame}
 use Rattle.survey.specs.Below.{firstOf, degOf, matrixOf, targetOf}
-use Rattle.assembly.specs.Built.{upTo, linesTo, degreeIn, frameAt}
+use Rattle.assembly.specs.Built.{upTo, degreeIn, frameAt}
 use Rattle.assembly.proofs.Places.{startOf, start-zero, start-suc, word-in}
 use Rattle.assembly.proofs.Room.{degree-pos}
 
