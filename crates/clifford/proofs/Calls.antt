@@ -6,24 +6,23 @@
 --   built-checks          a finished build leaves words whose check answers 0
 use mathlib.Core.Path.{_≡_, refl, sym, _∙_, ap, ap₂, subst}
 use mathlib.Core.Logic.{_⊎_, inl, inr}
-use mathlib.Core.Bool.{Bool, true, false, cond, false≢true, true≢false}
-use mathlib.Core.List.{List, [], _∷_, _++_, map}
-use Prim.Native.Nat.{ℕ, zero, suc, _+_, _*_, _/_, _<_}
+use mathlib.Core.Bool.{Bool, true, false, cond, false≢true}
+use mathlib.Core.List.{List, [], _∷_, _++_}
+use Prim.Native.Nat.{ℕ, _*_, _/_, _<_}
 use native.Mathlib.Nat.{mul-div-right}
 use native.Mathlib.Omega.{arith}
 use lib.ListN.{length, take, drop}
 use lib.Seq.{take-append-seam}
 use Rattle.definitions.specs.Text.{Bytes}
-use Rattle.definitions.specs.Presentation.{lineWords, Presentation, order, buildWords, Relations, Says, InForm, wellFormed, presentation, someNotPrime, tooLarge, misused}
+use Rattle.definitions.specs.Presentation.{lineWords, Presentation, order, buildWords, Relations, Says, InForm, presentation, someNotPrime, tooLarge, misused}
 use Rattle.definitions.specs.Consistency.{Consistent}
 use Rattle.definitions.specs.Table.{lineCount}
 use Rattle.definitions.specs.Steps.{tableOf}
 use Rattle.definitions.specs.Judgement.{malformed, relationFails, restrictionFails, intertwinerFails, notSeparated, squaresFail}
-use Rattle.definitions.specs.Answers.{First, firstOf, says, presentationRefusals, buildRefusals, judgements, checkRefusals, judgement, over, Accept, Build, Check}
+use Rattle.definitions.specs.Answers.{First, firstOf, says, presentationRefusals, judgement, over, Build, Check}
 use Rattle.definitions.proofs.Rendering.{says-unique}
 use Rattle.group.proofs.Context.{decision}
-use Rattle.clifford.proofs.Lines.{table-length}
-use Rattle.clifford.proofs.Theorem.{accepted, accepted-is, built-passes, table-words}
+use Rattle.clifford.proofs.Theorem.{built-passes, table-words}
 
 -- ---- Answers
 

@@ -16,6 +16,7 @@ pub mod Climb
 pub mod Standing
 pub mod Lines
 pub mod Agreement
+pub mod Separates
 pub mod Judged
 pub mod Cuts
 pub mod Theorem

@@ -7,8 +7,8 @@
 --   twins-words             their levels have the same lines
 use mathlib.Core.Path.{_≡_, refl, sym, _∙_, ap, ap₂, subst}
 use mathlib.Core.Bool.{Bool, true, false, _||_, cond}
-use mathlib.Core.List.{List, [], _∷_, _++_, map}
-use Prim.Native.Nat.{ℕ, zero, suc, _+_, _*_, _-_, _/_, _%_, _≤_, _<_}
+use mathlib.Core.List.{[], _∷_, map}
+use Prim.Native.Nat.{ℕ, zero, suc, _+_, _*_, _/_, _%_, _≤_, _<_}
 use native.Mathlib.Omega.{arith}
 use native.Mathlib.Decide.{decLt, ℕ-discrete}
 use lib.Dec.{eqb, ltb, leb}
@@ -17,15 +17,14 @@ use borrow.Author.Tests.{eq-eqb, le-leb}
 use Rattle.definitions.specs.declared.Entry.{Entry}
 use Rattle.definitions.specs.Lists.{upto, blocks, sum, anyBelow, leastFrom, least, iter}
 use Rattle.definitions.specs.Presentation.{NF}
-use Rattle.definitions.specs.Monomial.{Matrix, entry, col, less, act, scale, Rep, Level, repOf, noRep}
+use Rattle.definitions.specs.Monomial.{Matrix, entry, col, less, act, scale, Rep, repOf, noRep}
 use Rattle.definitions.specs.Steps.{lift}
 use Rattle.definitions.specs.Table.{lineOf, repWords, levelWords}
 use Rattle.formulas.specs.Formulas as Fm
 use Rattle.formulas.specs.Formulas.{Source, Moved}
-use Rattle.numbers.proofs.Bools.{cond-true, cond-eq, cond-ne, cond-lt, cond-ge}
+use Rattle.numbers.proofs.Bools.{cond-true, cond-eq, cond-lt}
 use Rattle.numbers.proofs.Lists.{iter-zero, iter-suc, length-blocks}
-use Rattle.numbers.proofs.Iterates.{iter-out}
-use Rattle.numbers.proofs.Sums.{sum-below, Owner, owner}
+use Rattle.numbers.proofs.Sums.{sum-below, owner}
 use Rattle.numbers.proofs.Searches.{anyBelow-intro, least-least}
 use Rattle.numbers.proofs.Blocks.{getD-table, length-table, getD-blocks, blocks-below}
 

@@ -4,7 +4,7 @@
 --   table-by-formulas       the table of the steps is the lines of the closed formulas
 --   Reads, level-from       a source that reads level i as it is written gives the lines of level suc i
 --   level-told              the same, where the words are those of the presentation for the generators above i
-use mathlib.Core.Path.{_≡_, refl, sym, _∙_, ap, subst}
+use mathlib.Core.Path.{_≡_, refl, _∙_, subst}
 use Prim.Native.Nat.{ℕ, suc, _≤_, _<_}
 use native.Mathlib.Omega.{arith}
 use lib.ListN.{length}
@@ -12,7 +12,7 @@ use Rattle.definitions.specs.Lists.{blocks}
 use Rattle.definitions.specs.Presentation.{NF, Presentation, order}
 use Rattle.definitions.specs.Monomial.{Matrix, repOf}
 use Rattle.definitions.specs.Table.{levelWords}
-use Rattle.definitions.specs.Steps.{nextLevel, levels, tableWith, tableOf}
+use Rattle.definitions.specs.Steps.{levels, tableWith, tableOf}
 use Rattle.formulas.specs.Formulas.{sourceOf, levelBy}
 use Rattle.numbers.proofs.Blocks.{blocks-below}
 use Rattle.group.proofs.Order.{order-positive}
