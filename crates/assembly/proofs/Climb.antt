@@ -3,7 +3,7 @@
 --   next-upTo                 the words before, and the lines of the formulas behind them
 --   next-reps                 how many representations the formulas give
 --   next-placed               the frame of the level after
---   one-upTo, one-reps, one-length, one-placed      the same for level 1
+--   one-reps, one-upTo, one-length, one-placed      the same for level 1
 use mathlib.Core.Path.{_≡_, refl, sym, _∙_, ap, ap₂}
 use mathlib.Core.List.{List, _++_}
 use Prim.Native.Nat.{ℕ, zero, suc, _+_, _*_, _-_, _<_}
@@ -18,16 +18,17 @@ use Rattle.definitions.specs.Steps.{levels}
 use Rattle.formulas.specs.Formulas as Fm
 use Rattle.formulas.specs.Formulas.{levelBy}
 use Rattle.numbers.proofs.Sums.{sum-suc, sum-zero, sum-below}
-use Rattle.numbers.proofs.Blocks.{length-even}
 use Rattle.clifford.specs.Accepted.{Accepted}
 use Rattle.clifford.proofs.Standing.{rung}
 use Rattle.clifford.proofs.Numbering.{next-length, made-fixed}
 use Rattle.closed.proofs.Sources.{Twins, made-same}
 use Rattle.closed.proofs.Table.{rungs, twins}
+use Rattle.first.specs.Roots.{firstWords}
+use Rattle.first.proofs.Laws.{firstWords-length}
 use Rattle.lines.specs.Lines.{matrixIn}
 use Rattle.survey.specs.declared.Frame.{Frame}
 use Rattle.survey.specs.Below.{sourceIn, degOf, matrixOf, targetOf, madeIn, numberIn}
-use Rattle.assembly.specs.Built.{upTo, frameAt, Placed, Told, lineOne, levelOne}
+use Rattle.assembly.specs.Built.{upTo, frameAt, Placed, Told}
 use Rattle.assembly.proofs.Places.{upTo-suc}
 use Rattle.assembly.proofs.Words.{reads}
 use Rattle.assembly.proofs.Standing.{placed}
@@ -104,33 +105,32 @@ module _ (A : Accepted) where
   unfolding upTo blocks
   upTo-first = refl
 
-  pub one-upTo : upTo A 1 ≡ levelOne (A .C .P .n) (order (A .C .P) (A .C .P .n)) (A .C .P .p 0) (λ g. A .C .P .w 0 g .0)
-  one-upTo = upTo-first ∙ level-one A
-
-  pub one-length : length (upTo A 1) ≡ 8 * (A .C .P .n * A .C .P .p 0)
-  unfolding levelOne lineOne
-  one-length =
-      ap length one-upTo
-      ∙ length-even (λ k. blocks n (lineOne m (P .p 0) (λ g. P .w 0 g .0) k)) (n * 8) (P .p 0) (λ k a. length-even (lineOne m (P .p 0) (λ g. P .w 0 g .0) k) 8 n (λ g b. refl)) ∙ omega arith
-
   pub one-reps : length (levels (A .C .P) (order (A .C .P) (A .C .P .n)) 1) ≡ A .C .P .p 0
   unfolding levels rung levelZero repOf
   one-reps =
       next-length (rungs A 0 (A .positive)) ∙ sum-suc 0 _ ∙ ap₂ (_+_) (sum-zero _) (made-fixed (rungs A 0 (A .positive)) 0 (rungs A 0 (A .positive) .literal 0 0)) ∙ omega arith
 
-  pub one-placed : 1 < A .C .P .n
-      → Placed A 1 (record { m = order (A .C .P) (A .C .P .n); top = 1; gens = A .C .P .n; p = A .C .P .p 1; base = 0; reps = A .C .P .p 0; end = A .C .P .n * A .C .P .p 0 }) (upTo A 1)
-  one-placed l =
-      let c : 1 - 1 ≡ 0 = omega arith in
-      record {
-        above = omega arith;
-        below = l;
-        modulus-is = refl;
-        top-is = refl;
-        gens-is = refl;
-        prime-is = refl;
-        base-is = sym (ap (λ x. length (upTo A x)) c ∙ upTo-none);
-        reps-is = sym one-reps;
-        end-is = sym one-length;
-        words-are = refl;
-      }
+  module _ (rows : List (List ℕ)) (told : Told A 0 rows) where
+    pub one-upTo : firstWords (A .C .P .n) (A .C .P .p 0) (order (A .C .P) (A .C .P .n)) rows ≡ upTo A 1
+    one-upTo = sym (upTo-first ∙ level-one A rows told)
+
+    pub one-length : length (upTo A 1) ≡ 8 * (A .C .P .p 0 * A .C .P .n)
+    one-length = ap length (sym one-upTo) ∙ firstWords-length n (P .p 0) m rows
+
+    pub one-placed : 1 < A .C .P .n
+        → Placed A 1 (record { m = order (A .C .P) (A .C .P .n); top = 1; gens = A .C .P .n; p = A .C .P .p 1; base = 0; reps = A .C .P .p 0; end = A .C .P .p 0 * A .C .P .n })
+        (firstWords (A .C .P .n) (A .C .P .p 0) (order (A .C .P) (A .C .P .n)) rows)
+    one-placed l =
+        let c : 1 - 1 ≡ 0 = omega arith in
+        record {
+          above = omega arith;
+          below = l;
+          modulus-is = refl;
+          top-is = refl;
+          gens-is = refl;
+          prime-is = refl;
+          base-is = sym (ap (λ x. length (upTo A x)) c ∙ upTo-none);
+          reps-is = sym one-reps;
+          end-is = sym one-length;
+          words-are = one-upTo;
+        }

@@ -1,6 +1,7 @@
 -- How large the levels are: the squares of the degrees of a level add up to its order.
 --
 --   order-step, order-le       orders grow, and are at most that of the group
+--   whole                      every prime divides the order
 --   degree-le, reps-le, columns-le     degrees, representations and columns of a level are at most its order
 --   lines-le, room             the words of the first levels have room in those that a build wants
 --   line-count                 the lines of the table
@@ -18,7 +19,7 @@ use Rattle.definitions.specs.Steps.{levels, tableOf}
 use Rattle.numbers.proofs.Lists.{sum-mono}
 use Rattle.numbers.proofs.Sums.{sum-le, sum-mul, sum-const, sum-below, term-le}
 use Rattle.clifford.specs.Accepted.{Accepted}
-use Rattle.clifford.proofs.Standing.{standing, setting}
+use Rattle.clifford.proofs.Standing.{standing, setting, order-split}
 use Rattle.assembly.specs.Built.{upTo, linesTo, degreeIn, Small}
 use Rattle.assembly.proofs.Places.{upTo-length, upTo-all}
 
@@ -61,6 +62,13 @@ module _ (A : Accepted) where
 
   pub order-le : (i : ℕ) → i ≤ A .C .P .n → order (A .C .P) i ≤ order (A .C .P) (A .C .P .n)
   order-le i l = let e : n - i + i ≡ n = omega arith in subst (λ x. order P i ≤ order P x) e (order-more i (n - i))
+
+  pub whole : (i : ℕ) → i < A .C .P .n → order (A .C .P) (A .C .P .n) ≡ A .C .P .p i * (order (A .C .P) (A .C .P .n) / A .C .P .p i)
+  whole i l =
+      let (s, q) = order-split P n i l in
+      let two = A .C .two i in
+      let e : m / P .p i ≡ order P i * s = ap (λ x. x / P .p i) q ∙ mul-div-right (order P i * s) (omega arith) in
+      q ∙ ap (λ x. P .p i * x) (sym e)
 
   -- ---- A level
 

@@ -7,8 +7,8 @@
 --   placed, stands               the same in any frame that says so
 use mathlib.Core.Path.{_≡_, sym, _∙_, ap, subst}
 use mathlib.Core.List.{List}
-use Prim.Native.Nat.{ℕ, zero, suc, _+_, _*_, _-_, _/_, _≤_, _<_}
-use native.Mathlib.Nat.{mul-le-mul-left, mul-le-mul-right, mul-div-right}
+use Prim.Native.Nat.{ℕ, zero, suc, _+_, _*_, _-_, _≤_, _<_}
+use native.Mathlib.Nat.{mul-le-mul-left, mul-le-mul-right}
 use native.Mathlib.Omega.{arith}
 use lib.ListN.{length}
 use Rattle.definitions.specs.Lists.{iter}
@@ -19,7 +19,7 @@ use Rattle.numbers.proofs.Lists.{iter-zero, iter-suc}
 use Rattle.numbers.proofs.Orbits.{Orbits}
 use Rattle.group.proofs.Order.{order-positive}
 use Rattle.clifford.specs.Accepted.{Accepted}
-use Rattle.clifford.proofs.Standing.{Standing, standing, setting, rung, order-split}
+use Rattle.clifford.proofs.Standing.{Standing, standing, setting, rung}
 use Rattle.clifford.proofs.Agreement.{target-listed}
 use Rattle.clifford.proofs.Numbering.{O}
 use Rattle.closed.proofs.Table.{rungs}
@@ -28,7 +28,7 @@ use Rattle.survey.specs.declared.Frame.{Frame}
 use Rattle.survey.specs.Below.{Stands, firstOf, degOf, matrixOf, targetOf}
 use Rattle.assembly.specs.Built.{upTo, linesTo, degreeIn, frameAt, Small, Placed}
 use Rattle.assembly.proofs.Places.{upTo-length, startOf, start-suc, start-end}
-use Rattle.assembly.proofs.Room.{order-le, degree-pos, degree-le, reps-le, lines-small}
+use Rattle.assembly.proofs.Room.{order-le, whole, degree-pos, degree-le, reps-le, lines-small}
 use Rattle.assembly.proofs.Words.{first-of, deg-of, line-of, target-of, entry-of, column-below}
 
 -- iterates of maps that agree below N
@@ -129,13 +129,6 @@ module _ (A : Accepted) (k : ℕ) where
     prime-low : p ≤ m
     prime-low = let a : p * 1 ≤ p * order P (suc k) = mul-le-mul-left p (order-positive (A .C) (suc k)) in let b = prime-order in omega arith
 
-    pub whole : order (A .C .P) (A .C .P .n) ≡ A .C .P .p (suc k) * (order (A .C .P) (A .C .P .n) / A .C .P .p (suc k))
-    whole =
-        let (s, q) = order-split P n (suc k) l in
-        let two = A .C .two (suc k) in
-        let e : m / p ≡ order P (suc k) * s = ap (λ x. x / p) q ∙ mul-div-right (order P (suc k) * s) (omega arith) in
-        q ∙ ap (λ x. p * x) (sym e)
-
     pub stands-at : Small A → Stands (frameAt A k) (upTo A (suc k))
     stands-at S =
         let few = S .few in
@@ -151,7 +144,7 @@ module _ (A : Accepted) (k : ℕ) where
           prime = (A .C .two (suc k), omega arith);
           units = A .units (suc k) l;
           modulus = (order-positive (A .C) n, omega arith);
-          whole = whole;
+          whole = whole A (suc k) l;
           short = (omega arith, omega arith);
           inside = inside lower;
           wide = λ r h. (subst (λ x. 0 < x) (sym (deg-of A k lower r h)) (degree-pos A k lower r h), subst (λ x. p * x ≤ 65536) (sym (deg-of A k lower r h)) (narrow S r h));

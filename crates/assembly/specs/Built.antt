@@ -7,12 +7,9 @@
 --   Small                    what refusal 13 leaves: at most 12 generators, order at most 4096
 --   Placed i f W             a frame and words are those of the level above level i
 --   Told i rows              rows of exponents say the words of generator i
---   lineOne, levelOne        the lines of level 1, for a prime and the exponents of generator 0 in its words
 use mathlib.Core.Path.{_≡_}
-use mathlib.Core.Bool.{cond}
-use mathlib.Core.List.{List, [], _∷_}
-use Prim.Native.Nat.{ℕ, suc, _*_, _-_, _/_, _%_, _≤_, _<_}
-use lib.Dec.{eqb}
+use mathlib.Core.List.{List, []}
+use Prim.Native.Nat.{ℕ, suc, _*_, _-_, _≤_, _<_}
 use lib.ListN.{length, getD}
 use Rattle.definitions.specs.Lists.{blocks, sum}
 use Rattle.definitions.specs.Presentation.{Presentation, order, toNF, pairNumber}
@@ -75,10 +72,3 @@ module _ (A : Accepted) where
   pub record Told (i : ℕ) (rows : List (List ℕ)) : Type 0 where
     pub power-word : toNF i (getD rows (pairNumber i i) []) ≡ A .C .P .u i
     pub word : (j : ℕ) → i < j → j < A .C .P .n → toNF (suc i) (getD rows (pairNumber j i) []) ≡ A .C .P .w i j
-
--- generator g of representation k of level 1: column 0, which stays in row 0
-unfoldable pub lineOne : (m p : ℕ) → (ℕ → ℕ) → (k g : ℕ) → List ℕ
-lineOne m p e k g = 1 ∷ k ∷ 1 ∷ suc g ∷ cond (eqb g 0) 0 ((k * suc (e g)) % p) ∷ 0 ∷ 0 ∷ cond (eqb g 0) (k * (m / p)) 0 ∷ []
-
-unfoldable pub levelOne : (n m p : ℕ) → (ℕ → ℕ) → List ℕ
-levelOne n m p e = blocks p (λ k. blocks n (lineOne m p e k))
