@@ -1,16 +1,17 @@
 -- From one level to the next while a table is built: words and frames.
 --
 --   next-upTo                 the words before, and the lines of the formulas behind them
+--   next-lines, next-room     the lines of the formulas, in the numbers of the frame; there is room for them
 --   next-reps                 how many representations the formulas give
 --   next-placed               the frame of the level after
---   one-reps, one-upTo, one-length, one-placed      the same for level 1
-use mathlib.Core.Path.{_≡_, refl, sym, _∙_, ap, ap₂}
+--   one-reps, one-upTo, one-length, one-room, one-placed      the same for level 1
+use mathlib.Core.Path.{_≡_, refl, sym, _∙_, ap, ap₂, subst}
 use mathlib.Core.List.{List, _++_}
-use Prim.Native.Nat.{ℕ, zero, suc, _+_, _*_, _-_, _<_}
+use Prim.Native.Nat.{ℕ, zero, suc, _+_, _*_, _-_, _≤_, _<_}
 use native.Mathlib.Omega.{arith}
 use lib.ListN.{length, length-append}
 use Rattle.definitions.specs.Lists.{blocks, sum}
-use Rattle.definitions.specs.Presentation.{Presentation, order}
+use Rattle.definitions.specs.Presentation.{Presentation, order, buildWords}
 use Rattle.definitions.specs.Monomial.{Level, repOf}
 use Rattle.definitions.specs.Table.{levelWords, levelZero}
 use Rattle.definitions.specs.Steps
@@ -30,6 +31,7 @@ use Rattle.survey.specs.declared.Frame.{Frame}
 use Rattle.survey.specs.Below.{sourceIn, degOf, matrixOf, targetOf, madeIn, numberIn}
 use Rattle.assembly.specs.Built.{upTo, frameAt, Placed, Told}
 use Rattle.assembly.proofs.Places.{upTo-suc}
+use Rattle.assembly.proofs.Room.{room}
 use Rattle.assembly.proofs.Words.{reads}
 use Rattle.assembly.proofs.Standing.{placed}
 use Rattle.assembly.proofs.Next.{next-words}
@@ -49,6 +51,16 @@ module _ (A : Accepted) where
 
   pub next-upTo : (i : ℕ) (f : Frame) (W : List ℕ) (rows : List (List ℕ)) → Placed A i f W → Told A i rows → W ++ levelWords (A .C .P .n) (suc i) (levelBy (sourceIn f W rows)) ≡ upTo A (suc i)
   next-upTo i f W rows Q told = ap₂ (_++_) (Q .words-are) (sym (next-words A i f W rows Q told)) ∙ sym (upTo-suc A i)
+
+  pub next-lines : (i : ℕ) (f : Frame) (W : List ℕ) (rows : List (List ℕ)) → Placed A i f W → Told A i rows
+      → levelWords (f .gens) (suc (f .top)) (levelBy (sourceIn f W rows)) ≡ levelWords (A .C .P .n) (suc i) (levels (A .C .P) (order (A .C .P) (A .C .P .n)) (suc i))
+  next-lines i f W rows Q told = ap₂ (λ g t. levelWords g (suc t) (levelBy (sourceIn f W rows))) (Q .gens-is) (Q .top-is) ∙ sym (next-words A i f W rows Q told)
+
+  pub next-room : (i : ℕ) (f : Frame) (W : List ℕ) (rows : List (List ℕ)) → Placed A i f W → Told A i rows
+      → 8 * f .end + length (levelWords (f .gens) (suc (f .top)) (levelBy (sourceIn f W rows))) ≤ buildWords (A .C .P)
+  next-room i f W rows Q told =
+      subst (λ x. x ≤ buildWords P) (ap length (upTo-suc A i) ∙ length-append (upTo A i) (levelWords n (suc i) (levels P m (suc i))) ∙ ap₂ (_+_) (sym (Q .end-is)) (ap length (sym (next-lines i f W rows Q told))))
+      (room A (suc i) (Q .below))
 
   -- ---- Representations
 
@@ -116,6 +128,9 @@ module _ (A : Accepted) where
 
     pub one-length : length (upTo A 1) ≡ 8 * (A .C .P .p 0 * A .C .P .n)
     one-length = ap length (sym one-upTo) ∙ firstWords-length n (P .p 0) m rows
+
+    pub one-room : 8 * (A .C .P .p 0 * A .C .P .n) ≤ buildWords (A .C .P)
+    one-room = subst (λ x. x ≤ buildWords P) one-length (room A 1 (A .positive))
 
     pub one-placed : 1 < A .C .P .n
         → Placed A 1 (record { m = order (A .C .P) (A .C .P .n); top = 1; gens = A .C .P .n; p = A .C .P .p 1; base = 0; reps = A .C .P .p 0; end = A .C .P .p 0 * A .C .P .n })

@@ -1,7 +1,7 @@
 -- How large the levels are: the squares of the degrees of a level add up to its order.
 --
 --   order-step, order-le       orders grow, and are at most that of the group
---   whole                      every prime divides the order
+--   prime-le, whole            every prime is at most the order, and divides it
 --   degree-le, reps-le, columns-le     degrees, representations and columns of a level are at most its order
 --   lines-le, room             the words of the first levels have room in those that a build wants
 --   line-count                 the lines of the table
@@ -18,6 +18,7 @@ use Rattle.definitions.specs.Table.{lineCount}
 use Rattle.definitions.specs.Steps.{levels, tableOf}
 use Rattle.numbers.proofs.Lists.{sum-mono}
 use Rattle.numbers.proofs.Sums.{sum-le, sum-mul, sum-const, sum-below, term-le}
+use Rattle.group.proofs.Order.{order-positive}
 use Rattle.clifford.specs.Accepted.{Accepted}
 use Rattle.clifford.proofs.Standing.{standing, setting, order-split}
 use Rattle.assembly.specs.Built.{upTo, linesTo, degreeIn, Small}
@@ -62,6 +63,13 @@ module _ (A : Accepted) where
 
   pub order-le : (i : ℕ) → i ≤ A .C .P .n → order (A .C .P) i ≤ order (A .C .P) (A .C .P .n)
   order-le i l = let e : n - i + i ≡ n = omega arith in subst (λ x. order P i ≤ order P x) e (order-more i (n - i))
+
+  pub prime-le : (i : ℕ) → i < A .C .P .n → A .C .P .p i ≤ order (A .C .P) (A .C .P .n)
+  unfolding order
+  prime-le i l =
+      let a : P .p i * 1 ≤ P .p i * order P i = mul-le-mul-left (P .p i) (order-positive (A .C) i) in
+      let b : P .p i * order P i ≤ order P n = order-le (suc i) l in
+      omega arith
 
   pub whole : (i : ℕ) → i < A .C .P .n → order (A .C .P) (A .C .P .n) ≡ A .C .P .p i * (order (A .C .P) (A .C .P .n) / A .C .P .p i)
   whole i l =

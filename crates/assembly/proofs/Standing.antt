@@ -28,7 +28,7 @@ use Rattle.survey.specs.declared.Frame.{Frame}
 use Rattle.survey.specs.Below.{Stands, firstOf, degOf, matrixOf, targetOf}
 use Rattle.assembly.specs.Built.{upTo, linesTo, degreeIn, frameAt, Small, Placed}
 use Rattle.assembly.proofs.Places.{upTo-length, startOf, start-suc, start-end}
-use Rattle.assembly.proofs.Room.{order-le, whole, degree-pos, degree-le, reps-le, lines-small}
+use Rattle.assembly.proofs.Room.{order-le, prime-le, whole, degree-pos, degree-le, reps-le, lines-small}
 use Rattle.assembly.proofs.Words.{first-of, deg-of, line-of, target-of, entry-of, column-below}
 
 -- iterates of maps that agree below N
@@ -126,16 +126,13 @@ module _ (A : Accepted) (k : ℕ) where
     unfolding order
     prime-order = order-le A (suc (suc k)) l
 
-    prime-low : p ≤ m
-    prime-low = let a : p * 1 ≤ p * order P (suc k) = mul-le-mul-left p (order-positive (A .C) (suc k)) in let b = prime-order in omega arith
-
     pub stands-at : Small A → Stands (frameAt A k) (upTo A (suc k))
     stands-at S =
         let few = S .few in
         let low = S .low in
         let reps = reps-le A k lower in
         let ord = order-le A (suc k) (omega arith) in
-        let pl = prime-low in
+        let pl = prime-le A (suc k) l in
         let end = lines-small A S (suc k) (omega arith) in
         let len = upTo-length A (suc k) in
         record {
