@@ -1,6 +1,7 @@
 -- The closed formulas ask of the level below only what its lines say: sources that agree there give the same lines.
 --
---   Twins                   two sources that agree on the listed representations and the generators below n
+--   Twins                   two sources that agree on the listed representations, and on the words and matrices of the
+--                           generators below n
 --   left, right             the two
 --   orbit-same .. scalar-same      every function of the formulas
 --   twins-words             their levels have the same lines
@@ -50,6 +51,7 @@ pub record Twins : Type 0 where
   pub n : ℕ
   pub u : NF i
   pub w : (j : ℕ) → NF (suc i)
+  pub w′ : (j : ℕ) → NF (suc i)
   pub count : ℕ
   pub degree : ℕ → ℕ
   pub degree′ : ℕ → ℕ
@@ -59,19 +61,20 @@ pub record Twins : Type 0 where
   pub target′ : ℕ → ℕ → ℕ
   pub in-range : i < n
   pub p-pos : 0 < p
+  pub word-same : (j : ℕ) → i < j → j < n → w j ≡ w′ j
   pub degree-same : (r : ℕ) → r < count → degree r ≡ degree′ r
   pub matrix-same : (r g : ℕ) → r < count → g < n → matrix r g ≡ matrix′ r g
   pub target-same : (j r : ℕ) → i ≤ j → j < n → r < count → target j r ≡ target′ j r
   pub target-below : (j r : ℕ) → i ≤ j → j < n → r < count → target j r < count
 
 module _ (T : Twins) where
-  open Twins T using (m, i, p, n, u, w, count, degree, degree′, matrix, matrix′, target, target′, in-range)
+  open Twins T using (m, i, p, n, u, w, w′, count, degree, degree′, matrix, matrix′, target, target′, in-range)
 
   abbrev pub left : Source
   left = record { m = T .m; i = T .i; p = T .p; u = T .u; w = T .w; count = T .count; degree = T .degree; matrix = T .matrix; target = T .target }
 
   abbrev pub right : Source
-  right = record { m = T .m; i = T .i; p = T .p; u = T .u; w = T .w; count = T .count; degree = T .degree′; matrix = T .matrix′; target = T .target′ }
+  right = record { m = T .m; i = T .i; p = T .p; u = T .u; w = T .w′; count = T .count; degree = T .degree′; matrix = T .matrix′; target = T .target′ }
 
   -- ---- Orbits
 
@@ -84,7 +87,7 @@ module _ (T : Twins) where
   orbit-in : (r k : ℕ) → r < count → Fm.orbit left r k < count
   orbit-in r k h = orbit-same k r h .1
 
-  leader-same : (r : ℕ) → Fm.leader left r ≡ Fm.leader right r
+  pub leader-same : (r : ℕ) → Fm.leader left r ≡ Fm.leader right r
   leader-same r = least-below count _ _ (λ q l. anyBelow-below p _ _ (λ k a. ap (λ s. eqb s r) (orbit-same k q l .0)))
 
   leader-in : (r : ℕ) → r < count → Fm.leader left r < count
@@ -98,7 +101,7 @@ module _ (T : Twins) where
   turn-same : (r : ℕ) → r < count → target i r ≡ target′ i r
   turn-same r h = T .target-same i r (omega arith) in-range h
 
-  made-same : (r : ℕ) → r < count → Fm.made left r ≡ Fm.made right r
+  pub made-same : (r : ℕ) → r < T .count → Fm.made left r ≡ Fm.made right r
   unfolding Fm.made
   made-same r h = ap₂ (λ t l. cond (eqb t r) p (cond (eqb l r) 1 0)) (turn-same r h) (leader-same r)
 
@@ -134,8 +137,9 @@ module _ (T : Twins) where
   unfolding Fm.landing
   landing-same j r a b h =
       let k : ℕ = suc (w j .0) in
-      let x : iter (Fm.topEntry left r) k (Fm.walk m (matrix r) i (w j .1) (entry 0 0)) ≡ iter (Fm.topEntry right r) k (Fm.walk m (matrix′ r) i (w j .1) (entry 0 0))
-      = iter-same (Fm.topEntry left r) (Fm.topEntry right r) (top-same r h) k _ ∙ ap (iter (Fm.topEntry right r) k) (walk-same r i h (omega arith) (w j .1) (entry 0 0)) in
+      let x : iter (Fm.topEntry left r) k (Fm.walk m (matrix r) i (w j .1) (entry 0 0)) ≡ iter (Fm.topEntry right r) (suc (w′ j .0)) (Fm.walk m (matrix′ r) i (w′ j .1) (entry 0 0))
+      = iter-same (Fm.topEntry left r) (Fm.topEntry right r) (top-same r h) k _ ∙ ap (iter (Fm.topEntry right r) k) (walk-same r i h (omega arith) (w j .1) (entry 0 0))
+      ∙ ap (λ (v : NF (suc i)). iter (Fm.topEntry right r) (suc (v .0)) (Fm.walk m (matrix′ r) i (v .1) (entry 0 0))) (T .word-same j a b) in
       let y : Fm.topEntry left (target j r) (act m (matrix r j) (entry 0 0)) ≡ Fm.topEntry right (target′ j r) (act m (matrix′ r j) (entry 0 0))
       = top-same (target j r) (T .target-below j r (omega arith) b h) _ ∙ ap₂ (λ t M. Fm.topEntry right t (act m M (entry 0 0))) (T .target-same j r (omega arith) b h) (T .matrix-same r j h b) in
       ap₂ (λ (s t : Entry). less m (s .exp) (t .exp) / (m / p)) (ap₂ (act m) (T .matrix-same r j h b) x) y
@@ -152,12 +156,13 @@ module _ (T : Twins) where
   unfolding Fm.cycleEntry
   cycle-same r h x = λ o. record { block = Fm.nextOf left (x .block); at = ap₂ (λ c M. Fm.plus m c (act m M (x .at))) (shiftOf-same r (x .block) h) (orbit-matrix r (x .block) i h in-range) o }
 
-  module _ (j r : ℕ) (a : i < j) (b : j < n) (h : r < count) where
+  module _ (j r : ℕ) (a : T .i < j) (b : j < T .n) (h : r < T .count) where
     conj-same : (k : ℕ) → Fm.conjugateEntry left j r k ≡ Fm.conjugateEntry right j r k
     unfolding Fm.conjugateEntry
     conj-same k =
         iter-same (Fm.cycleEntry left r) (Fm.cycleEntry right r) (cycle-same r h) (suc (w j .0)) _
         ∙ ap (iter (Fm.cycleEntry right r) (suc (w j .0))) (λ o. record { block = k; at = (walk-same (Fm.orbit left r k) i (orbit-in r k h) (omega arith) (w j .1) (entry 0 0) ∙ ap (λ t. Fm.walk m (matrix′ t) i (w j .1) (entry 0 0)) (orbit-same k r h .0)) o })
+        ∙ ap (λ (v : NF (suc i)). iter (Fm.cycleEntry right r) (suc (v .0)) (record { block = k; at = Fm.walk m (matrix′ (Fm.orbit right r k)) i (v .1) (entry 0 0) })) (T .word-same j a b)
 
     left-same : (k : ℕ) → Fm.leftAt left j r k ≡ Fm.leftAt right j r k
     unfolding Fm.leftAt
@@ -180,7 +185,7 @@ module _ (T : Twins) where
         (shiftOf-same (Fm.leader left q) (Fm.position left q) (leader-in q (to-in k)) ∙ ap₂ (Fm.shiftOf right) (leader-same q ∙ ap (Fm.leader right) (to-same k)) (position-same q (to-in k) ∙ ap (Fm.position right) (to-same k)))
         (ap₂ (λ M N. act m M (act m N (entry 0 0))) (T .matrix-same q i (to-in k) in-range ∙ ap (λ t. matrix′ t i) (to-same k)) (orbit-matrix r k j h b))
 
-    block-same : (t : ℕ) → Fm.blockAt left j r t ≡ Fm.blockAt right j r t
+    pub block-same : (t : ℕ) → Fm.blockAt left j r t ≡ Fm.blockAt right j r t
     unfolding Fm.blockAt
     block-same zero = refl
     block-same (suc t) = ap (λ (x : Moved). x .block) (conj-same (Fm.blockAt left j r t)) ∙ ap (λ k. Fm.conjugateEntry right j r k .block) (block-same t)
@@ -207,10 +212,11 @@ module _ (T : Twins) where
     unfolding Fm.extensionAt
     extension-ref k g c l = go (decLt i g)
       where
-        go : Dec (i < g) → cond (leb g i) r (Fm.start left (target g r) + (Fm.landing left g r + k * suc (w g .0)) % p) ≡ cond (leb g i) r (Fm.start right (target′ g r) + (Fm.landing right g r + k * suc (w g .0)) % p)
+        go : Dec (i < g) → cond (leb g i) r (Fm.start left (target g r) + (Fm.landing left g r + k * suc (w g .0)) % p) ≡ cond (leb g i) r (Fm.start right (target′ g r) + (Fm.landing right g r + k * suc (w′ g .0)) % p)
         go (yes a) =
             let in-t : target g r < count = T .target-below g r (omega arith) l h in
             ap₂ (λ s d. cond (leb g i) r (s + (d + k * suc (w g .0)) % p)) (start-same (target g r) (omega arith) ∙ ap (Fm.start right) (T .target-same g r (omega arith) l h)) (landing-same g r a l h)
+            ∙ ap (λ (v : NF (suc i)). cond (leb g i) r (Fm.start right (target′ g r) + (Fm.landing right g r + k * suc (v .0)) % p)) (T .word-same g a l)
         go (no a) = cond-true (leb g i) _ _ (le-leb g i (omega arith)) ∙ sym (cond-true (leb g i) _ _ (le-leb g i (omega arith)))
 
     to-block : (g b : ℕ) → g < n → Fm.blockTo left r g b ≡ Fm.blockTo right r g b
