@@ -1,7 +1,8 @@
-//! Calls the static library: answers presentation texts, and measures how long the answer takes.
+//! Calls the static library: answers presentation texts, writes and reads table texts, and measures how long that takes.
 //!
 //!     harness answers FILE..    the answer to each text
 //!     harness times FILE..      the answer, and the time of a call in microseconds: of the text, and of reading it alone
+//!     harness tables LINES..    so many lines written as table text and read back: the bytes, and the median times
 //!
 //! Build: `rustc -O harness/src/main.rs -L native=target/staticlib -l static=chieftables -o target/harness`
 
@@ -11,6 +12,29 @@ use std::time::{Duration, Instant};
 extern "C" {
     /// The number that a presentation text is refused with, or 0. It reads `length` bytes from `text` on.
     fn chieftables_accept(text: *const u8, length: usize) -> u32;
+
+    /// Reads table text into `have` words from `words` on: the answer, and the count of lines.
+    fn chieftables_read_table(text: *const u8, length: usize, words: *mut u32, have: usize) -> Counted;
+
+    /// Writes `length` words as table text into `room` bytes from `out` on: the answer, and the count of bytes.
+    fn chieftables_write_table(words: *const u32, length: usize, out: *mut u8, room: usize) -> Counted;
+}
+
+/// An answer, and a count of lines or bytes.
+#[repr(C)]
+struct Counted {
+    answer: u32,
+    count: usize,
+}
+
+fn read_table(text: &[u8], words: &mut [u32]) -> Counted {
+    // the library reads and writes nothing outside the slices: that is proved of it
+    unsafe { chieftables_read_table(text.as_ptr(), text.len(), words.as_mut_ptr(), words.len()) }
+}
+
+fn write_table(words: &[u32], out: &mut [u8]) -> Counted {
+    // likewise
+    unsafe { chieftables_write_table(words.as_ptr(), words.len(), out.as_mut_ptr(), out.len()) }
 }
 
 fn accept(text: &[u8]) -> u32 {
@@ -54,9 +78,40 @@ fn misused(text: &[u8]) -> Vec<u8> {
     changed
 }
 
+/// The median time of one call, in microseconds.
+fn median_once(mut call: impl FnMut() -> Counted) -> f64 {
+    let mut times: Vec<f64> = (0..SAMPLES)
+        .map(|_| {
+            let start = Instant::now();
+            black_box(call());
+            start.elapsed().as_secs_f64() * 1e6
+        })
+        .collect();
+    times.sort_by(f64::total_cmp);
+    times[SAMPLES / 2]
+}
+
+/// Writes so many lines of values of one to four digits, reads them back, and times both.
+fn table(lines: usize) {
+    let words: Vec<u32> = (0..8 * lines as u64).map(|i| ((i * 2654435761) % 4096) as u32 >> (i % 7)).collect();
+    let mut out = vec![0u8; 34 + 80 * lines];
+    let written = write_table(&words, &mut out);
+    let text = out[..written.count].to_vec();
+    let mut back = vec![0u32; words.len()];
+    let read = read_table(&text, &mut back);
+    assert!(written.answer == 0 && read.answer == 0 && read.count == lines && back == words);
+    let writing = median_once(|| write_table(black_box(&words), &mut out));
+    let reading = median_once(|| read_table(black_box(&text), &mut back));
+    println!("{lines} lines, {} bytes: read {reading:.1}, written {writing:.1}", text.len());
+}
+
 fn main() {
     let mut arguments = std::env::args().skip(1);
     let command = arguments.next().unwrap_or_default();
+    if command == "tables" {
+        arguments.filter_map(|a| a.parse().ok()).for_each(table);
+        return;
+    }
     for path in arguments {
         let text = std::fs::read(&path).unwrap_or_default();
         let answer = accept(&text);
@@ -68,7 +123,7 @@ fn main() {
                 println!("{answer:2} {:10.2} {reading:10.2} {path}", median(&text));
             }
             _ => {
-                eprintln!("usage: harness answers|times FILE..");
+                eprintln!("usage: harness answers|times FILE.., or harness tables LINES..");
                 return;
             }
         }

@@ -4,16 +4,15 @@
 --   agree-stands         what stands is in the lines alone
 --   agree-restricts      and so are the blocks
 --   agree-words          levels that agree have the same lines
-use mathlib.Core.Path.{_≡_, refl, sym, _∙_, ap, ap₂, subst}
-use mathlib.Core.List.{List, [], _∷_}
-use Prim.Native.Nat.{ℕ, zero, suc, _+_, _*_, _≤_, _<_}
+use mathlib.Core.Path.{_≡_, sym, _∙_, ap, subst}
+use mathlib.Core.List.{[], _∷_}
+use Prim.Native.Nat.{ℕ, suc, _+_, _*_, _≤_, _<_}
 use native.Mathlib.Omega.{arith}
 use lib.Arith.{digits-lt}
 use lib.ListN.{length}
 use Rattle.definitions.specs.declared.Entry.{Entry}
 use Rattle.definitions.specs.Lists.{blocks, sum}
-use Rattle.definitions.specs.Presentation.{order}
-use Rattle.definitions.specs.Monomial.{Matrix, entry, col, Rep, Level, repOf}
+use Rattle.definitions.specs.Monomial.{entry, Level, repOf}
 use Rattle.definitions.specs.Table.{lineOf, repWords, levelWords}
 use Rattle.numbers.proofs.Sums.{sum-below}
 use Rattle.numbers.proofs.Blocks.{blocks-below}
@@ -21,7 +20,7 @@ use Rattle.group.specs.Context.{Context}
 use Rattle.group.proofs.Level.{level, conjNf, genNf}
 use Rattle.monomial.specs.Maps.{Map}
 use Rattle.monomial.specs.Families.{Family}
-use Rattle.monomial.specs.Frames.{Frame, Complete, Shows}
+use Rattle.monomial.specs.Frames.{Frame, Shows}
 use Rattle.monomial.proofs.Residues.{residues}
 use Rattle.clifford.specs.Stands.{frame, Stands, Restricts}
 use Rattle.clifford.proofs.Lines.{Agrees}

@@ -2,32 +2,26 @@
 --
 --   next-stands          the next level stands
 --   next-restricts       its representations are cut into blocks
-use mathlib.Core.Path.{_≡_, refl, sym, _∙_, ap, ap₂, subst}
-use Prim.Native.Nat.{ℕ, zero, suc, _+_, _*_, _-_, _/_, _≤_, _<_}
+use mathlib.Core.Path.{_≡_, refl, sym, _∙_, ap, subst}
+use Prim.Native.Nat.{ℕ, suc, _+_, _*_, _≤_, _<_}
 use native.Mathlib.Nat.{mul-pos}
 use native.Mathlib.Omega.{arith}
 use native.Mathlib.Decide.{ℕ-discrete}
 use lib.Arith.{digits-div}
 use lib.ListN.{length}
-use Rattle.definitions.specs.declared.Entry.{Entry}
-use Rattle.definitions.specs.Lists.{sum, iter}
-use Rattle.definitions.specs.Presentation.{Presentation, order}
-use Rattle.definitions.specs.Monomial.{Matrix, entry, col, Rep, Level, repOf}
+use Rattle.definitions.specs.Monomial.{entry, col, Rep, repOf}
 use Rattle.definitions.specs.Steps
 use Rattle.numbers.proofs.Bools.{cond-lt}
 use Rattle.numbers.proofs.Blocks.{getD-even}
-use Rattle.numbers.proofs.Orbits.{leader, leader-below}
-use Rattle.group.specs.Context.{Context, Nf}
-use Rattle.group.proofs.Level.{level, conjNf, genNf}
-use Rattle.monomial.specs.Frames.{Frame, Complete, Shows}
-use Rattle.monomial.proofs.Residues.{residues}
-use Rattle.clifford.specs.Stands.{frame, Stands, Restricts, Rung}
-use Rattle.clifford.proofs.Numbering.{P, p, N, deg, rep, τ, O, rep-below, orbit-same, made, next, made-of, made-of-fixed, degree-iter}
-use Rattle.clifford.proofs.Indices.{Index, base, number, mk, next-rep, wide, wide-below, next-frame, next-complete, next-find, next-below, degree-fixed, degree-moved, Found}
+use Rattle.numbers.proofs.Orbits.{leader}
+use Rattle.group.specs.Context.{Context}
+use Rattle.clifford.specs.Stands.{Stands, Restricts, Rung}
+use Rattle.clifford.proofs.Numbering.{P, p, N, deg, rep, τ, O, rep-below, made, next, made-of, made-of-fixed}
+use Rattle.clifford.proofs.Indices.{Index, base, mk, next-rep, wide, wide-below, next-complete, next-find, next-below, degree-fixed, degree-moved}
 use Rattle.clifford.proofs.Extensions.{first}
 use Rattle.clifford.proofs.Next.{target-fixed, target-moved, next-target, next-X, next-X-is, mapped, family}
 use Rattle.clifford.proofs.Inductions.{lift-col, lift-length, orb, orb-below, orb-degree}
-use Rattle.clifford.proofs.Rise.{Extended, Induced, at-source, extension-low, extension-base, induction-low, induction-base, next-represents, next-intertwines, next-refers}
+use Rattle.clifford.proofs.Rise.{at-source, extension-low, extension-base, induction-low, induction-base, next-represents, next-intertwines, next-refers}
 use Rattle.clifford.proofs.Squares.{next-squares}
 
 module _ (R : Rung) where

@@ -9,12 +9,12 @@
 --   last-block                          X at the last of an orbit, less the defect, is D(u) less the way there
 --   root                                where X fixes a representation, p times something is the defect, up to an
 --                                       exponent that the order of the group kills
-use mathlib.Core.Path.{_≡_, refl, sym, _∙_, ap, ap₂, subst, fun-ext}
-use Prim.Native.Nat.{ℕ, zero, suc, _+_, _-_, _≤_, _<_}
+use mathlib.Core.Path.{_≡_, refl, sym, _∙_, ap, ap₂}
+use Prim.Native.Nat.{ℕ, zero, suc, _≤_, _<_}
 use native.Mathlib.Omega.{arith}
 use Rattle.definitions.specs.Lists.{iter}
 use Rattle.definitions.specs.Presentation.{Mul, power}
-use Rattle.group.specs.Models.{Laws, Hom}
+use Rattle.group.specs.Models.{Laws}
 use Rattle.group.proofs.Values.{power-zero, power-suc, power-past, power-hom, iter-past}
 use Rattle.monomial.specs.Exponents.{Exponents, times}
 use Rattle.monomial.specs.Maps.{Map, maps, Inverse}

@@ -10,39 +10,36 @@
 --   base-shows                 the matrices of extension κ
 --   l-is                       l is the number of the scalar q
 use mathlib.Core.Path.{_≡_, refl, sym, _∙_, ap, ap₂, subst}
-use mathlib.Core.Bool.{Bool, true, cond}
-use Prim.Native.Nat.{ℕ, zero, suc, _+_, _*_, _-_, _/_, _%_, _≤_, _<_}
-use native.Mathlib.Nat.{add-mod-mod, zero-mul, div-eq-of-eq-mul-right}
+use mathlib.Core.Bool.{true}
+use Prim.Native.Nat.{ℕ, suc, _+_, _*_, _/_, _%_, _<_}
+use native.Mathlib.Nat.{add-mod-mod, div-eq-of-eq-mul-right}
 use native.Mathlib.Omega.{arith}
-use native.Mathlib.Decide.{decLt, ℕ-discrete}
-use lib.Dec.{eqb, ltb}
-use lib.ListN.{length}
+use native.Mathlib.Decide.{decLt}
 use Rattle.definitions.specs.declared.Entry.{Entry}
-use Rattle.definitions.specs.Lists.{iter, least}
-use Rattle.definitions.specs.Presentation.{NF, Presentation, Mul, power, value}
-use Rattle.definitions.specs.Monomial.{Matrix, entry, col, less, product, scale, matrices, sameMatrix, Rep, Level, repOf, image, conjugate}
+use Rattle.definitions.specs.Lists.{least}
+use Rattle.definitions.specs.Presentation.{Mul, value}
+use Rattle.definitions.specs.Monomial.{Matrix, col, less, product, sameMatrix, Rep, repOf, image, conjugate}
 use Rattle.definitions.specs.Steps
 use Rattle.numbers.proofs.Bools.{cond-lt, cond-ge}
 use Rattle.numbers.proofs.Lists.{below-suc}
 use Rattle.numbers.proofs.Searches.{least-is}
 use Rattle.group.specs.Context.{Context, Nf}
-use Rattle.group.specs.Models.{Laws, Hom}
-use Rattle.group.proofs.Values.{value-hom, value-ext}
-use Rattle.group.proofs.Level.{level, conjNf, genNf, uNf, wNf, low, top, gen-low, gen-top}
-use Rattle.group.proofs.Group.{Tested, group}
+use Rattle.group.proofs.Values.{value-hom}
+use Rattle.group.proofs.Level.{level, conjNf, genNf, uNf, wNf, top, gen-low, gen-top}
+use Rattle.group.proofs.Group.{group}
 use Rattle.monomial.specs.Exponents.{Exponents, times, Residue}
 use Rattle.monomial.specs.Maps.{Map, maps}
-use Rattle.monomial.specs.Frames.{Frame, Complete, Shows}
+use Rattle.monomial.specs.Frames.{Frame, Shows}
 use Rattle.monomial.proofs.Exponents.{lcomm, cancel, neg-of}
-use Rattle.monomial.proofs.Maps.{pair, column as at-column, at-mul, mul-at}
-use Rattle.monomial.proofs.Residues.{residues, Residue-path, add-value, times-value, less-value, part-value, unit, unit-value, unit-injective, log, log-below}
+use Rattle.monomial.proofs.Maps.{pair, at-mul}
+use Rattle.monomial.proofs.Residues.{residues, add-value, times-value, less-value, part-value, unit, unit-value, unit-injective, log, log-below}
 use Rattle.monomial.proofs.Frames.{shows-mul, shows-power, shows-value, shows-map, shows-on, shows-scale, same-shown, shown-same}
 use Rattle.clifford.specs.Stands.{frame, Stands, Rung}
-use Rattle.clifford.proofs.Numbering.{P, p, N, deg, rep, τ, S, ready, O, rep-below, firstOf-rep, firstOf-column, target-same}
-use Rattle.clifford.proofs.Defect.{defect, defect-eq, X-maps}
-use Rattle.clifford.proofs.Top.{Normed, Y, Y-at, raised, raised-hom, raised-low, raised-top, φ, q, q-eq, fixed-stays}
+use Rattle.clifford.proofs.Numbering.{P, p, N, deg, rep, τ, S, ready, rep-below, firstOf-rep, firstOf-column, target-same}
+use Rattle.clifford.proofs.Defect.{defect, defect-eq}
+use Rattle.clifford.proofs.Top.{Normed, Y, Y-at, raised, raised-hom, raised-low, raised-top, φ, q-eq, fixed-stays}
 use Rattle.clifford.proofs.Step.{Roots, numbered, numbered-zero, Y-numbered-at}
-use Rattle.clifford.proofs.Scalars.{Ready, parts, normed, roots, σ, σ-fixed, q̂, q-first, log-q}
+use Rattle.clifford.proofs.Scalars.{parts, normed, roots, σ, σ-fixed, q̂, q-first, log-q}
 
 module _ (R : Rung) where
   open Rung R using (T, m, pos, i, L, Ω, F, stands)

@@ -4,30 +4,24 @@
 --   l-formula          l is a quotient of one exponent, at column 0
 --   last-formula       the last block of an induction is an intertwiner times one scalar
 use mathlib.Core.Path.{_≡_, refl, sym, _∙_, ap, ap₂, subst}
-use Prim.Native.Nat.{ℕ, zero, suc, _+_, _*_, _-_, _/_, _%_, _≤_, _<_}
-use native.Mathlib.Nat.{add-mod-mod, div-eq-of-eq-mul-right}
+use Prim.Native.Nat.{ℕ, _+_, _-_, _/_, _%_, _<_}
+use native.Mathlib.Nat.{div-eq-of-eq-mul-right}
 use native.Mathlib.Omega.{arith}
-use lib.ListN.{length}
-use Rattle.definitions.specs.declared.Entry.{Entry}
 use Rattle.definitions.specs.Lists.{iter}
-use Rattle.definitions.specs.Presentation.{Presentation, Mul, power}
-use Rattle.definitions.specs.Monomial.{Matrix, entry, col, less, product, scale, Rep, Level, repOf, image, conjugate}
+use Rattle.definitions.specs.Monomial.{col, less, product, scale, repOf, image, conjugate}
 use Rattle.definitions.specs.Steps
 use Rattle.numbers.proofs.Orbits.{leader, position, iter-below, iter-moved}
-use Rattle.group.specs.Context.{Context}
 use Rattle.group.proofs.Level.{uNf}
 use Rattle.monomial.specs.Exponents.{Exponents, Residue}
-use Rattle.monomial.specs.Maps.{Map, maps}
-use Rattle.monomial.specs.Frames.{Frame, Shows}
-use Rattle.monomial.proofs.Exponents.{cancel, neg-of, lcomm}
-use Rattle.monomial.proofs.Maps.{pair}
+use Rattle.monomial.specs.Frames.{Shows}
+use Rattle.monomial.proofs.Exponents.{neg-of}
 use Rattle.monomial.proofs.Residues.{residues, add-value, less-value, log-value}
 use Rattle.monomial.proofs.Frames.{shows-scale, shown-unique}
 use Rattle.monomial.proofs.Schur.{rep-power}
-use Rattle.clifford.specs.Stands.{frame, Stands, Rung}
-use Rattle.clifford.proofs.Numbering.{P, p, N, deg, rep, τ, S, ready, O, orbit-same}
+use Rattle.clifford.specs.Stands.{Stands, Rung}
+use Rattle.clifford.proofs.Numbering.{P, p, N, rep, τ, S, ready, O, orbit-same}
 use Rattle.clifford.proofs.Defect.{defect, defect-eq, defect-const, defect-power, X-maps}
-use Rattle.clifford.proofs.Top.{Y, Y-at, q, q-eq, φ}
+use Rattle.clifford.proofs.Top.{Y, Y-at, q, q-eq}
 use Rattle.clifford.proofs.Scalars.{parts, q̂, σ, σ-last}
 use Rattle.clifford.proofs.Extensions.{E, Φ, 𝓢, first, first-rep, first-shown, image-shows, l-is, left-shows, right-shows-zero}
 use Rattle.clifford.proofs.Inductions.{along-shows, last-shows, position-of}

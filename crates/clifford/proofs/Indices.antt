@@ -7,10 +7,10 @@
 --   wide-fixed, wide-moved             in the two cases
 --   degree-fixed, degree-moved         the degrees of the next level
 --   next-frame, next-complete          every column of the next level is one basis index
-use mathlib.Core.Path.{_≡_, refl, sym, _∙_, ap, ap₂, subst}
+use mathlib.Core.Path.{_≡_, sym, _∙_, ap, ap₂, subst}
 use mathlib.Core.HLevel.{Σ-prop-path}
 use mathlib.Core.Bool.{cond}
-use Prim.Native.Nat.{ℕ, zero, suc, _+_, _*_, _-_, _/_, _%_, _≤_, _<_}
+use Prim.Native.Nat.{ℕ, _+_, _*_, _/_, _%_, _<_}
 use native.Mathlib.Nat.{mod-lt, mod-add-div', div-lt-iff-lt-mul}
 use native.Mathlib.Bridge.{le-prop}
 use native.Mathlib.Omega.{arith}
@@ -19,7 +19,7 @@ use lib.Arith.{digits-lt, digits-div, digits-mod}
 use lib.Dec.{eqb}
 use lib.ListN.{length}
 use Rattle.definitions.specs.Lists.{sum, iter}
-use Rattle.definitions.specs.Monomial.{Rep, Level, repOf}
+use Rattle.definitions.specs.Monomial.{Rep, repOf}
 use Rattle.definitions.specs.Steps
 use Rattle.numbers.proofs.Bools.{cond-eq, cond-ne}
 use Rattle.numbers.proofs.Sums.{stretch-one, stretch-below}

@@ -9,45 +9,44 @@
 --   along-shows, last-shows  the products of intertwiners, and the last block
 --   cycle-shows              the blocks of generator i
 --   induced-shows            the matrices of the induced representation
-use mathlib.Core.Path.{_≡_, refl, sym, _∙_, ap, ap₂, subst, fun-ext}
-use mathlib.Core.Bool.{Bool, true, cond}
-use mathlib.Core.List.{List, _++_, map}
-use Prim.Native.Nat.{ℕ, zero, suc, _+_, _*_, _-_, _/_, _%_, _≤_, _<_, _∣_}
-use native.Mathlib.Nat.{mod-eq-of-lt, mod-add-mod, mod-lt, mod-mod, mul-zero, zero-mod, add-zero}
+use mathlib.Core.Path.{_≡_, refl, sym, _∙_, ap, ap₂, subst}
+use mathlib.Core.Bool.{cond}
+use mathlib.Core.List.{_++_}
+use Prim.Native.Nat.{ℕ, zero, suc, _+_, _*_, _-_, _%_, _<_}
+use native.Mathlib.Nat.{mod-lt}
 use native.Mathlib.Omega.{arith}
-use native.Mathlib.Decide.{ℕ-discrete, decLt}
-use lib.Arith.{digits-lt, digits-div}
-use lib.Dec.{eqb, ltb}
-use lib.ListN.{length, getD, length-map}
+use native.Mathlib.Decide.{ℕ-discrete}
+use lib.Arith.{digits-lt}
+use lib.Dec.{eqb}
+use lib.ListN.{length, length-map}
 use Rattle.definitions.specs.declared.Entry.{Entry}
-use Rattle.definitions.specs.Lists.{blocks, iter, least}
-use Rattle.definitions.specs.Presentation.{Presentation, Mul, power}
-use Rattle.definitions.specs.Monomial.{Matrix, entry, col, identity, less, product, scale, inverse, Rep, Level, repOf, image, conjugate}
+use Rattle.definitions.specs.Lists.{blocks, iter}
+use Rattle.definitions.specs.Presentation.{Mul, power}
+use Rattle.definitions.specs.Monomial.{Matrix, entry, col, identity, product, scale, repOf}
 use Rattle.definitions.specs.Steps
 use Rattle.numbers.proofs.Bools.{cond-eq, cond-ne, cond-lt, cond-ge}
-use Rattle.numbers.proofs.Lists.{below-suc, iter-zero, iter-suc, iter-fix}
+use Rattle.numbers.proofs.Lists.{below-suc, iter-zero, iter-suc}
 use Rattle.numbers.proofs.Iterates.{iter-out}
 use Rattle.numbers.proofs.Blocks.{blocks-suc, blocks-below, length-even, getD-even}
-use Rattle.numbers.proofs.Orbits.{leader, position, paces, iter-below, iter-mod, iter-moved, leader-below, leader-leader, leader-iter, leader-fixed, leader-moved, position-below, position-back, position-is, position-iter}
-use Rattle.group.specs.Context.{Context, Nf}
+use Rattle.numbers.proofs.Orbits.{leader, position, iter-below, iter-mod, iter-moved, leader-iter, leader-fixed, leader-moved, position-below, position-back, position-is}
+use Rattle.group.specs.Context.{Context}
 use Rattle.group.proofs.Values.{power-zero, power-suc}
 use Rattle.group.proofs.Level.{genNf, uNf}
-use Rattle.monomial.specs.Exponents.{Exponents, total, Residue}
+use Rattle.monomial.specs.Exponents.{Exponents, Residue}
 use Rattle.monomial.specs.Maps.{Map, maps, Inverse}
-use Rattle.monomial.specs.Frames.{Frame, Complete, Shows}
-use Rattle.monomial.proofs.Exponents.{idr, cancel, total-zero, total-suc, neg-of, lcomm}
+use Rattle.monomial.specs.Frames.{Frame, Shows}
+use Rattle.monomial.proofs.Exponents.{idr, neg-of}
 use Rattle.monomial.proofs.Maps.{pair, column as at-column, at-mul, at-one, maps-laws, inverse-power}
-use Rattle.monomial.proofs.Residues.{residues, Residue-path, add-value, nil-value, less-value, less-mod}
+use Rattle.monomial.proofs.Residues.{residues}
 use Rattle.monomial.proofs.Frames.{col-map, entry-path, shows-one, shows-mul, shows-map, shows-on, shows-inverse}
 use Rattle.monomial.proofs.Schur.{rep-power}
-use Rattle.clifford.specs.Stands.{frame, Stands, Rung}
-use Rattle.clifford.proofs.Numbering.{P, p, N, deg, rep, τ, S, ready, O, rep-below, target-same, orbit-same, leader-same, position-same, degree-iter, degree-leader}
+use Rattle.clifford.specs.Stands.{Stands, Rung}
+use Rattle.clifford.proofs.Numbering.{P, p, N, deg, rep, τ, S, ready, O, rep-below, orbit-same, degree-iter, degree-leader}
 use Rattle.clifford.proofs.Indices.{wide, wide-fixed, wide-moved}
 use Rattle.clifford.proofs.Defect.{defect, defect-const, X-inverse, X-maps, last-block}
-use Rattle.clifford.proofs.Top.{Normed, Y, Y-at, Y-maps, raised, φ, φ-maps, q, q-eq}
-use Rattle.clifford.proofs.Scalars.{Ready, normed, σ, σ-last, σ-other, q̂, q-first, c, c-moved}
-use Rattle.clifford.proofs.Extensions.{E, Φ, 𝓢, first, first-rep, image-shows, conjugate-shows, gen-below, gen-last}
-use Rattle.clifford.proofs.Next.{target-below, target-moved, target-orbit, moved-unit}
+use Rattle.clifford.proofs.Top.{Y, Y-at, Y-maps, raised, q}
+use Rattle.clifford.proofs.Scalars.{σ, σ-last, σ-other}
+use Rattle.clifford.proofs.Extensions.{E, Φ, 𝓢, first-rep, image-shows, gen-below, gen-last}
 
 -- a column of a lifted matrix
 pub lift-col : (o : ℕ) (M : Matrix) (k : ℕ) → k < length M → col (Steps.lift o M) k ≡ entry (o + col M k .row) (col M k .exp)

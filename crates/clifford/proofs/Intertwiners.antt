@@ -7,9 +7,7 @@
 --   c-is                   the scalars of the steps are those of the theory
 --   mapped-shows              the intertwiner of the steps shows that of the theory
 use mathlib.Core.Path.{_≡_, refl, sym, _∙_, ap, ap₂, subst, fun-ext}
-use mathlib.Core.Bool.{Bool, true, cond}
-use mathlib.Core.List.{List, map}
-use Prim.Native.Nat.{ℕ, zero, suc, _+_, _*_, _-_, _/_, _%_, _≤_, _<_, _∣_}
+use Prim.Native.Nat.{ℕ, zero, suc, _+_, _*_, _/_, _%_, _<_}
 use native.Mathlib.Nat.{mod-eq-of-lt, mod-add-mod, mod-lt, zero-mod, add-zero}
 use native.Mathlib.Omega.{arith}
 use native.Mathlib.Decide.{decLt}
@@ -17,24 +15,24 @@ use lib.Arith.{digits-div}
 use lib.Dec.{eqb}
 use lib.ListN.{length}
 use Rattle.definitions.specs.declared.Entry.{Entry}
-use Rattle.definitions.specs.Lists.{blocks, iter, least}
-use Rattle.definitions.specs.Presentation.{Presentation, Mul}
-use Rattle.definitions.specs.Monomial.{Matrix, entry, col, less, product, scale, Rep, Level, repOf, conjugate}
+use Rattle.definitions.specs.Lists.{iter, least}
+use Rattle.definitions.specs.Presentation.{Mul}
+use Rattle.definitions.specs.Monomial.{Matrix, entry, col, less, product, scale, repOf, conjugate}
 use Rattle.definitions.specs.Steps
 use Rattle.numbers.proofs.Lists.{iter-zero, iter-add}
 use Rattle.numbers.proofs.Iterates.{iter-out}
 use Rattle.numbers.proofs.Orbits.{leader, position, paces, iter-below, iter-mod, leader-below, leader-leader, leader-iter, leader-moved}
 use Rattle.monomial.specs.Exponents.{Exponents, total, Residue}
 use Rattle.monomial.specs.Maps.{Map, maps}
-use Rattle.monomial.specs.Frames.{Frame, Shows}
+use Rattle.monomial.specs.Frames.{Shows}
 use Rattle.monomial.proofs.Exponents.{lcomm, neg-of, total-zero, total-suc}
 use Rattle.monomial.proofs.Residues.{residues, add-value, nil-value, less-value, less-mod}
 use Rattle.monomial.proofs.Frames.{entry-path, shows-mul}
-use Rattle.clifford.specs.Stands.{frame, Stands, Rung}
-use Rattle.clifford.proofs.Numbering.{P, p, N, deg, rep, τ, S, ready, O, rep-below, firstOf-column, target-same, orbit-same, leader-same, position-same, degree-leader}
+use Rattle.clifford.specs.Stands.{Stands, Rung}
+use Rattle.clifford.proofs.Numbering.{P, p, N, deg, rep, τ, S, ready, O, rep-below, firstOf-column, target-same, leader-same, position-same, degree-leader}
 use Rattle.clifford.proofs.Indices.{wide}
 use Rattle.clifford.proofs.Top.{Y, φ, φ-maps, q, q-eq}
-use Rattle.clifford.proofs.Scalars.{Ready, q̂, q-first, c, c-moved}
+use Rattle.clifford.proofs.Scalars.{q̂, q-first, c, c-moved}
 use Rattle.clifford.proofs.Extensions.{E, 𝓢, first, first-rep, conjugate-shows}
 use Rattle.clifford.proofs.Next.{target-below, target-moved, target-orbit}
 use Rattle.clifford.proofs.Inductions.{lift-col, lift-length, scale-col, scale-length, Ψ, spread-moved, Member, member, position-of, position-mod, shows-blocks, orb, orb-back, orb-below, orb-degree, induced-shows, cycle-shows}

@@ -1,85 +1,40 @@
 -- What the checker judges of one level that stands: valid matrices and listed targets (21), relations (22),
 -- intertwiners (24), separation (25) and squares (26).
 --
---   any-forms                 some normal form passes a test, if a valid one does
 --   valid-holds, listed-holds, relations-hold, intertwiners-hold, separates-hold, squares-hold
-use mathlib.Core.Path.{_≡_, refl, sym, _∙_, ap, ap₂, subst}
-use mathlib.Core.Bool.{Bool, true, false, _&&_, _||_, not, cond, false≢true}
-use mathlib.Core.List.{List, [], _∷_, _++_, map}
-use Prim.Native.Nat.{ℕ, zero, suc, _+_, _*_, _-_, _%_, _≤_, _<_}
-use native.Mathlib.Nat.{mod-eq-of-lt}
+use mathlib.Core.Path.{_≡_, refl, sym, _∙_, ap, subst}
+use mathlib.Core.Bool.{Bool, true, _||_}
+use mathlib.Core.List.{List}
+use Prim.Native.Nat.{ℕ, suc, _*_, _-_, _≤_, _<_}
 use native.Mathlib.Omega.{arith}
-use native.Mathlib.Decide.{decLt, ℕ-discrete}
-use lib.Dec.{eqb, ltb, leb}
+use native.Mathlib.Decide.{decLt}
+use lib.Dec.{eqb, ltb}
 use lib.ListN.{length}
-use borrow.Author.Tests.{eq-eqb, ne-eqb, lt-ltb, le-leb}
-use Rattle.definitions.specs.declared.Entry.{Entry}
-use Rattle.definitions.specs.Lists.{blocks, sum, iter, allBelow, any}
-use Rattle.definitions.specs.Presentation.{NF, Presentation, Valid, order, Mul, power, value}
-use Rattle.definitions.specs.Monomial.{Matrix, entry, col, product, matrices, valid, sameMatrix, Rep, Level, repOf, image, conjugate}
+use borrow.Author.Tests.{eq-eqb, lt-ltb, le-leb}
+use Rattle.definitions.specs.Lists.{iter}
+use Rattle.definitions.specs.Presentation.{NF, Presentation, order, Mul, power, value}
+use Rattle.definitions.specs.Monomial.{product, valid, Rep, Level, repOf, image, conjugate}
 use Rattle.definitions.specs.Table.{levelAt}
 use Rattle.definitions.specs.Judgement
 use Rattle.numbers.proofs.Bools.{and-intro, or-left, or-right}
 use Rattle.numbers.proofs.Lists.{allBelow-intro, iter-suc}
 use Rattle.numbers.proofs.Sums.{term-le}
 use Rattle.group.specs.Context.{Context, Nf}
-use Rattle.group.specs.Models.{Laws, Hom}
 use Rattle.group.proofs.Values.{power-hom, value-hom}
 use Rattle.group.proofs.Level.{level, conjNf, genNf}
 use Rattle.group.proofs.Group.{Test, Tested, group}
 use Rattle.group.proofs.Order.{order-positive, inverse, inverse-right, inverse-left}
 use Rattle.group.proofs.Conjugation.{conj-period}
-use Rattle.monomial.specs.Exponents.{Residue}
 use Rattle.monomial.specs.Maps.{Map, maps, Inverse}
-use Rattle.monomial.specs.Families.{Separated, Family}
-use Rattle.monomial.specs.Frames.{Frame, Complete, Shows}
+use Rattle.monomial.specs.Families.{Family}
+use Rattle.monomial.specs.Frames.{Frame, Shows}
 use Rattle.monomial.proofs.Maps.{at-mul, at-one, column as at-column}
-use Rattle.monomial.proofs.Residues.{residues, Residue-path}
+use Rattle.monomial.proofs.Residues.{residues}
 use Rattle.monomial.proofs.Frames.{shows-mul, shows-power, shows-value, shows-map, same-shown, shows-valid}
 use Rattle.monomial.proofs.Schur.{intertwiner-inverse, power-commutes, commuting-fixes, rep-power}
 use Rattle.clifford.specs.Stands.{frame, Stands}
 use Rattle.clifford.proofs.Agreement.{target-listed}
-
--- ---- Tests of some normal form
-
-any-left : {A : Type 0} (q : A → Bool) (xs ys : List A) → any q xs ≡ true → any q (xs ++ ys) ≡ true
-unfolding any
-any-left q [] ys h = absurd (false≢true h)
-any-left q (x ∷ xs) ys h = go (q x) (λ k. any-left q xs ys k) h
-  where
-    go : (b : Bool) → (any q xs ≡ true → any q (xs ++ ys) ≡ true) → b || any q xs ≡ true → b || any q (xs ++ ys) ≡ true
-    go true r k = refl
-    go false r k = r k
-
-any-right : {A : Type 0} (q : A → Bool) (xs ys : List A) → any q ys ≡ true → any q (xs ++ ys) ≡ true
-unfolding any
-any-right q [] ys h = h
-any-right q (x ∷ xs) ys h = or-right (q x) _ (any-right q xs ys h)
-
-any-map : {A B : Type 0} (f : A → B) (q : B → Bool) (xs : List A) → any (λ x. q (f x)) xs ≡ true → any q (map f xs) ≡ true
-unfolding any
-any-map f q [] h = h
-any-map f q (x ∷ xs) h = go (q (f x)) (any-map f q xs) h
-  where
-    go : (b : Bool) → (any (λ x. q (f x)) xs ≡ true → any q (map f xs) ≡ true) → b || any (λ x. q (f x)) xs ≡ true → b || any q (map f xs) ≡ true
-    go true r k = refl
-    go false r k = r k
-
-any-blocks : {A : Type 0} (q : A → Bool) (n : ℕ) (f : ℕ → List A) (k : ℕ) → k < n → any q (f k) ≡ true → any q (blocks n f) ≡ true
-unfolding blocks
-any-blocks q zero f k l h = absurd (omega arith)
-any-blocks q (suc n) f k l h = go (decLt k n) (λ a. any-blocks q n f k a h)
-  where
-    go : Dec (k < n) → (k < n → any q (blocks n f) ≡ true) → any q (blocks n f ++ f n) ≡ true
-    go (yes a) r = any-left q (blocks n f) (f n) (r a)
-    go (no a) r = let e : k ≡ n = omega arith in any-right q (blocks n f) (f n) (subst (λ s. any q (f s) ≡ true) e h)
-
-pub any-forms : (P : Presentation) (i : ℕ) (q : NF i → Bool) (x : NF i) → Valid P i x → q x ≡ true → any q (Judgement.allForms P i) ≡ true
-unfolding Judgement.allForms any
-any-forms P zero q x v h = or-left (q tt) false h
-any-forms P (suc i) q x v h =
-    any-blocks q (P .p i) (λ e. map (λ (x : NF i). (e, x)) (Judgement.allForms P i)) (x .0) (v .0)
-    (any-map (λ (y : NF i). (x .0, y)) q (Judgement.allForms P i) (any-forms P i (λ y. q (x .0, y)) (x .1) (v .1) h))
+use Rattle.clifford.proofs.Separates.{separates-from}
 
 -- ---- A level that stands
 
@@ -173,45 +128,11 @@ module _ (C : Context) (tests : (k : ℕ) → k < C .P .n → Test C k) (m : ℕ
 
   -- ---- 25
 
-  reaches-hold : (r k : ℕ) → r < length L → k < Rp r .deg → Judgement.reaches P m table i (Rp r) k ≡ true
-  unfolding Judgement.reaches
-  reaches-hold r k h a =
-      let o : Ω = complete .find r 0 h (St .degree-pos r h) in
-      let b : Ω = complete .find r k h a in
-      let ro : F .rep o ≡ r = complete .find-rep r 0 h (St .degree-pos r h) in
-      let (x, e) = F .reached o b (ro ∙ sym (complete .find-rep r k h a)) in
-      any-forms P i _ (x .0) (x .1) (eq-eqb _ _ (ap (λ z. col (image m (Rp r) i (x .0)) z .row) (sym (complete .find-column r 0 h (St .degree-pos r h)))
-      ∙ ap (λ (y : Entry). y .row) (form-shows r h x .shown o ro) ∙ ap column e ∙ complete .find-column r k h a))
-
-  separated-holds : (r k r′ k′ : ℕ) (h : r < length L) (a : k < Rp r .deg) (h′ : r′ < length L) (a′ : k′ < Rp r′ .deg) → ¬ ((r ≡ r′) × (k ≡ k′))
-      → any (Judgement.tells P m table i (Rp r) k (Rp r′) k′) (Judgement.allForms P i) ≡ true
-  unfolding Judgement.tells
-  separated-holds r k r′ k′ h a h′ a′ ne =
-      let b : Ω = complete .find r k h a in
-      let b′ : Ω = complete .find r′ k′ h′ a′ in
-      let rb : F .rep b ≡ r = complete .find-rep r k h a in
-      let rb′ : F .rep b′ ≡ r′ = complete .find-rep r′ k′ h′ a′ in
-      let cb : column b ≡ k = complete .find-column r k h a in
-      let cb′ : column b′ ≡ k′ = complete .find-column r′ k′ h′ a′ in
-      let s = F .separated b b′ (λ e. ne (sym rb ∙ ap (F .rep) e ∙ rb′, sym cb ∙ ap column e ∙ cb′)) in
-      let y : col (image m (Rp r) i (s .by .0)) k ≡ entry k (s .x .0) = at r k h (s .by) b rb cb (s .x) (s .fixes) in
-      let y′ : col (image m (Rp r′) i (s .by .0)) k′ ≡ entry k′ (s .y .0) = at r′ k′ h′ (s .by) b′ rb′ cb′ (s .y) (s .fixes′) in
-      any-forms P i _ (s .by .0) (s .by .1)
-      (and-intro _ _ (and-intro _ _ (eq-eqb _ _ (ap (λ (z : Entry). z .row) y)) (eq-eqb _ _ (ap (λ (z : Entry). z .row) y′)))
-      (ap not (ne-eqb _ _ (λ e. s .differ (Residue-path m (s .x) (s .y) (sym (mod-eq-of-lt (s .x .1)) ∙ sym (ap (λ (z : Entry). z .exp % m) y) ∙ e ∙ ap (λ (z : Entry). z .exp % m) y′ ∙ mod-eq-of-lt (s .y .1)))))))
-    where
-      at : (r k : ℕ) (h : r < length L) (w : Nf C i) (b : Ω) → F .rep b ≡ r → column b ≡ k → (x : Residue m) → F .d w b ≡ (b, x) → col (image m (Rp r) i (w .0)) k ≡ entry k (x .0)
-      at r k h w b rb cb x f = ap (col (image m (Rp r) i (w .0))) (sym cb) ∙ form-shows r h w .shown b rb ∙ ap (λ z. entry (column (z .0)) (z .1 .0)) f ∙ ap (λ z. entry z (x .0)) cb
-
   pub separates-hold : (r : ℕ) → r < length (levelAt (C .P .n) table i) → Judgement.separates (C .P) m table i r ≡ true
-  unfolding Judgement.separates
-  separates-hold r h = allBelow-intro (Rp r .deg) _ (λ k a. and-intro _ _ (reaches-hold r k h a) (allBelow-intro (length L) _ (λ r′ h′. allBelow-intro (Rp r′ .deg) _ (λ k′ a′. same-or r k r′ k′ h a h′ a′ (ℕ-discrete r r′) (ℕ-discrete k k′)))))
-    where
-      same-or : (r k r′ k′ : ℕ) (h : r < length L) (a : k < Rp r .deg) (h′ : r′ < length L) (a′ : k′ < Rp r′ .deg) → Dec (r ≡ r′) → Dec (k ≡ k′)
-          → (eqb r r′ && eqb k k′) || any (Judgement.tells P m table i (Rp r) k (Rp r′) k′) (Judgement.allForms P i) ≡ true
-      same-or r k r′ k′ h a h′ a′ (yes p) (yes q) = or-left (eqb r r′ && eqb k k′) _ (and-intro _ _ (eq-eqb r r′ p) (eq-eqb k k′ q))
-      same-or r k r′ k′ h a h′ a′ (yes p) (no q) = or-right (eqb r r′ && eqb k k′) _ (separated-holds r k r′ k′ h a h′ a′ (λ u. q (u .1)))
-      same-or r k r′ k′ h a h′ a′ (no p) d = or-right (eqb r r′ && eqb k k′) _ (separated-holds r k r′ k′ h a h′ a′ (λ u. p (u .0)))
+  separates-hold r h = separates-from C m pos table i column-below complete (F .d) form-shows r h
+      (St .degree-pos r h)
+      (λ k a. F .reached _ _ (complete .find-rep r 0 h (St .degree-pos r h) ∙ sym (complete .find-rep r k h a)))
+      (F .separated)
 
   -- ---- 26
 

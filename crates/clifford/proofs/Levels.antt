@@ -3,20 +3,20 @@
 --
 --   exponentNf, restNf     the exponent of the generator on top, and the form of the level below
 --   extension              level suc i over level i
-use mathlib.Core.Path.{_≡_, refl, sym, _∙_, ap, ap₂, subst}
-use Prim.Native.Nat.{ℕ, zero, suc, _+_, _-_, _≤_, _<_}
+use mathlib.Core.Path.{_≡_, refl, sym, _∙_, ap, ap₂}
+use Prim.Native.Nat.{ℕ, suc, _+_, _-_, _≤_, _<_}
 use native.Mathlib.Omega.{arith}
 use native.Mathlib.Decide.{decLt}
 use Rattle.definitions.specs.Lists.{iter}
-use Rattle.definitions.specs.Presentation.{NF, trivial, Presentation, order, Mul, power, value}
-use Rattle.definitions.specs.Consistency.{mulStep, mul, conj}
+use Rattle.definitions.specs.Presentation.{trivial, order, Mul, power}
+use Rattle.definitions.specs.Consistency.{mul, conj}
 use Rattle.numbers.proofs.Lists.{iter-map}
 use Rattle.group.specs.Models.{Laws, Hom}
 use Rattle.group.specs.Context.{Context, Nf}
-use Rattle.group.proofs.Values.{power-zero, power-suc, power-one, power-add, iter-past, value-suc}
+use Rattle.group.proofs.Values.{power-zero, power-suc, power-add, iter-past, value-suc}
 use Rattle.group.proofs.Clauses.{mul-suc, mulStep-below, mulStep-over}
 use Rattle.group.proofs.Level.{Nf-path, level, conjNf, uNf, wNf, genNf, low, top, gen-low, gen-top, low-hom, low-value}
-use Rattle.group.proofs.Group.{Group, Tested, group, cyclic, conj-low, low-top}
+use Rattle.group.proofs.Group.{Tested, group, cyclic, conj-low, low-top}
 use Rattle.group.proofs.Order.{order-positive, order-one, inverse, inverse-right, inverse-left}
 use Rattle.group.proofs.Conjugation.{conj-hom, conj-period}
 use Rattle.clifford.specs.Extension.{Extension}

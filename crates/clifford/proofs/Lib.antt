@@ -16,7 +16,9 @@ pub mod Climb
 pub mod Standing
 pub mod Lines
 pub mod Agreement
+pub mod Separates
 pub mod Judged
 pub mod Cuts
 pub mod Theorem
 pub mod Formulas
+pub mod Calls

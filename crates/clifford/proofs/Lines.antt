@@ -9,17 +9,17 @@
 --   read-back             the levels that the table says agree with those that were written
 use mathlib.Core.Path.{_≡_, refl, sym, _∙_, ap, ap₂, subst}
 use mathlib.Core.Bool.{Bool, true, false, _&&_, cond}
-use mathlib.Core.List.{List, [], _∷_, _++_, map}
-use Prim.Native.Nat.{ℕ, zero, suc, _+_, _*_, _-_, _/_, _≤_, _<_}
+use mathlib.Core.List.{List, [], _∷_}
+use Prim.Native.Nat.{ℕ, suc, _+_, _*_, _/_, _≤_, _<_}
 use native.Mathlib.Nat.{mul-add, mul-div-right, mul-le-mul-left}
 use native.Mathlib.Omega.{arith}
 use lib.Arith.{digits-lt}
 use lib.Dec.{eqb}
 use lib.ListN.{length, getD}
 use borrow.Author.Tests.{eq-eqb, ne-eqb}
-use Rattle.definitions.specs.Lists.{upto, blocks, sum}
+use Rattle.definitions.specs.Lists.{blocks, sum}
 use Rattle.definitions.specs.Presentation.{lineWords}
-use Rattle.definitions.specs.Monomial.{Matrix, entry, col, Rep, Level, repOf, noRep}
+use Rattle.definitions.specs.Monomial.{entry, col, Rep, Level, repOf, noRep}
 use Rattle.definitions.specs.Table.{lineOf, repWords, levelWords, wordAt, lineCount, begins, degrees, columns, firstLine, repAt, levelAt}
 use Rattle.numbers.proofs.Bools.{cond-true, cond-false}
 use Rattle.numbers.proofs.Lists.{length-blocks}

@@ -6,41 +6,36 @@
 --   next-X-is                 an intertwiner, by its generator
 --   next-target               where it maps, as the next level refers to it
 --   family                    they are a family of the next level
-use mathlib.Core.Path.{_≡_, refl, sym, _∙_, ap, ap₂, subst, fun-ext}
+use mathlib.Core.Path.{_≡_, refl, sym, _∙_, ap, ap₂, subst}
 use mathlib.Core.Bool.{cond}
-use Prim.Native.Nat.{ℕ, zero, suc, _+_, _*_, _-_, _/_, _%_, _≤_, _<_, _∣_}
+use Prim.Native.Nat.{ℕ, zero, suc, _+_, _*_, _-_, _%_, _<_, _∣_}
 use native.Mathlib.Nat.{mod-lt}
 use native.Mathlib.Bridge.{le-prop}
 use native.Mathlib.Omega.{arith}
 use native.Mathlib.Decide.{decLt, ℕ-discrete}
-use lib.Dec.{eqb, leb}
-use lib.ListN.{length}
+use lib.Dec.{leb}
 use borrow.Author.Tests.{lt-leb}
 use Rattle.definitions.specs.Lists.{sum, iter}
-use Rattle.definitions.specs.Presentation.{Presentation, Mul}
-use Rattle.definitions.specs.Monomial.{Rep, Level, repOf}
+use Rattle.definitions.specs.Monomial.{Rep, repOf}
 use Rattle.definitions.specs.Steps
 use Rattle.numbers.proofs.Bools.{cond-false}
-use Rattle.numbers.proofs.Lists.{iter-zero, iter-suc, iter-add, iter-fix}
-use Rattle.numbers.proofs.Iterates.{iter-iter, iter-out}
+use Rattle.numbers.proofs.Lists.{iter-zero, iter-add}
+use Rattle.numbers.proofs.Iterates.{iter-out}
 use Rattle.numbers.proofs.Sums.{stretch-one}
-use Rattle.numbers.proofs.Orbits.{leader, position, unit-onto, iter-below, iter-mod, leader-below, leader-iter, leader-leader, leader-fixed, leader-moved, leader-reaches, position-below, position-back}
+use Rattle.numbers.proofs.Orbits.{leader, position, unit-onto, iter-below, iter-mod, leader-below, leader-iter, leader-fixed, leader-moved, leader-reaches, position-below, position-back}
 use Rattle.group.specs.Context.{Context, Nf}
 use Rattle.group.proofs.Level.{level, conjNf}
-use Rattle.monomial.specs.Exponents.{Exponents, Residue}
 use Rattle.monomial.specs.Maps.{Map, maps}
 use Rattle.monomial.specs.Families.{Family}
 use Rattle.monomial.specs.Over.{At}
-use Rattle.monomial.proofs.Maps.{at-one}
-use Rattle.monomial.proofs.Residues.{residues, log}
-use Rattle.clifford.specs.Extension.{Extension}
-use Rattle.clifford.specs.Stands.{frame, Stands, Rung}
-use Rattle.clifford.proofs.Numbering.{P, p, N, deg, rep, τ, S, ready, O, rep-below, target-same, leader-same, start-same, made, next, made-of, made-of-fixed}
+use Rattle.monomial.proofs.Residues.{log}
+use Rattle.clifford.specs.Stands.{Rung}
+use Rattle.clifford.proofs.Numbering.{P, p, N, rep, τ, S, ready, O, rep-below, target-same, leader-same, start-same, made, next, made-of, made-of-fixed}
 use Rattle.clifford.proofs.Indices.{Index, base, number, mk, Index-path, Index-discrete, next-rep, number-fixed, number-moved, rep-fixed, rep-moved}
 use Rattle.clifford.proofs.Top.{Normed, raised, raised-maps, swap, fixed-stays, fixed-back}
 use Rattle.clifford.proofs.Step as StepOf
-use Rattle.clifford.proofs.Step.{Roots, numbered, Step}
-use Rattle.clifford.proofs.Scalars.{Ready, parts, normed, roots, unit-shift, q̂, c, ν, ν-fixed, ν-moved, ν-below, number-stays, closes}
+use Rattle.clifford.proofs.Step.{numbered, Step}
+use Rattle.clifford.proofs.Scalars.{parts, unit-shift, q̂, c, ν, ν-fixed, ν-moved, ν-below, number-stays, closes}
 use Rattle.clifford.proofs.Extensions.{E, 𝓢, ρ, first, first-rep, l-is}
 
 module _ (R : Rung) where

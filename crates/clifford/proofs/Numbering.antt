@@ -7,28 +7,26 @@
 --   below-next                                every representation of the next level is one of these
 --   leader-fixes, leader-moves                a leader is fixed or moved as its orbit is
 --   degree-iter, degree-leader                degrees along an orbit
-use mathlib.Core.Path.{_≡_, refl, sym, _∙_, ap, ap₂, subst, fun-ext}
+use mathlib.Core.Path.{_≡_, refl, sym, _∙_, ap, subst, fun-ext}
 use mathlib.Core.Bool.{Bool, true, false, cond}
-use mathlib.Core.List.{List, [], _∷_, _++_, map}
-use Prim.Native.Nat.{ℕ, zero, suc, _+_, _*_, _-_, _/_, _%_, _≤_, _<_}
+use mathlib.Core.List.{List, [], _∷_, map}
+use Prim.Native.Nat.{ℕ, zero, suc, _+_, _<_}
 use native.Mathlib.Omega.{arith}
 use native.Mathlib.Decide.{decLt, ℕ-discrete}
 use lib.Dec.{eqb}
 use lib.ListN.{length, getD}
-use Rattle.definitions.specs.Lists.{upto, blocks, sum, anyBelow, least, iter}
-use Rattle.definitions.specs.Presentation.{Presentation, order}
+use Rattle.definitions.specs.Lists.{upto, blocks, sum, iter}
+use Rattle.definitions.specs.Presentation.{Presentation}
 use Rattle.definitions.specs.Monomial.{Rep, Level, repOf, noRep}
 use Rattle.definitions.specs.Steps
-use Rattle.numbers.proofs.Bools.{cond-true, cond-false, cond-eq, cond-ne}
-use Rattle.numbers.proofs.Lists.{iter-zero, iter-suc, iter-fix, length-blocks}
-use Rattle.numbers.proofs.Sums.{sum-below, Owner, owner}
+use Rattle.numbers.proofs.Bools.{cond-eq, cond-ne}
+use Rattle.numbers.proofs.Lists.{iter-zero, iter-suc, length-blocks}
+use Rattle.numbers.proofs.Sums.{sum-below, owner}
 use Rattle.numbers.proofs.Blocks.{getD-table, length-table, getD-blocks}
-use Rattle.numbers.proofs.Orbits.{Orbits, leaderOf, positionOf, leader, position, iter-below, iter-moved, leader-below, leader-leader, leader-fixed, leader-moved, leader-reaches}
-use Rattle.group.specs.Context.{Context}
+use Rattle.numbers.proofs.Orbits.{Orbits, leaderOf, positionOf, leader, position, leader-below, leader-leader, leader-fixed, leader-moved, leader-reaches}
 use Rattle.group.proofs.Level.{level, conjNf}
-use Rattle.monomial.specs.Frames.{Frame, Complete}
 use Rattle.clifford.specs.Extension.{Extension}
-use Rattle.clifford.specs.Stands.{frame, Stands, Rung}
+use Rattle.clifford.specs.Stands.{Stands, Rung}
 use Rattle.clifford.proofs.Levels.{extension}
 use Rattle.clifford.proofs.Scalars.{Ready, orbits}
 

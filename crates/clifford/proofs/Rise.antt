@@ -6,41 +6,32 @@
 --   next-degree, next-degree-target                     its degrees
 --   next-restricts              its blocks
 use mathlib.Core.Path.{_≡_, refl, sym, _∙_, ap, ap₂, subst}
-use mathlib.Core.Bool.{cond}
-use Prim.Native.Nat.{ℕ, zero, suc, _+_, _*_, _-_, _/_, _≤_, _<_}
-use native.Mathlib.Nat.{mul-pos}
+use Prim.Native.Nat.{ℕ, suc, _+_, _/_, _≤_, _<_}
 use native.Mathlib.Omega.{arith}
 use native.Mathlib.Decide.{ℕ-discrete}
-use lib.Arith.{digits-div}
-use lib.Dec.{eqb, leb, ltb}
+use lib.Dec.{leb}
 use lib.ListN.{length}
 use borrow.Author.Tests.{le-leb, lt-leb}
-use Rattle.definitions.specs.declared.Entry.{Entry}
-use Rattle.definitions.specs.Lists.{sum, iter}
-use Rattle.definitions.specs.Presentation.{Presentation}
-use Rattle.definitions.specs.Monomial.{Matrix, entry, col, Rep, Level, repOf}
+use Rattle.definitions.specs.Lists.{sum}
+use Rattle.definitions.specs.Monomial.{Matrix, entry, Rep, repOf}
 use Rattle.definitions.specs.Steps
-use Rattle.numbers.proofs.Bools.{cond-true, cond-false, cond-lt}
-use Rattle.numbers.proofs.Blocks.{getD-even}
+use Rattle.numbers.proofs.Bools.{cond-true, cond-false}
 use Rattle.numbers.proofs.Sums.{stretch-one}
-use Rattle.numbers.proofs.Orbits.{leader, iter-below, leader-below, leader-leader, leader-fixed, leader-moved}
+use Rattle.numbers.proofs.Orbits.{leader}
 use Rattle.group.specs.Context.{Context, Nf}
-use Rattle.group.proofs.Level.{level, conjNf, genNf}
-use Rattle.monomial.specs.Exponents.{Exponents, Residue}
-use Rattle.monomial.specs.Maps.{Map, maps}
-use Rattle.monomial.specs.Families.{Family}
-use Rattle.monomial.specs.Frames.{Frame, Complete, Shows}
+use Rattle.group.proofs.Level.{genNf}
+use Rattle.monomial.specs.Maps.{Map}
+use Rattle.monomial.specs.Frames.{Shows}
 use Rattle.monomial.proofs.Exponents.{idr}
-use Rattle.monomial.proofs.Residues.{residues}
-use Rattle.clifford.specs.Stands.{frame, Stands, Restricts, Rung}
-use Rattle.clifford.proofs.Numbering.{P, p, N, deg, rep, τ, S, ready, O, rep-below, orbit-same, made, next, made-fixed, made-leader, given-fixed, given-moved, made-of, made-of-fixed, Source, source, degree-iter}
-use Rattle.clifford.proofs.Indices.{Index, base, number, mk, next-rep, wide, next-frame, next-complete, next-find, next-below, degree-fixed, degree-moved, Found}
+use Rattle.clifford.specs.Stands.{Rung}
+use Rattle.clifford.proofs.Numbering.{P, p, N, deg, rep, τ, S, ready, O, made, next, made-fixed, made-leader, given-fixed, given-moved, Source, source}
+use Rattle.clifford.proofs.Indices.{Index, base, number, next-rep, wide, next-frame}
 use Rattle.clifford.proofs.Top.{raised}
 use Rattle.clifford.proofs.Step.{numbered, numbered-zero}
 use Rattle.clifford.proofs.Scalars.{c, c-fixed}
-use Rattle.clifford.proofs.Extensions.{E, Φ, 𝓢, ρ, first, first-rep, base-shows}
-use Rattle.clifford.proofs.Next.{target-below, target-fixed, target-moved, next-d, mapped, next-X, next-X-is, next-target, step, family}
-use Rattle.clifford.proofs.Inductions.{lift-col, lift-length, Ψ, spread, spread-fixed, spread-moved, rep-of-fixed, fixed-spreads, induced-shows, orb-below, orb-degree}
+use Rattle.clifford.proofs.Extensions.{E, 𝓢, ρ, base-shows}
+use Rattle.clifford.proofs.Next.{target-below, target-fixed, next-d, mapped, next-X, next-X-is, next-target, family}
+use Rattle.clifford.proofs.Inductions.{Ψ, spread, spread-fixed, spread-moved, rep-of-fixed, fixed-spreads, induced-shows}
 use Rattle.clifford.proofs.Intertwiners.{mapped-shows}
 
 module _ (R : Rung) where

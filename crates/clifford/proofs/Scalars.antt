@@ -12,7 +12,7 @@
 --   number-stays, closes                    what a step asks of them
 use mathlib.Core.Path.{_≡_, refl, sym, _∙_, ap, ap₂, subst}
 use mathlib.Core.Bool.{cond}
-use Prim.Native.Nat.{ℕ, zero, suc, _+_, _*_, _-_, _%_, _/_, _≤_, _<_, _∣_}
+use Prim.Native.Nat.{ℕ, zero, suc, _+_, _*_, _-_, _%_, _<_, _∣_}
 use native.Mathlib.Nat.{mod-lt, mod-eq-of-lt, mod-self, mod-eq-sub-mod, mod-eq-zero-of-dvd}
 use native.Mathlib.Omega.{arith}
 use native.Mathlib.Decide.{decLt, ℕ-discrete}
@@ -25,10 +25,10 @@ use Rattle.numbers.proofs.Iterates.{iter-iter}
 use Rattle.numbers.proofs.Prime.{Units}
 use Rattle.numbers.proofs.Orbits.{Orbits, leader, position, paces, iter-mod, iter-moved, leader-below, leader-iter, position-below, position-iter, paces-below, paces-back, paces-next}
 use Rattle.monomial.specs.Exponents.{Exponents, total, times, Residue, Parts}
-use Rattle.monomial.specs.Maps.{Map, maps}
+use Rattle.monomial.specs.Maps.{maps}
 use Rattle.monomial.specs.Families.{Family}
 use Rattle.monomial.proofs.Exponents.{idr, negl, lcomm, neg-of, total-zero, total-suc, total-ext, total-single, times-nil, times-add, times-mul}
-use Rattle.monomial.proofs.Residues.{residues, root-divides, part, part-times, neg-divides, unit, unit-p, unit-injective, unit-mod, log, log-below, log-times}
+use Rattle.monomial.proofs.Residues.{residues, root-divides, part, part-times, neg-divides, unit, unit-p, unit-injective, unit-mod, log, log-times}
 use Rattle.clifford.specs.Extension.{Extension}
 use Rattle.clifford.proofs.Defect.{defect, defect-const, defect-step, X-maps, target-home, root}
 use Rattle.clifford.proofs.Top.{Normed, φ, φ-power-maps, q, q-const, around, swap, fixed-back}

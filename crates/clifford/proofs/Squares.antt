@@ -2,21 +2,21 @@
 --
 --   sum-orbits           over the numbers below N, p for each leader of an orbit that moves is one for each member
 --   next-squares         the squares of the next level
-use mathlib.Core.Path.{_≡_, refl, sym, _∙_, ap, ap₂, subst}
+use mathlib.Core.Path.{_≡_, refl, sym, _∙_, ap, ap₂}
 use mathlib.Core.Bool.{cond}
-use Prim.Native.Nat.{ℕ, zero, suc, _+_, _*_, _-_, _%_, _≤_, _<_}
-use native.Mathlib.Nat.{mul-zero, zero-mul, mod-lt, mod-eq-of-lt, mod-self}
+use Prim.Native.Nat.{ℕ, suc, _+_, _*_, _-_, _%_, _<_}
+use native.Mathlib.Nat.{zero-mul, mod-lt}
 use native.Mathlib.Omega.{arith}
-use native.Mathlib.Decide.{ℕ-discrete, decLt}
+use native.Mathlib.Decide.{ℕ-discrete}
 use lib.ListN.{length}
 use Rattle.definitions.specs.Lists.{sum, iter}
-use Rattle.definitions.specs.Presentation.{Presentation, order}
+use Rattle.definitions.specs.Presentation.{order}
 use Rattle.definitions.specs.Monomial.{Rep, repOf}
 use Rattle.definitions.specs.Steps
 use Rattle.numbers.proofs.Lists.{iter-add, iter-fix}
-use Rattle.numbers.proofs.Sums.{sum-zero, sum-suc, sum-below, sum-plus, sum-mul, sum-const, sum-none, sum-swap, sum-single, sum-stretches, chosen, chosen-same, chosen-other, sum-permuted}
-use Rattle.numbers.proofs.Orbits.{Orbits, Moved, leader, position, iter-below, iter-mod, iter-moved, leader-below, leader-iter, leader-leader, leader-moved, position-below, position-back, moved-distinct}
-use Rattle.clifford.specs.Stands.{Stands, Rung}
+use Rattle.numbers.proofs.Sums.{sum-zero, sum-suc, sum-below, sum-plus, sum-mul, sum-const, sum-swap, sum-single, sum-stretches, chosen, chosen-same, chosen-other, sum-permuted}
+use Rattle.numbers.proofs.Orbits.{Orbits, Moved, leader, position, iter-below, iter-mod, iter-moved, leader-below, leader-iter, position-below, position-back, moved-distinct}
+use Rattle.clifford.specs.Stands.{Rung}
 use Rattle.clifford.proofs.Numbering.{P, p, N, deg, τ, O, fixed-yes, fixed-no, made, next, next-length, made-fixed, made-leader, made-other, given-fixed, given-moved, degree-iter}
 
 -- ---- Orbits

@@ -6,25 +6,24 @@
 --   restricts            every representation of a level above 0 is cut into blocks of the level below
 --   order-split          the order of a level and its prime divide the order of the group
 --   setting              an accepted presentation, modulo its order
-use mathlib.Core.Path.{_≡_, refl, sym, _∙_, ap, ap₂, subst}
+use mathlib.Core.Path.{_≡_, refl, sym, _∙_, ap, subst}
 use mathlib.Core.HLevel.{Unit-prop}
-use Prim.Native.Nat.{ℕ, zero, suc, _+_, _*_, _-_, _≤_, _<_}
+use Prim.Native.Nat.{ℕ, zero, suc, _*_, _≤_, _<_}
 use native.Mathlib.Omega.{arith}
 use native.Mathlib.Decide.{decLt}
 use lib.ListN.{length}
 use Rattle.definitions.specs.Lists.{sum}
 use Rattle.definitions.specs.Presentation.{Presentation, order}
-use Rattle.definitions.specs.Monomial.{Matrix, entry, col, identity, Rep, Level, repOf}
+use Rattle.definitions.specs.Monomial.{Level, repOf}
 use Rattle.definitions.specs.Table.{levelZero}
 use Rattle.definitions.specs.Steps
 use Rattle.numbers.proofs.Prime.{Units}
-use Rattle.group.specs.Context.{Context, Nf}
-use Rattle.group.proofs.Level.{level, conjNf, genNf}
+use Rattle.group.proofs.Level.{level, conjNf}
 use Rattle.group.proofs.Group.{Tested}
 use Rattle.group.proofs.Order.{order-positive}
-use Rattle.monomial.specs.Maps.{Map, maps}
+use Rattle.monomial.specs.Maps.{maps}
 use Rattle.monomial.specs.Families.{Family}
-use Rattle.monomial.specs.Frames.{Frame, Complete, Shows}
+use Rattle.monomial.specs.Frames.{Frame, Shows}
 use Rattle.monomial.proofs.Maps.{maps-laws}
 use Rattle.monomial.proofs.Residues.{residues}
 use Rattle.monomial.proofs.Frames.{shows-one}

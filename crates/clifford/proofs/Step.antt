@@ -7,7 +7,7 @@
 --   Step              what the next level is, over the level below
 --   next              a Step is a family of the next level
 use mathlib.Core.Path.{_≡_, refl, sym, _∙_, ap, ap₂, subst, fun-ext}
-use Prim.Native.Nat.{ℕ, zero, suc, _+_, _≤_, _<_}
+use Prim.Native.Nat.{ℕ, suc, _≤_, _<_}
 use native.Mathlib.Omega.{arith}
 use native.Mathlib.Decide.{ℕ-discrete}
 use Rattle.definitions.specs.Lists.{iter}
@@ -20,7 +20,7 @@ use Rattle.monomial.specs.Families.{Separated, Family}
 use Rattle.monomial.specs.Over.{At, Over}
 use Rattle.monomial.proofs.Exponents.{idr, lcomm, cancel, total-zero, total-add, times-nil, times-swap}
 use Rattle.monomial.proofs.Maps.{pair, column, at-mul, mul-at, maps-laws, power-diagonal}
-use Rattle.monomial.proofs.Over.{over-one, over-mul, at-same, over-same}
+use Rattle.monomial.proofs.Over.{over-one, over-mul, over-same}
 use Rattle.monomial.proofs.Schur.{rep-power}
 use Rattle.clifford.specs.Extension.{Extension}
 use Rattle.clifford.proofs.Defect.{defect, X-maps}

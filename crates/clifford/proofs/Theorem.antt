@@ -3,16 +3,16 @@
 --   table-passes         for an accepted presentation
 --   accepted             relations of a text that refusals 11, 12, 14 and 15 let pass are accepted
 --   built-passes         and their table passes
-use mathlib.Core.Path.{_≡_, refl, sym, _∙_, ap, ap₂, subst}
-use mathlib.Core.Bool.{Bool, true, false, _&&_, not, cond}
-use mathlib.Core.List.{List, [], _∷_, map}
-use Prim.Native.Nat.{ℕ, zero, suc, _+_, _*_, _%_, _≤_, _<_}
+use mathlib.Core.Path.{_≡_, refl, sym, _∙_, ap, subst}
+use mathlib.Core.Bool.{Bool, true, false, _&&_, not}
+use mathlib.Core.List.{List, [], _∷_}
+use Prim.Native.Nat.{ℕ, zero, suc, _*_, _%_, _≤_, _<_}
 use native.Mathlib.Nat.{mul-mod-right}
 use native.Mathlib.Omega.{arith}
-use lib.Dec.{eqb, ltb, leb}
+use lib.Dec.{eqb, leb}
 use lib.ListN.{length}
 use borrow.Author.Tests.{eq-eqb, lt-ltb, leb-true, not-false}
-use Rattle.definitions.specs.Lists.{blocks, allBelow, same}
+use Rattle.definitions.specs.Lists.{blocks, same}
 use Rattle.definitions.specs.Presentation.{lineWords, Presentation, order, Relations, wellFormed, presentation, isPrime, someNotPrime, misused}
 use Rattle.definitions.specs.Consistency.{Consistent, levelTest, test}
 use Rattle.definitions.specs.Monomial.{identity, Rep, Level, repOf}
@@ -24,9 +24,8 @@ use Rattle.numbers.proofs.Bools.{and-left, and-intro, cond-false}
 use Rattle.numbers.proofs.Lists.{allBelow-elim, allBelow-intro}
 use Rattle.numbers.proofs.Prime.{Units, prime-units}
 use Rattle.numbers.proofs.Blocks.{blocks-below, length-table}
-use Rattle.group.specs.Context.{Context}
 use Rattle.group.proofs.Level.{level, conjNf}
-use Rattle.group.proofs.Group.{Test, Tested}
+use Rattle.group.proofs.Group.{Test}
 use Rattle.group.proofs.Tests.{test-holds}
 use Rattle.group.proofs.Order.{order-positive}
 use Rattle.group.proofs.Context.{context, accept}
@@ -34,7 +33,7 @@ use Rattle.monomial.specs.Families.{Family}
 use Rattle.monomial.proofs.Residues.{residues}
 use Rattle.clifford.specs.Stands.{Stands, Restricts}
 use Rattle.clifford.specs.Accepted.{Accepted}
-use Rattle.clifford.proofs.Standing.{Setting, Standing, standing, restricts, setting}
+use Rattle.clifford.proofs.Standing.{Setting, standing, restricts, setting}
 use Rattle.clifford.proofs.Lines.{Written, Agrees, table, table-length, read-back}
 use Rattle.clifford.proofs.Agreement.{agree-stands, agree-restricts, agree-words}
 use Rattle.clifford.proofs.Judged.{relations-hold, intertwiners-hold, separates-hold, squares-hold, valid-holds, listed-holds}
@@ -115,6 +114,9 @@ module _ (A : Accepted) where
   unfolding Judgement.everywhere
   everywhere-holds q h = allBelow-intro n _ (λ i l. allBelow-intro (length (Lv (suc i))) _ (λ r a. h i l r a))
 
+  pub whole-words : (k : ℕ) × (length (tableOf (A .C .P)) ≡ lineWords * k)
+  whole-words = (_, ap length table-is ∙ table-length W)
+
   -- ---- 21
 
   whole-lines : eqb (length T % lineWords) 0 ≡ true
@@ -192,3 +194,7 @@ module _ (R : Relations) (formed : wellFormed R ≡ true) (primes : someNotPrime
 
   pub built-passes : judgement (presentation R) (tableOf (presentation R)) ≡ 0
   built-passes = subst (λ P. judgement P (tableOf P) ≡ 0) accepted-is (table-passes accepted)
+
+  -- the words of the table are whole lines
+  pub table-words : (k : ℕ) × (length (tableOf (presentation R)) ≡ lineWords * k)
+  table-words = let (k, e) = whole-words accepted in (k, ap (λ P. length (tableOf P)) (sym accepted-is) ∙ e)

@@ -9,7 +9,7 @@
 --   around                                      the scalars q along φ, p times, cancel
 --   swap, fixed-stays, fixed-back               how the permutations of the representations commute
 use mathlib.Core.Path.{_≡_, refl, sym, _∙_, ap, ap₂, subst, fun-ext}
-use Prim.Native.Nat.{ℕ, zero, suc, _+_, _-_, _≤_, _<_}
+use Prim.Native.Nat.{ℕ, zero, suc, _-_, _<_}
 use native.Mathlib.Omega.{arith}
 use Rattle.definitions.specs.Lists.{iter}
 use Rattle.definitions.specs.Presentation.{Mul, power}
@@ -17,10 +17,10 @@ use Rattle.group.specs.Models.{Laws, Hom}
 use Rattle.group.proofs.Values.{power-zero, power-suc, power-one, power-hom}
 use Rattle.numbers.proofs.Lists.{iter-zero, iter-suc, iter-fix}
 use Rattle.monomial.specs.Exponents.{Exponents, total}
-use Rattle.monomial.specs.Maps.{Map, compose, maps, diagonal, Inverse}
+use Rattle.monomial.specs.Maps.{Map, compose, maps, diagonal}
 use Rattle.monomial.specs.Families.{Family, Alike}
 use Rattle.monomial.proofs.Exponents.{idr, lcomm, cancel, total-zero, total-suc, total-ext}
-use Rattle.monomial.proofs.Maps.{pair, column, at-mul, mul-at, maps-laws, inverse-mul, power-diagonal}
+use Rattle.monomial.proofs.Maps.{pair, column, at-mul, maps-laws, inverse-mul, power-diagonal}
 use Rattle.monomial.proofs.Schur.{intertwiner-inverse, ratio, ratio-eq, ratio-const, rep-power, scalar-commutes}
 use Rattle.clifford.specs.Extension.{Extension}
 use Rattle.clifford.proofs.Defect.{defect, defect-eq, X-inverse, X-past, X-maps, target-period}

@@ -8,7 +8,7 @@ use mathlib.Core.Path.{_≡_}
 use Prim.Native.Nat.{ℕ, suc, _+_, _*_, _≤_, _<_}
 use lib.ListN.{length}
 use Rattle.definitions.specs.Lists.{sum}
-use Rattle.definitions.specs.Presentation.{Presentation, order}
+use Rattle.definitions.specs.Presentation.{order}
 use Rattle.definitions.specs.Monomial.{entry, col, Rep, Level, repOf}
 use Rattle.numbers.proofs.Prime.{Units}
 use Rattle.group.specs.Context.{Context}

@@ -7,40 +7,37 @@
 use mathlib.Core.Path.{_≡_, refl, sym, _∙_, ap, ap₂, subst}
 use mathlib.Core.Bool.{Bool, true, false, cond}
 use mathlib.Core.List.{List, [], _∷_, _++_, map}
-use Prim.Native.Nat.{ℕ, zero, suc, _+_, _*_, _-_, _/_, _%_, _≤_, _<_}
+use Prim.Native.Nat.{ℕ, suc, _+_, _*_, _-_, _/_, _%_, _<_}
 use native.Mathlib.Omega.{arith}
 use native.Mathlib.Decide.{decLt, ℕ-discrete}
-use lib.Dec.{eqb, ltb, leb}
+use lib.Dec.{eqb, leb}
 use lib.ListN.{length, getD, length-map}
 use lib.Seq.{ext-getD}
-use borrow.Author.Tests.{le-leb, lt-leb}
+use borrow.Author.Tests.{le-leb}
 use Rattle.definitions.specs.declared.Entry.{Entry}
 use Rattle.definitions.specs.Lists.{upto, blocks, sum}
-use Rattle.definitions.specs.Presentation.{Presentation}
 use Rattle.definitions.specs.Monomial.{Matrix, entry, col, less, scale, image, Rep, Level, repOf, noRep}
 use Rattle.definitions.specs.Table.{levelWords}
 use Rattle.definitions.specs.Steps
 use Rattle.formulas.specs.Formulas as Fm
 use Rattle.formulas.specs.Formulas.{sourceOf}
-use Rattle.numbers.proofs.Bools.{cond-true, cond-false, cond-lt, cond-ge, cond-eq, cond-ne}
+use Rattle.numbers.proofs.Bools.{cond-true, cond-lt, cond-ge, cond-eq, cond-ne}
 use Rattle.numbers.proofs.Lists.{length-blocks}
 use Rattle.numbers.proofs.Sums.{sum-below}
 use Rattle.numbers.proofs.Blocks.{getD-map, getD-table, length-table, getD-blocks, blocks-suc, blocks-below}
 use Rattle.numbers.proofs.Orbits.{leader}
-use Rattle.monomial.specs.Frames.{Shows}
 use Rattle.monomial.proofs.Frames.{entry-path}
-use Rattle.clifford.specs.Stands.{frame, Stands, Rung}
-use Rattle.clifford.proofs.Numbering.{P, p, N, deg, rep, τ, S, O, made, next, next-length, fixed-yes, fixed-no, leader-yes, leader-no, made-fixed, given-length}
-use Rattle.clifford.proofs.Indices.{next-complete, next-frame}
+use Rattle.clifford.specs.Stands.{Rung}
+use Rattle.clifford.proofs.Numbering.{P, p, N, deg, τ, O, made, next, next-length}
 use Rattle.clifford.proofs.Extensions.{s-is}
 use Rattle.clifford.proofs.Inductions.{orb, orb-below}
 use Rattle.clifford.proofs.Formulas.{defect-formula, last-formula}
 use Rattle.clifford.proofs.Rise.{Extended, Induced, at-source, extension-low, extension-up, induction-low, induction-up, next-represents, next-intertwines}
 use Rattle.clifford.proofs.Lines.{Agrees}
 use Rattle.clifford.proofs.Agreement.{agree-words}
-use Rattle.closed.proofs.Entries.{Sc, shift-is, turn-same}
-use Rattle.closed.proofs.Extended.{scale-zero, landing-is, made-same, start-same}
-use Rattle.closed.proofs.Scalar.{leader-of, position-of, scalars}
+use Rattle.closed.proofs.Entries.{Sc, shift-is}
+use Rattle.closed.proofs.Extended.{scale-zero, landing-is, start-same}
+use Rattle.closed.proofs.Scalar.{leader-of, scalars}
 
 lift-zero : (k : ℕ) (M : Matrix) → k ≡ 0 → Steps.lift k M ≡ M
 unfolding Steps.lift

@@ -5,33 +5,33 @@
 --   walk-shows                    the value of a normal form
 --   around-shows                  the intertwiners around an orbit
 --   shift-is                      the constant of an orbit is the negative of the defect
-use mathlib.Core.Path.{_≡_, refl, sym, _∙_, ap, ap₂, subst}
-use Prim.Native.Nat.{ℕ, zero, suc, _+_, _*_, _%_, _≤_, _<_}
+use mathlib.Core.Path.{_≡_, refl, sym, _∙_, ap, ap₂}
+use Prim.Native.Nat.{ℕ, zero, suc, _+_, _%_, _≤_, _<_}
 use native.Mathlib.Omega.{arith}
 use native.Mathlib.Decide.{decLt}
 use lib.ListN.{length}
 use Rattle.definitions.specs.declared.Entry.{Entry}
 use Rattle.definitions.specs.Lists.{iter}
-use Rattle.definitions.specs.Presentation.{NF, Presentation, Mul, power, value}
-use Rattle.definitions.specs.Monomial.{Matrix, entry, col, less, act, Rep, Level, repOf}
+use Rattle.definitions.specs.Presentation.{NF, Mul, power, value}
+use Rattle.definitions.specs.Monomial.{Matrix, entry, less, act, repOf}
 use Rattle.formulas.specs.Formulas as Fm
 use Rattle.formulas.specs.Formulas.{Source}
-use Rattle.numbers.proofs.Lists.{iter-zero, iter-suc}
+use Rattle.numbers.proofs.Lists.{iter-zero}
 use Rattle.numbers.proofs.Iterates.{iter-out}
 use Rattle.numbers.proofs.Orbits.{iter-below}
-use Rattle.group.specs.Context.{Context, Nf}
+use Rattle.group.specs.Context.{Nf}
 use Rattle.group.proofs.Values.{power-zero, power-suc, value-zero, value-suc, value-hom}
 use Rattle.group.proofs.Level.{genNf, uNf}
 use Rattle.group.proofs.Group.{group}
 use Rattle.monomial.specs.Exponents.{Exponents, Residue}
 use Rattle.monomial.specs.Maps.{Map, maps}
-use Rattle.monomial.specs.Frames.{Frame, Shows}
-use Rattle.monomial.proofs.Exponents.{idr, neg-of}
-use Rattle.monomial.proofs.Maps.{pair, column as at-column, at-mul, at-one}
-use Rattle.monomial.proofs.Residues.{residues, add-value, nil-value, less-value}
-use Rattle.clifford.specs.Stands.{frame, Stands, Rung}
-use Rattle.clifford.proofs.Numbering.{P, p, N, deg, rep, τ, S, ready, O, firstOf-column, target-same}
-use Rattle.clifford.proofs.Defect.{defect, defect-eq, X-maps}
+use Rattle.monomial.specs.Frames.{Shows}
+use Rattle.monomial.proofs.Exponents.{idr}
+use Rattle.monomial.proofs.Maps.{pair, at-mul, at-one}
+use Rattle.monomial.proofs.Residues.{residues, add-value, nil-value}
+use Rattle.clifford.specs.Stands.{Stands, Rung}
+use Rattle.clifford.proofs.Numbering.{P, p, N, deg, rep, τ, S, O, firstOf-column, target-same}
+use Rattle.clifford.proofs.Defect.{defect, defect-eq}
 use Rattle.clifford.proofs.Extensions.{E, Φ, first, first-rep}
 use Rattle.clifford.proofs.Formulas.{less-over}
 

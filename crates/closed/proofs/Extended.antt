@@ -4,36 +4,33 @@
 --   top-shows                generator i of extension 0, on an entry
 --   landing-is               the number that an intertwiner's target has, read off single columns
 --   start-same               numbers count alike
-use mathlib.Core.Path.{_≡_, refl, sym, _∙_, ap, ap₂, subst}
-use mathlib.Core.Bool.{cond}
-use Prim.Native.Nat.{ℕ, zero, suc, _+_, _*_, _-_, _/_, _%_, _≤_, _<_}
-use native.Mathlib.Nat.{add-zero, mod-eq-of-lt, mod-add-mod, add-assoc, add-comm}
+use mathlib.Core.Path.{_≡_, refl, sym, _∙_, ap, ap₂}
+use Prim.Native.Nat.{ℕ, suc, _+_, _/_, _%_, _<_}
+use native.Mathlib.Nat.{add-zero, mod-eq-of-lt}
 use native.Mathlib.Omega.{arith}
-use lib.ListN.{length}
 use Rattle.definitions.specs.declared.Entry.{Entry}
-use Rattle.definitions.specs.Lists.{sum, iter}
-use Rattle.definitions.specs.Presentation.{NF, Presentation, Mul, power}
-use Rattle.definitions.specs.Monomial.{Matrix, entry, col, less, act, scale, Rep, Level, repOf}
+use Rattle.definitions.specs.Lists.{iter}
+use Rattle.definitions.specs.Presentation.{Mul, power}
+use Rattle.definitions.specs.Monomial.{Matrix, entry, less, act, scale, repOf}
 use Rattle.definitions.specs.Steps
 use Rattle.formulas.specs.Formulas as Fm
-use Rattle.group.specs.Context.{Context, Nf}
+use Rattle.group.specs.Context.{Nf}
 use Rattle.group.proofs.Level.{wNf}
 use Rattle.monomial.specs.Exponents.{Exponents, Residue}
 use Rattle.monomial.specs.Maps.{Map, maps}
-use Rattle.monomial.specs.Frames.{Frame, Shows}
+use Rattle.monomial.specs.Frames.{Shows}
 use Rattle.monomial.proofs.Exponents.{lcomm}
-use Rattle.monomial.proofs.Maps.{pair, column as at-column, at-mul}
-use Rattle.monomial.proofs.Residues.{residues, Residue-path, add-value, part-value, log-value}
+use Rattle.monomial.proofs.Maps.{at-mul}
+use Rattle.monomial.proofs.Residues.{residues, add-value, part-value, log-value}
 use Rattle.monomial.proofs.Frames.{shows-scale, shown-unique}
-use Rattle.clifford.specs.Stands.{frame, Stands, Rung}
-use Rattle.clifford.proofs.Numbering.{P, p, N, deg, rep, τ, S, ready, O, target-same, made}
-use Rattle.clifford.proofs.Defect.{defect}
+use Rattle.clifford.specs.Stands.{Stands, Rung}
+use Rattle.clifford.proofs.Numbering.{P, p, N, rep, τ, S, ready, made}
 use Rattle.clifford.proofs.Top.{Y, Y-at, Y-maps, φ, φ-is, q, q-eq}
 use Rattle.clifford.proofs.Scalars.{parts, σ, σ-fixed, q̂}
-use Rattle.clifford.proofs.Extensions.{E, Φ, 𝓢, first, first-rep, l-is, s-is, fixed-shows}
+use Rattle.clifford.proofs.Extensions.{E, Φ, 𝓢, first, first-rep, l-is, fixed-shows}
 use Rattle.clifford.proofs.Next.{target-below, target-fixed}
 use Rattle.clifford.proofs.Formulas.{less-back, share-is}
-use Rattle.closed.proofs.Entries.{Sc, Z, stand, move, move-mul, act-shows, move-rep, iter-shows, walk-shows, origin, origin-rep, origin-stands, origin-moves, stand-exp, shift-is}
+use Rattle.closed.proofs.Entries.{Sc, Z, stand, move, move-mul, act-shows, iter-shows, walk-shows, origin, origin-rep, origin-stands, origin-moves, stand-exp, shift-is}
 
 module _ (R : Rung) where
   open Rung R using (T, m, pos, i, L, Ω, F, stands)

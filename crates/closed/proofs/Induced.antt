@@ -5,49 +5,40 @@
 --   conjugate-entry       column 0 of a block, moved by the conjugate of generator i
 --   block-is, block-same  the blocks along generator i
 --   left-same             the left side of the equation that forces the scalars
-use mathlib.Core.Path.{_≡_, refl, sym, _∙_, ap, ap₂, subst, fun-ext}
-use mathlib.Core.Bool.{Bool, true, cond}
-use mathlib.Core.List.{List, _++_, map}
-use Prim.Native.Nat.{ℕ, zero, suc, _+_, _*_, _-_, _/_, _%_, _≤_, _<_}
-use native.Mathlib.Nat.{mod-eq-of-lt, mod-self, mod-lt, mod-add-mod, zero-mod, add-zero, zero-add}
+use mathlib.Core.Path.{_≡_, refl, sym, _∙_, ap, ap₂, subst}
+use Prim.Native.Nat.{ℕ, zero, suc, _+_, _*_, _-_, _%_, _<_}
+use native.Mathlib.Nat.{mod-eq-of-lt, mod-self, mod-lt, mod-add-mod, zero-mod}
 use native.Mathlib.Omega.{arith}
-use native.Mathlib.Decide.{decLt, ℕ-discrete}
-use lib.Dec.{eqb, ltb}
-use lib.ListN.{length, getD, length-map}
-use lib.Seq.{ext-getD}
+use native.Mathlib.Decide.{decLt}
 use Rattle.definitions.specs.declared.Entry.{Entry}
-use Rattle.definitions.specs.Lists.{blocks, iter, least}
-use Rattle.definitions.specs.Presentation.{NF, Presentation, Mul, power}
-use Rattle.definitions.specs.Monomial.{Matrix, entry, col, less, act, scale, Rep, Level, repOf}
+use Rattle.definitions.specs.Lists.{iter}
+use Rattle.definitions.specs.Presentation.{Mul, power}
+use Rattle.definitions.specs.Monomial.{entry, col, act, repOf}
 use Rattle.definitions.specs.Steps
 use Rattle.formulas.specs.Formulas as Fm
 use Rattle.formulas.specs.Formulas.{Moved}
-use Rattle.numbers.proofs.Bools.{cond-lt, cond-ge, cond-eq, cond-ne}
+use Rattle.numbers.proofs.Bools.{cond-lt, cond-ge}
 use Rattle.numbers.proofs.Lists.{iter-zero, iter-suc, iter-add}
 use Rattle.numbers.proofs.Iterates.{iter-out}
-use Rattle.numbers.proofs.Blocks.{blocks-suc, blocks-below, getD-map}
-use Rattle.numbers.proofs.Orbits.{leader, position, iter-below, leader-below, leader-iter, leader-leader, leader-moved, position-back}
-use Rattle.group.specs.Context.{Context, Nf}
+use Rattle.numbers.proofs.Orbits.{leader, position, iter-below, leader-iter}
+use Rattle.group.specs.Context.{Nf}
 use Rattle.group.proofs.Values.{power-zero, power-suc}
 use Rattle.group.proofs.Level.{wNf}
 use Rattle.monomial.specs.Exponents.{Exponents, Residue}
 use Rattle.monomial.specs.Maps.{Map, maps}
-use Rattle.monomial.specs.Frames.{Frame, Shows}
 use Rattle.monomial.proofs.Maps.{at-mul}
-use Rattle.monomial.proofs.Residues.{residues, nil-value, less-mod}
-use Rattle.clifford.specs.Stands.{frame, Stands, Rung}
-use Rattle.clifford.proofs.Numbering.{P, p, N, deg, rep, τ, S, ready, O, rep-below, target-same, orbit-same, leader-same, position-same}
+use Rattle.monomial.proofs.Residues.{residues, nil-value}
+use Rattle.clifford.specs.Stands.{Stands, Rung}
+use Rattle.clifford.proofs.Numbering.{P, p, N, deg, rep, τ, S, ready, O, rep-below}
 use Rattle.clifford.proofs.Defect.{defect, defect-const, defect-power, X-maps}
 use Rattle.clifford.proofs.Top.{Y, Y-at, Y-maps, φ, φ-is, φ-maps}
 use Rattle.clifford.proofs.Scalars.{σ, σ-last, σ-other}
-use Rattle.clifford.proofs.Extensions.{E, Φ, 𝓢, first, first-rep}
-use Rattle.clifford.proofs.Next.{target-below, target-moved, target-orbit}
-use Rattle.clifford.proofs.Inductions.{Ψ, Member, member, position-of, position-mod, orb, orb-below}
-use Rattle.clifford.proofs.Intertwiners.{block-after, member-of, member-rep, member-leader, at-block, left-shows, right-shows}
-use Rattle.clifford.proofs.Formulas.{defect-formula, last-formula}
+use Rattle.clifford.proofs.Extensions.{E, 𝓢, first, first-rep}
+use Rattle.clifford.proofs.Inductions.{Member, member, position-of, position-mod}
+use Rattle.clifford.proofs.Intertwiners.{block-after, member-of, at-block, left-shows}
 use Rattle.monomial.proofs.Schur.{rep-power}
-use Rattle.closed.proofs.Entries.{Sc, Z, stand, move, move-mul, move-one, act-shows, move-rep, walk-shows, origin, origin-rep, origin-stands, origin-moves, stand-exp, turn-same, shift-is}
-use Rattle.closed.proofs.Extended.{scale-zero, plus-move}
+use Rattle.closed.proofs.Entries.{Sc, Z, stand, move, move-mul, move-one, act-shows, walk-shows, origin, origin-rep, origin-stands, origin-moves, stand-exp, turn-same, shift-is}
+use Rattle.closed.proofs.Extended.{plus-move}
 
 module _ (R : Rung) where
   open Rung R using (T, m, pos, i, L, Ω, F, stands)

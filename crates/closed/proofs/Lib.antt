@@ -5,3 +5,4 @@ pub mod Induced
 pub mod Scalar
 pub mod Closed
 pub mod Table
+pub mod Sources

@@ -4,29 +4,27 @@
 --   right-same                  the right side of the equation that forces the scalars
 --   scalar-same, scalars        the scalars are those of the steps
 use mathlib.Core.Path.{_≡_, refl, sym, _∙_, ap, ap₂, subst, fun-ext}
-use Prim.Native.Nat.{ℕ, zero, suc, _+_, _*_, _-_, _/_, _%_, _≤_, _<_}
+use Prim.Native.Nat.{ℕ, zero, suc, _+_, _*_, _<_}
 use native.Mathlib.Nat.{mod-lt}
 use native.Mathlib.Omega.{arith}
 use lib.Dec.{eqb}
-use lib.ListN.{length}
 use Rattle.definitions.specs.declared.Entry.{Entry}
 use Rattle.definitions.specs.Lists.{iter, least}
-use Rattle.definitions.specs.Presentation.{Presentation, Mul}
-use Rattle.definitions.specs.Monomial.{entry, col, less, act, Rep, repOf}
+use Rattle.definitions.specs.Presentation.{Mul}
+use Rattle.definitions.specs.Monomial.{entry, col, less, act, repOf}
 use Rattle.definitions.specs.Steps
 use Rattle.formulas.specs.Formulas as Fm
 use Rattle.numbers.proofs.Orbits.{leaderOf, positionOf, leader, position, iter-below, leader-below, leader-leader, leader-moved}
-use Rattle.monomial.specs.Exponents.{Residue}
-use Rattle.monomial.specs.Maps.{Map, maps}
+use Rattle.monomial.specs.Maps.{maps}
 use Rattle.monomial.specs.Frames.{Shows}
 use Rattle.monomial.proofs.Maps.{at-mul}
-use Rattle.monomial.proofs.Residues.{residues, less-mod}
-use Rattle.clifford.specs.Stands.{Stands, Rung}
-use Rattle.clifford.proofs.Numbering.{P, p, N, deg, rep, τ, S, O, rep-below, target-same}
+use Rattle.monomial.proofs.Residues.{less-mod}
+use Rattle.clifford.specs.Stands.{Rung}
+use Rattle.clifford.proofs.Numbering.{P, p, N, deg, rep, τ, S, O, target-same}
 use Rattle.clifford.proofs.Top.{Y}
 use Rattle.clifford.proofs.Extensions.{E, Φ, 𝓢, first, first-rep}
 use Rattle.clifford.proofs.Next.{target-below, target-moved, target-orbit}
-use Rattle.clifford.proofs.Intertwiners.{member-of, member-leader, at-block, right-shows}
+use Rattle.clifford.proofs.Intertwiners.{member-of, at-block, right-shows}
 use Rattle.closed.proofs.Entries.{Sc, Z, stand, move, act-shows, origin, origin-rep, origin-stands, origin-moves, stand-exp, turn-same}
 use Rattle.closed.proofs.Induced.{plus-shows, left-same, block-is, block-same}
 

@@ -7,26 +7,26 @@
 --   shown-unique                                        a map is shown by one matrix
 --   same-shown, shown-same                              equal maps exactly where the matrices pass as equal
 --   shows-valid                                         what shows a map with an inverse is valid
-use mathlib.Core.Path.{_≡_, refl, sym, _∙_, ap, ap₂, subst}
-use mathlib.Core.Bool.{Bool, true, false, _&&_}
-use mathlib.Core.List.{List, [], _∷_, map}
-use Prim.Native.Nat.{ℕ, zero, suc, _+_, _-_, _%_, _≤_, _<_}
-use native.Mathlib.Nat.{mod-eq-of-lt, mod-mod, add-mod-mod, zero-add}
+use mathlib.Core.Path.{_≡_, refl, sym, _∙_, ap, subst}
+use mathlib.Core.Bool.{true, _&&_}
+use mathlib.Core.List.{map}
+use Prim.Native.Nat.{ℕ, zero, suc, _+_, _%_, _<_}
+use native.Mathlib.Nat.{mod-eq-of-lt}
 use native.Mathlib.Omega.{arith}
-use lib.Dec.{eqb, ltb}
-use lib.ListN.{length, getD, length-map}
+use lib.Dec.{eqb}
+use lib.ListN.{length, length-map}
 use lib.Seq.{ext-getD}
 use borrow.Author.Tests.{eqb-true, eq-eqb, lt-ltb}
 use Rattle.definitions.specs.declared.Entry.{Entry}
-use Rattle.definitions.specs.Lists.{upto, allBelow, anyBelow, least}
+use Rattle.definitions.specs.Lists.{upto, least}
 use Rattle.definitions.specs.Presentation.{NF, Mul, power, value}
 use Rattle.definitions.specs.Monomial.{Matrix, entry, col, identity, less, act, product, scale, inverse, matrices, valid, sameEntry, sameMatrix}
 use Rattle.numbers.proofs.Bools.{and-left, and-right, and-intro}
-use Rattle.numbers.proofs.Lists.{allBelow-elim, allBelow-intro, length-upto}
+use Rattle.numbers.proofs.Lists.{allBelow-elim, allBelow-intro}
 use Rattle.numbers.proofs.Searches.{anyBelow-intro, least-is}
 use Rattle.numbers.proofs.Blocks.{getD-map, getD-table, length-table}
-use Rattle.monomial.specs.Exponents.{Exponents, Residue}
-use Rattle.monomial.specs.Maps.{Map, compose, maps, diagonal, Inverse}
+use Rattle.monomial.specs.Exponents.{Residue}
+use Rattle.monomial.specs.Maps.{Map, compose, maps, Inverse}
 use Rattle.monomial.specs.Frames.{Frame, Complete, Shows}
 use Rattle.monomial.proofs.Exponents.{cancel}
 use Rattle.monomial.proofs.Maps.{column, at-mul, at-one, inverse-injective}

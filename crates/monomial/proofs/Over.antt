@@ -5,7 +5,7 @@
 use mathlib.Core.Path.{_≡_, refl, sym, _∙_, ap, ap₂, fun-ext}
 use Prim.Native.Nat.{ℕ, zero, suc, _<_}
 use native.Mathlib.Omega.{arith}
-use Rattle.definitions.specs.Presentation.{NF, Mul, power, value}
+use Rattle.definitions.specs.Presentation.{NF, power, value}
 use Rattle.monomial.specs.Exponents.{Exponents}
 use Rattle.monomial.specs.Maps.{Map, compose, maps}
 use Rattle.monomial.specs.Over.{At, Over}

@@ -9,14 +9,14 @@
 --   neg-divides, root-divides    where p divides an exponent
 --   unit, unit-p, unit-injective, unit-mod      m / p: its multiples count modulo p
 --   log, log-below, log-times    an exponent that p kills is a multiple of m / p
-use mathlib.Core.Path.{_≡_, refl, sym, _∙_, ap, ap₂, subst}
+use mathlib.Core.Path.{_≡_, refl, sym, _∙_, ap, subst}
 use mathlib.Core.HLevel.{Σ-prop-path}
-use Prim.Native.Nat.{ℕ, zero, suc, _+_, _*_, _-_, _%_, _/_, _≤_, _<_, _∣_}
-use native.Mathlib.Nat.{zero-mul, zero-mod, zero-add, suc-mul, add-comm, add-assoc, add-mod-mod, mod-add-mod, add-mod-left, mod-lt, mod-mod, mod-eq-of-lt, mod-self, mod-add-div', add-mul-mod-self-right, mul-lt-mul-of-pos-right, mul-div-cancel, mul-div-cancel', div-mul-cancel, div-le-self, div-lt-iff-lt-mul, dvd-mul-right, dvd-mul-left, dvd-trans, dvd-sub, dvd-mod-iff, dvd-add-iff-left, dvd-of-mod-eq-zero, mod-eq-zero-of-dvd, mod-mod-of-dvd, dvd-of-mul-dvd-mul-left}
+use Prim.Native.Nat.{ℕ, zero, suc, _+_, _*_, _-_, _%_, _/_, _<_, _∣_}
+use native.Mathlib.Nat.{zero-mul, zero-mod, zero-add, suc-mul, add-comm, add-assoc, add-mod-mod, mod-add-mod, mod-lt, mod-eq-of-lt, mod-self, mod-add-div', add-mul-mod-self-right, mul-lt-mul-of-pos-right, mul-div-cancel, mul-div-cancel', div-mul-cancel, div-le-self, div-lt-iff-lt-mul, dvd-mul-right, dvd-trans, dvd-sub, dvd-mod-iff, dvd-add-iff-left, dvd-of-mod-eq-zero, mod-eq-zero-of-dvd, mod-mod-of-dvd, dvd-of-mul-dvd-mul-left}
 use native.Mathlib.Bridge.{le-prop}
 use native.Mathlib.Omega.{arith}
 use Rattle.definitions.specs.Monomial.{less}
-use Rattle.monomial.specs.Exponents.{Exponents, total, times, Residue, Parts}
+use Rattle.monomial.specs.Exponents.{Exponents, times, Residue, Parts}
 use Rattle.monomial.proofs.Exponents.{total-zero, total-suc}
 
 pub Residue-path : (m : ℕ) (x y : Residue m) → x .0 ≡ y .0 → x ≡ y

@@ -6,11 +6,11 @@
 --   ratio, ratio-eq, ratio-const           two maps that move past the family alike differ by such a scalar
 --   rep-power, rep-iterates                how powers of a map move the representations
 --   scalar-commutes                        a scalar on each representation commutes with the family
-use mathlib.Core.Path.{_≡_, refl, sym, _∙_, ap, ap₂, subst, fun-ext}
-use Prim.Native.Nat.{ℕ, zero, suc, _≤_, _<_}
+use mathlib.Core.Path.{_≡_, refl, sym, _∙_, ap, subst, fun-ext}
+use Prim.Native.Nat.{ℕ, zero, suc, _<_}
 use Rattle.definitions.specs.Lists.{iter}
 use Rattle.definitions.specs.Presentation.{Mul, power}
-use Rattle.group.specs.Models.{Laws, Hom}
+use Rattle.group.specs.Models.{Laws}
 use Rattle.group.proofs.Values.{power-zero, power-suc, iter-past}
 use Rattle.numbers.proofs.Lists.{iter-zero}
 use Rattle.numbers.proofs.Iterates.{iter-out}
@@ -18,7 +18,7 @@ use Rattle.monomial.specs.Exponents.{Exponents}
 use Rattle.monomial.specs.Maps.{Map, compose, maps, diagonal, Inverse}
 use Rattle.monomial.specs.Families.{Separated, Family, Alike}
 use Rattle.monomial.proofs.Exponents.{cancel}
-use Rattle.monomial.proofs.Maps.{pair, column, at-mul, at-one, mul-at, maps-laws, inverse-diagonal, inverse-root}
+use Rattle.monomial.proofs.Maps.{pair, column, at-mul, at-one, maps-laws, inverse-diagonal, inverse-root}
 
 module _ {G : Type 0} {𝓖 : Mul G} {conj : ℕ → G → G} {i n : ℕ} {E : Type 0} {𝓔 : Exponents E} {Ω : Type 0} (F : Family 𝓔 Ω 𝓖 conj i n) where
   infixl 70 _*_

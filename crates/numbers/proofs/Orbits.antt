@@ -8,8 +8,8 @@
 --   iter-below, iter-mod, iter-moved, moved-distinct      iterates count modulo p, and those of a moved number differ
 --   Steps of length a, p not dividing a: paces a r is how many there are from the leader to r
 --   paces-below, paces-position, paces-back, paces-next
-use mathlib.Core.Path.{_≡_, refl, sym, _∙_, ap, ap₂, subst}
-use mathlib.Core.Bool.{Bool, true}
+use mathlib.Core.Path.{_≡_, refl, sym, _∙_, ap, subst}
+use mathlib.Core.Bool.{true}
 use Prim.Native.Nat.{ℕ, zero, suc, _+_, _*_, _-_, _%_, _/_, _≤_, _<_, _∣_}
 use native.Mathlib.Nat.{mod-lt, mod-eq-of-lt, mod-add-div', mod-add-mod, add-mul-mod-self-right, mod-eq-zero-of-dvd}
 use native.Mathlib.Omega.{arith}
@@ -18,7 +18,7 @@ use lib.Dec.{eqb}
 use borrow.Author.Tests.{eqb-true, eq-eqb}
 use Rattle.definitions.specs.Lists.{anyBelow, least, iter}
 use Rattle.numbers.proofs.Lists.{iter-zero, iter-suc, iter-add, iter-fix}
-use Rattle.numbers.proofs.Iterates.{iter-out, iter-round}
+use Rattle.numbers.proofs.Iterates.{iter-round}
 use Rattle.numbers.proofs.Searches.{anyBelow-elim, anyBelow-intro, least-found, least-least}
 use Rattle.numbers.proofs.Prime.{Units}
 

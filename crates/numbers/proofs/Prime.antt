@@ -4,8 +4,8 @@
 --   prime-divisor       its only divisor above 1 is itself
 --   Units p             what p does not divide has an inverse modulo p
 --   prime-units         a prime has units
-use mathlib.Core.Path.{_≡_, refl, sym, _∙_, ap, subst}
-use mathlib.Core.Bool.{Bool, true, false, _||_, not}
+use mathlib.Core.Path.{_≡_, ap}
+use mathlib.Core.Bool.{true, _||_, not}
 use Prim.Native.Nat.{ℕ, zero, suc, _+_, _*_, _-_, _%_, _/_, _≤_, _<_, _∣_}
 use native.Mathlib.Nat.{mod-lt, mod-add-div', mul-pos, mul-le-mul, le-of-dvd, dvd-of-mod-eq-zero, mod-eq-zero-of-dvd}
 use native.Mathlib.Omega.{arith}

@@ -4,13 +4,12 @@
 --   least-found, least-least           where one passes, least finds one, and none below it passes
 --   least-is                           it finds the number that passes, if no other does
 use mathlib.Core.Path.{_≡_, refl, sym, _∙_, ap, subst}
-use mathlib.Core.Bool.{Bool, true, false, _||_, cond, false≢true}
+use mathlib.Core.Bool.{Bool, true, false, _||_, false≢true}
 use Prim.Native.Nat.{ℕ, zero, suc, _+_, _≤_, _<_}
 use native.Mathlib.Omega.{arith}
 use native.Mathlib.Decide.{decLt}
 use Rattle.definitions.specs.Lists.{anyBelow, leastFrom, least}
 use Rattle.numbers.proofs.Bools.{OneOf, first, second, or-cases, or-left, or-right, cond-true, cond-false}
-use Rattle.numbers.proofs.Lists.{below-suc}
 
 pub anyBelow-intro : (n : ℕ) (q : ℕ → Bool) (k : ℕ) → k < n → q k ≡ true → anyBelow n q ≡ true
 unfolding anyBelow

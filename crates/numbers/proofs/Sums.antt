@@ -5,16 +5,15 @@
 --                     stretches of lengths w 0, w 1, ..: number sum s w + κ is κ of stretch s
 --   chosen            1 where two numbers are equal, else 0
 --   sum-permuted      a sum does not change under a permutation
-use mathlib.Core.Path.{_≡_, refl, sym, _∙_, ap, ap₂, subst}
+use mathlib.Core.Path.{_≡_, refl, sym, _∙_, ap, ap₂}
 use mathlib.Core.Bool.{cond}
 use Prim.Native.Nat.{ℕ, zero, suc, _+_, _*_, _-_, _≤_, _<_}
 use native.Mathlib.Nat.{mul-zero, zero-mul}
 use native.Mathlib.Omega.{arith}
-use native.Mathlib.Decide.{decLt, decLe, ℕ-discrete}
-use lib.Dec.{eqb, leb}
-use borrow.Author.Tests.{le-leb, lt-leb}
+use native.Mathlib.Decide.{decLt, decLe}
+use lib.Dec.{eqb}
 use Rattle.definitions.specs.Lists.{sum}
-use Rattle.numbers.proofs.Bools.{cond-true, cond-false, cond-eq, cond-ne}
+use Rattle.numbers.proofs.Bools.{cond-eq, cond-ne}
 
 pub sum-zero : (g : ℕ → ℕ) → sum zero g ≡ 0
 unfolding sum

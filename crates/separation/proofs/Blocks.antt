@@ -14,20 +14,19 @@
 --   reaches, reached-power     a basis index is reached exactly if a power of the generator reaches its block
 use mathlib.Core.Path.{_≡_, refl, sym, _∙_, ap, ap₂, subst}
 use Prim.Native.Nat.{ℕ, zero, suc, _+_, _*_ as _·_, _-_, _≤_, _<_, _∣_}
-use native.Mathlib.Nat.{mod-eq-of-lt, mod-eq-zero-of-dvd, add-comm}
+use native.Mathlib.Nat.{mod-eq-of-lt, mod-eq-zero-of-dvd}
 use native.Mathlib.Omega.{arith}
 use native.Mathlib.Decide.{ℕ-discrete}
 use Rattle.definitions.specs.Lists.{iter}
 use Rattle.definitions.specs.Presentation.{Mul, power}
-use Rattle.group.specs.Models.{Laws, Hom}
+use Rattle.group.specs.Models.{Laws}
 use Rattle.group.proofs.Values.{power-zero, power-suc, power-one, power-add, power-hom, iter-past}
-use Rattle.numbers.proofs.Lists.{iter-zero, iter-suc}
 use Rattle.numbers.proofs.Iterates.{iter-out}
 use Rattle.monomial.specs.Exponents.{Exponents}
 use Rattle.monomial.specs.Maps.{Map, maps, Inverse}
 use Rattle.monomial.specs.Families.{Separated, Family}
 use Rattle.monomial.proofs.Exponents.{cancel, lcomm}
-use Rattle.monomial.proofs.Maps.{pair, column, at-mul, at-one, mul-at, maps-laws, inverse-root, inverse-injective}
+use Rattle.monomial.proofs.Maps.{pair, column, at-mul, at-one, maps-laws, inverse-root, inverse-injective}
 use Rattle.clifford.specs.Extension.{Extension}
 use Rattle.separation.specs.Blocked.{Blocked}
 

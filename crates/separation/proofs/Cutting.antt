@@ -1,24 +1,28 @@
 -- The blocks of a representation of any table, numbered: where a block begins, and the block of a column.
 --
+--   all-both                 two tests of every element
 --   cut b, width b           where block b begins, and its width
 --   cut-sum                  the blocks lie one behind the other
 --   Cut, cut-at              the block of a column, and what every cut passes
 --   cuts-end                 the last block ends with the columns; how many blocks there are
 --   cut-below, cuts-each, cuts-all      blocks by their number
-use mathlib.Core.Path.{_≡_, refl, sym, _∙_, ap, ap₂, subst}
-use mathlib.Core.Bool.{Bool, true, false, _&&_, cond}
+use mathlib.Core.Path.{_≡_, refl, sym, _∙_, ap, subst}
+use mathlib.Core.Bool.{Bool, true, _&&_}
 use mathlib.Core.List.{List, [], _∷_}
 use Prim.Native.Nat.{ℕ, zero, suc, _+_, _-_, _≤_, _<_}
 use native.Mathlib.Omega.{arith}
 use native.Mathlib.Decide.{decLt}
-use lib.Dec.{eqb, ltb, leb}
 use lib.ListN.{length}
-use borrow.Author.Tests.{ltb-true, leb-true}
-use Rattle.definitions.specs.Lists.{sum, allBelow, all}
+use Rattle.definitions.specs.Lists.{sum, all}
 use Rattle.definitions.specs.Monomial.{Rep, Level, repOf}
 use Rattle.definitions.specs.Judgement
 use Rattle.numbers.proofs.Bools.{and-left, and-right, and-intro, cond-lt, cond-ge}
 use Rattle.numbers.proofs.Sums.{sum-zero, sum-suc, stretch-one, first-le}
+
+pub all-both : (q q′ : ℕ → Bool) (xs : List ℕ) → all q xs ≡ true → all q′ xs ≡ true → all (λ x. q x && q′ x) xs ≡ true
+unfolding all
+all-both q q′ [] h k = refl
+all-both q q′ (x ∷ xs) h k = and-intro _ _ (and-intro _ _ (and-left (q x) (all q xs) h) (and-left (q′ x) (all q′ xs) k)) (all-both q q′ xs (and-right (q x) (all q xs) h) (and-right (q′ x) (all q′ xs) k))
 
 module _ (low : Level) (D : Rep) where
   unfoldable pub cut : ℕ → ℕ

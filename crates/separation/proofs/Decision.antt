@@ -3,35 +3,35 @@
 --   quick-separates       the quick test gives 25
 --   separates-quick       25 gives the quick test
 --   decides               so the quick test decides 25
-use mathlib.Core.Path.{_≡_, refl, sym, _∙_, ap, ap₂, subst}
-use mathlib.Core.Bool.{Bool, true, false, _&&_, _||_, not, cond}
+use mathlib.Core.Path.{_≡_, refl, sym, _∙_, ap, subst}
+use mathlib.Core.Bool.{Bool, true, _&&_, _||_, not}
 use mathlib.Core.List.{List}
 use mathlib.Core.Logic.{_↔_}
-use Prim.Native.Nat.{ℕ, zero, suc, _+_, _-_, _≤_, _<_}
+use Prim.Native.Nat.{ℕ, suc, _+_, _≤_, _<_}
 use native.Mathlib.Omega.{arith}
 use native.Mathlib.Decide.{decLt, ℕ-discrete}
-use lib.Dec.{eqb, leb}
+use lib.Dec.{eqb}
 use lib.ListN.{length}
 use borrow.Author.Tests.{eqb-true, eqb-false, eq-eqb, ne-eqb, not-true}
 use Rattle.definitions.specs.Lists.{allBelow, all}
-use Rattle.definitions.specs.Monomial.{col, Rep, repOf}
+use Rattle.definitions.specs.Monomial.{col}
 use Rattle.definitions.specs.Judgement
 use Rattle.numbers.proofs.Bools.{and-left, and-right, and-intro, or-left, or-right, OneOf, first, second, or-cases, cond-eq, cond-ne}
 use Rattle.numbers.proofs.Lists.{allBelow-elim, allBelow-intro}
 use Rattle.numbers.proofs.Pigeonhole.{Injects, injects-le, injects-onto}
 use Rattle.group.specs.Context.{Nf}
-use Rattle.group.proofs.Level.{level, low}
-use Rattle.monomial.specs.Exponents.{Exponents, Residue}
-use Rattle.monomial.specs.Maps.{Map, maps}
-use Rattle.monomial.specs.Families.{Separated, Family}
+use Rattle.group.proofs.Level.{low}
+use Rattle.monomial.specs.Maps.{Map}
+use Rattle.monomial.specs.Families.{Separated}
 use Rattle.monomial.proofs.Exponents.{cancel}
 use Rattle.monomial.proofs.Residues.{residues, Residue-path}
-use Rattle.separation.specs.Decision.{blockCount, blockStarts, reference, outside, unshared, differs, parted, quick}
-use Rattle.separation.proofs.Foreign.{Index, Index-path, d, reached, separated, separates-intro}
-use Rattle.separation.proofs.Cutting.{cut, cut-zero, cut-one, width, Cut, cuts-each, cuts-all}
-use Rattle.separation.proofs.Restricted.{Two, P, Low, High, Rp, S, Ω, Ω⁺, F, passing, all-both, all-pass, wide, locate, locate-is, base, blocked, block-known}
+use Rattle.separation.specs.Decision.{blockStarts, outside, unshared, differs, parted, quick}
+use Rattle.separation.proofs.Foreign.{Index-path, foreign-complete, d, form-shows, reached, separated}
+use Rattle.clifford.proofs.Separates.{separates-from}
+use Rattle.separation.proofs.Cutting.{all-both, cut, cut-zero, cut-one, cuts-each, cuts-all}
+use Rattle.separation.proofs.Restricted.{Two, P, Low, High, Rp, S, Ω⁺, F, passing, all-pass, wide, locate, base, blocked, block-known}
 use Rattle.separation.proofs.Blocks as B
-use Rattle.separation.proofs.Numbers.{count, count-end, starts, passes-at, begins-below, block-below, count-pos, at-block, at-located, first-index, first-located, G, Gᵏ, form-rep, G-rep, Gᵏ-rep, G-exp, block, same-block, Stays, stays?, outside-moves, moves-outside, powers-inject}
+use Rattle.separation.proofs.Numbers.{count, starts, passes-at, begins-below, block-below, count-pos, at-block, at-located, first-index, first-located, G, Gᵏ, G-rep, Gᵏ-rep, G-exp, block, same-block, Stays, stays?, outside-moves, moves-outside, powers-inject}
 
 module _ (W : Two) where
   open Two W using (C, tests, m, pos, table, i, in-range, fair)
@@ -134,7 +134,7 @@ module _ (W : Two) where
             (cuts-each (Low W) (Rp W r) (λ o. passing W r o && q o) (λ o s. wide W r o (and-left (passing W r o) _ s)) (both (blockStarts (P W) table i r) (all-pass W r h) t) b (starts W r b l))
           where
             both : (xs : List ℕ) → all (passing W r) xs ≡ true → all q xs ≡ true → all (λ o. passing W r o && q o) xs ≡ true
-            both xs s t = all-both W (passing W r) q xs s t
+            both xs s t = all-both (passing W r) q xs s t
 
         go : OneOf (eqb (x .0 .0) (y .0 .0) && eqb (cut (Low W) (Rp W (x .0 .0)) (locate W x .b)) (cut (Low W) (Rp W (y .0 .0)) (locate W y .b))) (not (eqb (ref (x .0 .0) (cut (Low W) (Rp W (x .0 .0)) (locate W x .b))) (ref (y .0 .0) (cut (Low W) (Rp W (y .0 .0)) (locate W y .b)))))
             → block W x ≡ block W y
@@ -211,7 +211,8 @@ module _ (W : Two) where
             B.reaches (S W) (F W) (blocked W) k x y (same-block W ((Gᵏ W k x) .0) y (Gᵏ-rep W k x) s)
 
     pub quick-separates : (r : ℕ) → r < length (High W) → Judgement.separates (W .C .P) (W .m) (W .table) (suc (W .i)) r ≡ true
-    quick-separates r h = separates-intro C m pos table (suc i) fair r h (λ k a. all-reached r k h a) all-separated
+    quick-separates r h =
+        separates-from C m pos table (suc i) (λ (x : Ω⁺ W). x .1 .1) (foreign-complete (P W) m pos (suc i) (High W) fair) act (form-shows C m pos (suc i) (High W) fair) r h (fair .degree-pos r h) (λ k a. all-reached r k h a) all-separated
 
   -- ---- 25 gives the quick test
 

@@ -8,43 +8,39 @@
 --   satisfies, d, d-hom       they satisfy the relations, so normal forms act
 --   form-shows                the image of a normal form shows its map
 --   foreign-family            a family, where separation holds
---   separates-intro           and back
-use mathlib.Core.Path.{_≡_, refl, sym, _∙_, ap, ap₂, subst, fun-ext}
+use mathlib.Core.Path.{_≡_, refl, sym, _∙_, ap, fun-ext}
 use mathlib.Core.HLevel.{Σ-prop-path, ×-prop}
 use mathlib.Core.Bool.{Bool, true, false, _&&_, _||_, not, false≢true}
 use mathlib.Core.List.{List, [], _∷_, _++_, map}
-use Prim.Native.Nat.{ℕ, zero, suc, _+_, _%_, _≤_, _<_}
-use native.Mathlib.Nat.{mod-eq-of-lt}
+use Prim.Native.Nat.{ℕ, zero, suc, _%_, _≤_, _<_}
 use native.Mathlib.Bridge.{le-prop}
 use native.Mathlib.Omega.{arith}
 use native.Mathlib.Decide.{decLt, ℕ-discrete}
 use lib.Dec.{eqb}
 use lib.ListN.{length}
-use borrow.Author.Tests.{eqb-true, eqb-false, eq-eqb, ne-eqb, not-true}
+use borrow.Author.Tests.{eqb-true, eqb-false, not-true}
 use Rattle.definitions.specs.declared.Entry.{Entry}
-use Rattle.definitions.specs.Lists.{blocks, allBelow, any}
-use Rattle.definitions.specs.Presentation.{NF, Presentation, Valid, Mul, power, value}
-use Rattle.definitions.specs.Monomial.{Matrix, entry, col, product, matrices, sameMatrix, Rep, Level, repOf, image, conjugate}
+use Rattle.definitions.specs.Lists.{blocks, any}
+use Rattle.definitions.specs.Presentation.{NF, Presentation, Valid, value}
+use Rattle.definitions.specs.Monomial.{col, product, Level, repOf, image, conjugate}
 use Rattle.definitions.specs.Table.{levelAt}
 use Rattle.definitions.specs.Judgement
-use Rattle.numbers.proofs.Bools.{and-left, and-right, and-intro, or-left, or-right, OneOf, first, second, or-cases}
-use Rattle.numbers.proofs.Lists.{allBelow-elim, allBelow-intro}
+use Rattle.numbers.proofs.Bools.{and-left, and-right, OneOf, first, second, or-cases}
+use Rattle.numbers.proofs.Lists.{allBelow-elim}
 use Rattle.group.specs.Context.{Context, Nf}
-use Rattle.group.specs.Models.{Laws, Hom, Satisfies, Model}
+use Rattle.group.specs.Models.{Hom, Satisfies, Model}
 use Rattle.group.proofs.Values.{value-trivial}
 use Rattle.group.proofs.Sound.{sound}
 use Rattle.group.proofs.Level.{level, conjNf}
-use Rattle.group.proofs.Group.{Test, Tested, group}
+use Rattle.group.proofs.Group.{Test, Tested}
 use Rattle.group.proofs.Order.{inverse, inverse-left}
-use Rattle.monomial.specs.Exponents.{Residue}
 use Rattle.monomial.specs.Maps.{Map, maps}
 use Rattle.monomial.specs.Families.{Separated, Family}
 use Rattle.monomial.specs.Frames.{Frame, Complete, Shows}
 use Rattle.monomial.proofs.Maps.{column, at-mul, at-one, maps-laws}
-use Rattle.monomial.proofs.Residues.{residues, Residue-path}
-use Rattle.monomial.proofs.Frames.{shows-mul, shows-power, shows-value, shown-same, entry-path}
+use Rattle.monomial.proofs.Residues.{residues}
+use Rattle.monomial.proofs.Frames.{shows-mul, shows-power, shows-value, shown-same}
 use Rattle.clifford.specs.Stands.{frame}
-use Rattle.clifford.proofs.Judged.{any-forms}
 use Rattle.separation.specs.Fair.{Fair}
 
 -- ---- Some normal form
@@ -278,47 +274,3 @@ module _ (C : Context) (tests : (k : ℕ) → k < C .P .n → Test C k) (m : ℕ
     reached = reached;
     separated = separated;
   }
-
--- ---- And back: what is reached and separated passes the judgement
-
-module _ (C : Context) (m : ℕ) (pos : 0 < m) (table : List ℕ) (i : ℕ) (A : Fair (C .P) m i (levelAt (C .P .n) table i)) where
-  abbrev Lv : Level
-  Lv = levelAt (C .P .n) table i
-
-  abbrev Y : Type 0
-  Y = Index (C .P) m pos i Lv A
-
-  abbrev acts : Nf C i → Map (residues m pos) Y
-  acts = d C m pos i Lv A
-
-  reach-holds : (r k : ℕ) (h : r < length Lv) (a : k < repOf Lv r .deg) → (w : Nf C i) × ((acts w ((r, 0), (h, A .degree-pos r h))) .0 ≡ ((r, k), (h, a))) → Judgement.reaches (C .P) m table i (repOf Lv r) k ≡ true
-  unfolding Judgement.reaches
-  reach-holds r k h a (w, e) =
-      any-forms (C .P) i _ (w .0) (w .1) (eq-eqb _ _ (ap (λ (y : Entry). y .row) (form-shows C m pos i Lv A r h w .shown ((r, 0), (h, A .degree-pos r h)) refl) ∙ ap (λ z. z .0 .1) e))
-
-  pair-holds : (r k r′ k′ : ℕ) (h : r < length Lv) (a : k < repOf Lv r .deg) (h′ : r′ < length Lv) (a′ : k′ < repOf Lv r′ .deg)
-      → Separated (residues m pos) Y acts ((r, k), (h, a)) ((r′, k′), (h′, a′)) → any (Judgement.tells (C .P) m table i (repOf Lv r) k (repOf Lv r′) k′) (Judgement.allForms (C .P) i) ≡ true
-  unfolding Judgement.tells
-  pair-holds r k r′ k′ h a h′ a′ s =
-      let y : col (image m (repOf Lv r) i (s .by .0)) k ≡ entry k (s .x .0) = at r k h a (s .by) (s .x) (s .fixes) in
-      let y′ : col (image m (repOf Lv r′) i (s .by .0)) k′ ≡ entry k′ (s .y .0) = at r′ k′ h′ a′ (s .by) (s .y) (s .fixes′) in
-      any-forms (C .P) i _ (s .by .0) (s .by .1)
-      (and-intro _ _ (and-intro _ _ (eq-eqb _ _ (ap (λ (z : Entry). z .row) y)) (eq-eqb _ _ (ap (λ (z : Entry). z .row) y′)))
-      (ap not (ne-eqb _ _ (λ e. s .differ (Residue-path m (s .x) (s .y) (sym (mod-eq-of-lt (s .x .1)) ∙ sym (ap (λ (z : Entry). z .exp % m) y) ∙ e ∙ ap (λ (z : Entry). z .exp % m) y′ ∙ mod-eq-of-lt (s .y .1)))))))
-    where
-      at : (r k : ℕ) (h : r < length Lv) (a : k < repOf Lv r .deg) (w : Nf C i) (x : Residue m) → acts w ((r, k), (h, a)) ≡ (((r, k), (h, a)), x) → col (image m (repOf Lv r) i (w .0)) k ≡ entry k (x .0)
-      at r k h a w x f = form-shows C m pos i Lv A r h w .shown ((r, k), (h, a)) refl ∙ ap (λ z. entry (z .0 .0 .1) (z .1 .0)) f
-
-  pub separates-intro : (r : ℕ) (h : r < length (levelAt (C .P .n) table i))
-      → ((k : ℕ) (a : k < repOf (levelAt (C .P .n) table i) r .deg) → (w : Nf C i) × ((d C m pos i (levelAt (C .P .n) table i) A w ((r, 0), (h, A .degree-pos r h))) .0 ≡ ((r, k), (h, a))))
-      → ((x y : Index (C .P) m pos i (levelAt (C .P .n) table i) A) → ¬ (x ≡ y) → Separated (residues m pos) (Index (C .P) m pos i (levelAt (C .P .n) table i) A) (d C m pos i (levelAt (C .P .n) table i) A) x y)
-      → Judgement.separates (C .P) m table i r ≡ true
-  unfolding Judgement.separates
-  separates-intro r h reach sep =
-      allBelow-intro (repOf Lv r .deg) _ (λ k a. and-intro _ _ (reach-holds r k h a (reach k a)) (allBelow-intro (length Lv) _ (λ r′ h′. allBelow-intro (repOf Lv r′ .deg) _ (λ k′ a′. same-or k a r′ k′ h′ a′ (ℕ-discrete r r′) (ℕ-discrete k k′)))))
-    where
-      same-or : (k : ℕ) (a : k < repOf Lv r .deg) (r′ k′ : ℕ) (h′ : r′ < length Lv) (a′ : k′ < repOf Lv r′ .deg) → Dec (r ≡ r′) → Dec (k ≡ k′)
-          → (eqb r r′ && eqb k k′) || any (Judgement.tells (C .P) m table i (repOf Lv r) k (repOf Lv r′) k′) (Judgement.allForms (C .P) i) ≡ true
-      same-or k a r′ k′ h′ a′ (yes p) (yes q) = or-left (eqb r r′ && eqb k k′) _ (and-intro _ _ (eq-eqb r r′ p) (eq-eqb k k′ q))
-      same-or k a r′ k′ h′ a′ (yes p) (no q) = or-right (eqb r r′ && eqb k k′) _ (pair-holds r k r′ k′ h a h′ a′ (sep _ _ (λ e. q (ap (λ z. z .0 .1) e))))
-      same-or k a r′ k′ h′ a′ (no p) d = or-right (eqb r r′ && eqb k k′) _ (pair-holds r k r′ k′ h a h′ a′ (sep _ _ (λ e. p (ap (λ z. z .0 .0) e))))

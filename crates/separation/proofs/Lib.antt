@@ -6,3 +6,5 @@ pub mod Restricted
 pub mod Numbers
 pub mod Decision
 pub mod Walk
+pub mod Within
+pub mod Relations

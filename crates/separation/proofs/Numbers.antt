@@ -7,29 +7,27 @@
 --   outside-moves, moves-outside                              column 0 leaves its block exactly if the block moves
 --   powers-inject                                             the powers of the generator on a block that moves
 use mathlib.Core.Path.{_≡_, refl, sym, _∙_, ap, ap₂, subst}
-use mathlib.Core.Bool.{Bool, true, false}
-use Prim.Native.Nat.{ℕ, zero, suc, _+_, _-_, _≤_, _<_}
+use mathlib.Core.Bool.{true}
+use Prim.Native.Nat.{ℕ, suc, _≤_, _<_}
 use native.Mathlib.Omega.{arith}
 use native.Mathlib.Decide.{decLt, ℕ-discrete}
 use lib.Dec.{leb}
 use lib.ListN.{length}
 use borrow.Author.Tests.{le-leb, leb-true}
 use Rattle.definitions.specs.declared.Entry.{Entry}
-use Rattle.definitions.specs.Presentation.{Mul, power, value}
-use Rattle.definitions.specs.Monomial.{col, entry, Rep, repOf}
-use Rattle.definitions.specs.Judgement
+use Rattle.definitions.specs.Presentation.{power}
+use Rattle.definitions.specs.Monomial.{col, entry, repOf}
 use Rattle.numbers.proofs.Pigeonhole.{Injects}
 use Rattle.group.specs.Context.{Nf}
-use Rattle.group.specs.Models.{Laws}
 use Rattle.group.proofs.Values.{power-one, power-hom, value-suc, value-trivial}
 use Rattle.group.proofs.Level.{level, top}
 use Rattle.monomial.specs.Maps.{Map, maps}
 use Rattle.monomial.proofs.Maps.{maps-laws}
 use Rattle.monomial.proofs.Residues.{residues}
 use Rattle.separation.specs.Decision.{blockCount, outside}
-use Rattle.separation.proofs.Foreign.{Index, Index-path, D, D-shows, d, d-hom, form-shows}
-use Rattle.separation.proofs.Cutting.{cut, cut-zero, cut-le, width, Cut, cut-below, cuts-each, cuts-end}
-use Rattle.separation.proofs.Restricted.{Two, P, Low, High, Rp, S, Ω, Ω⁺, F, passing, all-pass, fits, wide, locate, locate-is, base, blocked}
+use Rattle.separation.proofs.Foreign.{D, D-shows, d, d-hom, form-shows}
+use Rattle.separation.proofs.Cutting.{cut, cut-zero, cut-le, width, cut-below, cuts-each, cuts-end}
+use Rattle.separation.proofs.Restricted.{Two, P, Low, High, Rp, S, Ω⁺, F, passing, all-pass, fits, wide, locate, locate-is, blocked}
 use Rattle.separation.proofs.Blocks.{Z, Zᵏ, powers-differ}
 
 module _ (W : Two) where

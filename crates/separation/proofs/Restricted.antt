@@ -5,32 +5,29 @@
 --   over-generator    a generator of the lower level acts in a block as below
 --   blocked           the upper level as Blocked over the family of the lower
 use mathlib.Core.Path.{_≡_, refl, sym, _∙_, ap, ap₂, subst}
-use mathlib.Core.Bool.{Bool, true, false, _&&_, cond}
-use mathlib.Core.List.{List, [], _∷_}
-use Prim.Native.Nat.{ℕ, zero, suc, _+_, _*_, _%_, _≤_, _<_}
+use mathlib.Core.Bool.{Bool, true, _&&_}
+use mathlib.Core.List.{List}
+use Prim.Native.Nat.{ℕ, suc, _+_, _%_, _≤_, _<_}
 use native.Mathlib.Nat.{mod-eq-of-lt}
 use native.Mathlib.Omega.{arith}
 use lib.Dec.{eqb, ltb, leb}
 use lib.ListN.{length}
 use borrow.Author.Tests.{ltb-true, leb-true, eqb-true}
 use Rattle.definitions.specs.declared.Entry.{Entry}
-use Rattle.definitions.specs.Lists.{allBelow, all}
-use Rattle.definitions.specs.Presentation.{NF, Presentation, Mul, power, value}
+use Rattle.definitions.specs.Lists.{all}
+use Rattle.definitions.specs.Presentation.{Presentation, value}
 use Rattle.definitions.specs.Monomial.{entry, col, sameEntry, Rep, Level, repOf}
 use Rattle.definitions.specs.Table.{levelAt}
 use Rattle.definitions.specs.Judgement
-use Rattle.numbers.proofs.Bools.{and-left, and-right, and-intro}
+use Rattle.numbers.proofs.Bools.{and-left, and-right}
 use Rattle.numbers.proofs.Lists.{allBelow-elim}
 use Rattle.numbers.proofs.Prime.{Units}
 use Rattle.group.specs.Context.{Context, Nf}
-use Rattle.group.specs.Models.{Laws, Hom}
 use Rattle.group.proofs.Values.{power-zero, value-suc}
-use Rattle.group.proofs.Level.{level, conjNf, low, top}
+use Rattle.group.proofs.Level.{level, conjNf, low}
 use Rattle.group.proofs.Group.{Test, Tested}
-use Rattle.monomial.specs.Exponents.{Residue}
 use Rattle.monomial.specs.Maps.{Map, maps}
 use Rattle.monomial.specs.Families.{Family}
-use Rattle.monomial.specs.Frames.{Frame, Complete, Shows}
 use Rattle.monomial.specs.Over.{At, Over}
 use Rattle.monomial.proofs.Maps.{maps-laws}
 use Rattle.monomial.proofs.Residues.{residues, Residue-path}
@@ -41,7 +38,7 @@ use Rattle.separation.specs.Blocked.{Blocked}
 use Rattle.separation.specs.Fair.{Fair}
 use Rattle.separation.specs.Restricting.{Restricting}
 use Rattle.separation.proofs.Foreign.{Index, Index-path, D, D-shows, d, d-hom, word, form-shows, foreign-family}
-use Rattle.separation.proofs.Cutting.{cut, width, cut-one, Cut, cut-at}
+use Rattle.separation.proofs.Cutting.{all-both, cut, width, cut-one, Cut, cut-at}
 
 pub record Two : Type 0 where
   pub C : Context
@@ -91,11 +88,6 @@ module _ (W : Two) where
 
   unfoldable pub passing : ℕ → ℕ → Bool
   passing r o = Judgement.wholeBlock Low (Rp r) o && Judgement.blockRestricts P m table i (Rp r) o
-
-  pub all-both : (q q′ : ℕ → Bool) (xs : List ℕ) → all q xs ≡ true → all q′ xs ≡ true → all (λ x. q x && q′ x) xs ≡ true
-  unfolding all
-  all-both q q′ [] h k = refl
-  all-both q q′ (x ∷ xs) h k = and-intro _ _ (and-intro _ _ (and-left (q x) (all q xs) h) (and-left (q′ x) (all q′ xs) k)) (all-both q q′ xs (and-right (q x) (all q xs) h) (and-right (q′ x) (all q′ xs) k))
 
   pub all-pass : (r : ℕ) → r < length High → all (passing r) (Judgement.cuts Low (Rp r)) ≡ true
   unfolding passing

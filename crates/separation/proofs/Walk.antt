@@ -1,19 +1,21 @@
 -- For any table that 21, 22 and 23 let pass, 25 is decided level by level by the quick test.
 --
+--   same-test                    two tests that pass together are one
+--   valid-columns, whole-at, acts-at      what 21 and 23 say of a representation
 --   fair-at, restricting-at      its levels are well formed, satisfy the relations and restrict to those below
 --   zero-separates               level 0 is separated
 --   separation-decides           25 applies exactly if the quick test fails on some level
-use mathlib.Core.Path.{_≡_, refl, sym, _∙_, ap, ap₂, subst}
-use mathlib.Core.Bool.{Bool, true, false, _&&_, _||_, not, cond, false≢true}
-use mathlib.Core.List.{List, [], _∷_}
-use Prim.Native.Nat.{ℕ, zero, suc, _+_, _*_, _%_, _≤_, _<_}
+use mathlib.Core.Path.{_≡_, refl, sym, ap, subst}
+use mathlib.Core.Bool.{Bool, true, false, _&&_, not, false≢true}
+use mathlib.Core.List.{List}
+use Prim.Native.Nat.{ℕ, zero, suc, _*_, _%_, _≤_, _<_}
 use native.Mathlib.Omega.{arith}
 use lib.Dec.{eqb, ltb, leb}
-use lib.ListN.{length, getD}
+use lib.ListN.{length}
 use borrow.Author.Tests.{eqb-true, ltb-true, not-false}
-use Rattle.definitions.specs.Lists.{upto, allBelow, anyBelow, all, any}
-use Rattle.definitions.specs.Presentation.{lineWords, Presentation, order, Mul, power, value}
-use Rattle.definitions.specs.Monomial.{entry, col, identity, product, matrices, valid, sameMatrix, Rep, Level, repOf, image, conjugate}
+use Rattle.definitions.specs.Lists.{upto, allBelow, all, any}
+use Rattle.definitions.specs.Presentation.{lineWords, Presentation, order, value}
+use Rattle.definitions.specs.Monomial.{col, identity, valid, Rep, Level, repOf, image}
 use Rattle.definitions.specs.Table.{levelZero, levelAt, complete}
 use Rattle.definitions.specs.Judgement
 use Rattle.numbers.proofs.Bools.{and-left, and-right}
@@ -28,24 +30,24 @@ use Rattle.separation.proofs.Restricted.{Two}
 use Rattle.separation.proofs.Decision.{quick-separates, separates-quick}
 
 -- two tests that pass together are one
-same-test : (a b : Bool) → (a ≡ true → b ≡ true) → (b ≡ true → a ≡ true) → a ≡ b
+pub same-test : (a b : Bool) → (a ≡ true → b ≡ true) → (b ≡ true → a ≡ true) → a ≡ b
 same-test true b f g = sym (f refl)
 same-test false true f g = absurd (false≢true (g refl))
 same-test false false f g = refl
 
 module _ (C : Context) (m : ℕ) (table : List ℕ) where
-  abbrev P : Presentation
+  abbrev pub P : Presentation
   P = C .P
 
-  abbrev n : ℕ
+  abbrev pub n : ℕ
   n = C .P .n
 
-  abbrev Lv : ℕ → Level
+  abbrev pub Lv : ℕ → Level
   Lv = levelAt n table
 
   -- ---- Level 0
 
-  zero-length : length (Lv 0) ≡ 1
+  pub zero-length : length (Lv 0) ≡ 1
   unfolding levelAt levelZero
   zero-length = refl
 
@@ -73,7 +75,7 @@ module _ (C : Context) (m : ℕ) (table : List ℕ) where
 
   -- ---- What 21, 22 and 23 say
 
-  module _ (formed : Judgement.malformed (C .P) m table ≡ false) (relations : Judgement.relationFails (C .P) m table ≡ false) (restrictions : Judgement.restrictionFails (C .P) m table ≡ false) where
+  module _ (formed : Judgement.malformed (C .P) m table ≡ false) (restrictions : Judgement.restrictionFails (C .P) m table ≡ false) where
     at : (q : (i : ℕ) → Rep → Bool) → Judgement.everywhere P m table q ≡ true → (i : ℕ) → i < n → (r : ℕ) → r < length (Lv (suc i)) → q (suc i) (repOf (Lv (suc i)) r) ≡ true
     unfolding Judgement.everywhere
     at q h i l r a = allBelow-elim _ _ (allBelow-elim n _ h i l) r a
@@ -84,16 +86,16 @@ module _ (C : Context) (m : ℕ) (table : List ℕ) where
     well = at (λ i D. Judgement.matricesValid P m table i D && Judgement.blocksWhole P m table i D && Judgement.targetsListed P m table i D) (and-right (eqb (length table % lineWords) 0 && complete n table) _ (not-false _ formed))
 
     module _ (i : ℕ) (l : i < n) (r : ℕ) (h : r < length (Lv (suc i))) where
-      abbrev Rp : Rep
+      abbrev pub Rp : Rep
       Rp = repOf (Lv (suc i)) r
 
-      valid-parts : (ltb 0 (Rp .deg) && leb (Rp .deg * Rp .deg) (order P (suc i)) ≡ true) × ((g : ℕ) → g < n → valid m (Rp .deg) (Rp .matrix g) ≡ true)
+      pub valid-parts : (ltb 0 (Rp .deg) && leb (Rp .deg * Rp .deg) (order P (suc i)) ≡ true) × ((g : ℕ) → g < n → valid m (Rp .deg) (Rp .matrix g) ≡ true)
       unfolding Judgement.matricesValid
       valid-parts =
           let v = and-left (Judgement.matricesValid P m table (suc i) Rp) _ (and-left (Judgement.matricesValid P m table (suc i) Rp && Judgement.blocksWhole P m table (suc i) Rp) _ (well i l r h)) in
           (and-left (ltb 0 (Rp .deg) && leb (Rp .deg * Rp .deg) (order P (suc i))) _ v, λ g a. allBelow-elim n _ (and-right (ltb 0 (Rp .deg) && leb (Rp .deg * Rp .deg) (order P (suc i))) _ v) g a)
 
-      valid-columns : (g : ℕ) → g < n → (length (Rp .matrix g) ≡ Rp .deg) × ((k : ℕ) → k < Rp .deg → (col (Rp .matrix g) k .row < Rp .deg) × (col (Rp .matrix g) k .exp < m))
+      pub valid-columns : (g : ℕ) → g < n → (length (Rp .matrix g) ≡ Rp .deg) × ((k : ℕ) → k < Rp .deg → (col (Rp .matrix g) k .row < Rp .deg) × (col (Rp .matrix g) k .exp < m))
       unfolding valid
       valid-columns g a =
           let v = and-left (eqb (length (Rp .matrix g)) (Rp .deg) && allBelow (Rp .deg) (λ k. ltb (col (Rp .matrix g) k .row) (Rp .deg) && ltb (col (Rp .matrix g) k .exp) m)) _ (valid-parts .1 g a) in (
@@ -103,29 +105,29 @@ module _ (C : Context) (m : ℕ) (table : List ℕ) where
                 (ltb-true _ _ (and-left (ltb (col (Rp .matrix g) k .row) (Rp .deg)) _ t), ltb-true _ _ (and-right (ltb (col (Rp .matrix g) k .row) (Rp .deg)) _ t)),
           )
 
-      relations-at : (j : ℕ) → j < suc i → (Judgement.powerHolds P m table Rp j ≡ true) × ((k : ℕ) → k < j → Judgement.commutatorHolds P m table Rp k j ≡ true)
+      relations-at : Judgement.relationFails P m table ≡ false → (j : ℕ) → j < suc i → (Judgement.powerHolds P m table Rp j ≡ true) × ((k : ℕ) → k < j → Judgement.commutatorHolds P m table Rp k j ≡ true)
       unfolding Judgement.relationFails Judgement.relationsHold
-      relations-at j a =
+      relations-at relations j a =
           let t = allBelow-elim (suc i) _ (at (Judgement.relationsHold P m table) (not-false _ relations) i l r h) j a in
           (and-left (Judgement.powerHolds P m table Rp j) _ t, λ k b. allBelow-elim j _ (and-right (Judgement.powerHolds P m table Rp j) _ t) k b)
 
-      whole-at : all (Judgement.wholeBlock (Lv i) Rp) (Judgement.cuts (Lv i) Rp) ≡ true
+      pub whole-at : all (Judgement.wholeBlock (Lv i) Rp) (Judgement.cuts (Lv i) Rp) ≡ true
       unfolding Judgement.blocksWhole
       whole-at = and-left (all (Judgement.wholeBlock (Lv i) Rp) (Judgement.cuts (Lv i) Rp)) _ (and-right (Judgement.matricesValid P m table (suc i) Rp) _ (and-left (Judgement.matricesValid P m table (suc i) Rp && Judgement.blocksWhole P m table (suc i) Rp) _ (well i l r h)))
 
-      acts-at : all (Judgement.blockRestricts P m table i Rp) (Judgement.cuts (Lv i) Rp) ≡ true
+      pub acts-at : all (Judgement.blockRestricts P m table i Rp) (Judgement.cuts (Lv i) Rp) ≡ true
       unfolding Judgement.restrictionFails Judgement.restricts
       acts-at = at (Judgement.restricts P m table) (not-false _ restrictions) i l r h
 
-    pub fair-at : (i : ℕ) → i < C .P .n → Fair (C .P) m (suc i) (levelAt (C .P .n) table (suc i))
+    pub fair-at : Judgement.relationFails (C .P) m table ≡ false → (i : ℕ) → i < C .P .n → Fair (C .P) m (suc i) (levelAt (C .P .n) table (suc i))
     unfolding Judgement.powerHolds Judgement.commutatorHolds
-    fair-at i l = record {
+    fair-at relations i l = record {
       degree-pos = λ r h. ltb-true _ _ (and-left (ltb 0 (repOf (Lv (suc i)) r .deg)) _ (valid-parts i l r h .0));
       size = λ r k h a. valid-columns i l r h k (omega arith) .0;
       row-below = λ r k c h a b. valid-columns i l r h k (omega arith) .1 c b .0;
       exp-below = λ r k c h a b. valid-columns i l r h k (omega arith) .1 c b .1;
-      powers = λ r j h a. relations-at i l r h j a .0;
-      commutators = λ r k j h a b. relations-at i l r h j b .1 k a;
+      powers = λ r j h a. relations-at i l r h relations j a .0;
+      commutators = λ r k j h a b. relations-at i l r h relations j b .1 k a;
     }
 
     pub restricting-at : (i : ℕ) → i < C .P .n → Restricting (C .P) m table i
@@ -133,13 +135,13 @@ module _ (C : Context) (m : ℕ) (table : List ℕ) where
 
     -- ---- The walk
 
-    module _ (pos : 0 < m) (tests : (k : ℕ) → k < C .P .n → Test C k) (units : (j : ℕ) → j < C .P .n → Units (C .P .p j)) where
+    module _ (relations : Judgement.relationFails (C .P) m table ≡ false) (pos : 0 < m) (tests : (k : ℕ) → k < C .P .n → Test C k) (units : (j : ℕ) → j < C .P .n → Units (C .P .p j)) where
       abbrev Passes : ℕ → Type 0
       Passes i = (r : ℕ) → r < length (Lv i) → Judgement.separates P m table i r ≡ true
 
       fair-of : (i : ℕ) → i ≤ n → Fair P m i (Lv i)
       fair-of zero l = fair-zero
-      fair-of (suc i) l = fair-at i l
+      fair-of (suc i) l = fair-at relations i l
 
       two : (i : ℕ) → i < n → Passes i → Two
       two i l h = record {
@@ -153,7 +155,7 @@ module _ (C : Context) (m : ℕ) (table : List ℕ) where
         units = units i l;
         low-fair = fair-of i (omega arith);
         low-separates = h;
-        fair = fair-at i l;
+        fair = fair-at relations i l;
         restricting = restricting-at i l;
       }
 

@@ -14,7 +14,7 @@ use lib.Dec.{eqb, leb}
 use lib.ListN.{length}
 use Rattle.definitions.specs.Lists.{allBelow, all}
 use Rattle.definitions.specs.Presentation.{Presentation}
-use Rattle.definitions.specs.Monomial.{col, Rep, Level, repOf}
+use Rattle.definitions.specs.Monomial.{col, Level, repOf}
 use Rattle.definitions.specs.Table.{levelAt}
 use Rattle.definitions.specs.Judgement
 

@@ -3,3 +3,4 @@ pub mod Blocked
 pub mod Fair
 pub mod Restricting
 pub mod Decision
+pub mod Relations

@@ -3,7 +3,7 @@
 --   Restricting m i low L      21 and 23 for the representations L of level suc i
 use mathlib.Core.Path.{_≡_}
 use mathlib.Core.Bool.{true}
-use Prim.Native.Nat.{ℕ, suc, _+_, _≤_, _<_}
+use Prim.Native.Nat.{ℕ, suc, _<_}
 use lib.ListN.{length}
 use Rattle.definitions.specs.Lists.{all}
 use Rattle.definitions.specs.Presentation.{Presentation}

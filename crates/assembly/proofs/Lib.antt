@@ -1,0 +1,10 @@
+-- The levels of the steps, as they stand in words.
+pub mod Places
+pub mod Room
+pub mod Words
+pub mod Standing
+pub mod Next
+pub mod Cycles
+pub mod First
+pub mod Climb
+pub mod Stated

@@ -1,0 +1,8 @@
+// What a call that fills the caller's buffer hands back.
+
+// The number of a refusal and 0, or 0 and the count of lines or bytes.
+#[repr(C)]
+pub struct Counted {
+    pub answer: u32,
+    pub count: usize,
+}

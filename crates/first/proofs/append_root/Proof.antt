@@ -1,0 +1,75 @@
+-- `append_root` appends a line for each generator.
+use mathlib.Core.Path.{_≡_, ap}
+use Prim.Native.Nat.{_-_, _≤_}
+use native.Mathlib.Omega.{arith}
+use denote.Ref.{now}
+use borrow.Author.Needs.{needs}
+use Rattle.definitions.specs.Lists.{blocks}
+use Rattle.text.proofs.Writing.{wrote-as}
+use Rattle.lines.specs.Lines.{headLine}
+use Rattle.lines.proofs.Appending.{Going, going-none, going-more, going-line}
+use Rattle.first.specs.Roots.{rootLine, rootWords}
+use Rattle.first.proofs.Laws.{root-line, rootLine-length}
+use Rattle.first.proofs.append_root.Statement.{statement}
+use Rattle.first.proofs.append_root.Tie as tie
+
+abbrev Inv-loop : tie.InvT-loop
+Inv-loop words₀ rows n p m at k pos₀ g₀ words pos g = (g ≤ n) × Going 0 (rootLine p m rows k) words₀ at g words pos
+
+abbrev μ-loop : tie.MeasureT-loop
+μ-loop words₀ rows n p m at k pos₀ g₀ words pos g = n - g
+
+loop-holds : tie.Need-loop-holds Inv-loop μ-loop
+loop-holds c = (search needs, going-none (omega arith) (omega arith))
+
+reference-requires : tie.Need-reference-requires Inv-loop μ-loop
+reference-requires c κs = search needs
+
+exponent-requires : tie.Need-exponent-requires Inv-loop μ-loop
+exponent-requires c κs = search needs
+
+add-t14 : tie.Need-add-t14 Inv-loop μ-loop
+add-t14 c = search needs
+
+put-line-requires : tie.Need-put-line-requires Inv-loop μ-loop
+put-line-requires c κs = let z = c .before .before .before .before .before .before in
+    going-line (z .args .n) (λ g. rootLine-length (z .args .n) (z .args .p) (z .args .m) (now (z .args .rows)) (z .args .k) g) (c .before .before .before .before .loop .inv .1) (search needs) (z .pre .5)
+
+add-g : tie.Need-add-g Inv-loop μ-loop
+add-g c = search needs
+
+loop-less : tie.Need-loop-less Inv-loop μ-loop
+loop-less c = search needs
+
+loop-again : tie.Need-loop-again Inv-loop μ-loop
+unfolding headLine
+loop-again c = let z = c .before .before .before .before .before .before .before .before .before in
+    let l = c .before .before .before .before .before .before .before .loop in
+    (search needs, going-more (l .inv .1) (wrote-as (c .before .before .put-line .ensures) (root-line (z .args .n) (z .args .p) (z .args .m) (now (z .args .rows)) (z .args .k) (l .g) _ _ (c .before .before .before .before .before .reference .ensures) (c .before .before .before .before .exponent .ensures))))
+
+same-length : tie.Need-same-length Inv-loop μ-loop
+same-length c = c .before .loop .inv .1 .len
+
+returns : tie.Need-returns Inv-loop μ-loop
+unfolding rootWords
+returns c = let z = c .before .before .before in
+    let l = c .before .loop in
+    let e : l .g ≡ z .args .n = omega arith in
+    wrote-as (l .inv .1 .wrote) (ap (λ n. blocks n (rootLine (z .args .p) (z .args .m) (now (z .args .rows)) (z .args .k))) e)
+
+pub append-root-spec : {M : Type 1} → statement M
+append-root-spec =
+    tie.close
+    (tie.spec
+    Inv-loop
+    μ-loop
+    loop-holds
+    reference-requires
+    exponent-requires
+    add-t14
+    put-line-requires
+    add-g
+    loop-less
+    loop-again
+    same-length
+    returns)

@@ -1,0 +1,52 @@
+-- `reference` reads the word of a pair, and reduces.
+use mathlib.Core.Path.{sym, ap, _∙_}
+use Prim.Native.Nat.{suc, _+_, _*_, _%_}
+use native.Mathlib.Omega.{arith}
+use native.Mathlib.Numerals.{add-one}
+use lib.ListN.{getD}
+use denote.Ref.{now}
+use borrow.Author.Needs.{needs}
+use Rattle.numbers.proofs.Bools.{cond-eq, cond-ne}
+use Rattle.first.specs.Roots.{rootRef}
+use Rattle.first.proofs.Laws.{word-read, product-fits}
+use Rattle.first.proofs.reference.Statement.{statement}
+use Rattle.first.proofs.reference.Tie as tie
+
+returns : tie.Need-returns
+unfolding rootRef
+returns c = sym (cond-eq (c .before .args .g) 0 0 _ (c .if1 .taken))
+
+up-requires : tie.Need-up-requires
+up-requires c κs = search needs
+
+word-requires : tie.Need-word-requires
+word-requires c κs = search needs
+
+array-read-result : tie.Need-array-read-result
+array-read-result c = search needs
+
+add-result : tie.Need-add-result
+add-result c = let z = c .before .before .before in
+    let v = word-read (now (z .args .rows)) (c .word .result) _ (z .args .g) (c .word .ensures) (c .before .up .ensures) in
+    let h = z .pre .4 .below (z .args .g) (omega (arith, c .before .before .if1 .left)) (z .pre .1) in
+    omega (arith, v, h, z .pre .2)
+
+mul-result : tie.Need-mul-result
+mul-result c = let z = c .before .before .before in
+    let v = word-read (now (z .args .rows)) (c .word .result) _ (z .args .g) (c .word .ensures) (c .before .up .ensures) in
+    let h = z .pre .4 .below (z .args .g) (omega (arith, c .before .before .if1 .left)) (z .pre .1) in
+    omega (arith, product-fits (z .args .k) (getD (c .word .result) 0 0 + 1) (omega (arith, z .pre .2, z .pre .3)) (omega (arith, v, h, z .pre .2)))
+
+rem-result : tie.Need-rem-result
+rem-result c = search needs
+
+returns-2 : tie.Need-returns-2
+unfolding rootRef
+returns-2 c = let z = c .before .before .before in
+    let v = word-read (now (z .args .rows)) (c .word .result) _ (z .args .g) (c .word .ensures) (c .before .up .ensures) in
+    ap (λ x. z .args .k * x % z .args .p) (add-one _ ∙ ap suc v) ∙ sym (cond-ne (z .args .g) 0 0 _ (c .before .before .if1 .left))
+
+pub reference-spec : {M : Type 1} → statement M
+reference-spec =
+    tie.close
+    (tie.spec returns up-requires word-requires array-read-result add-result mul-result rem-result returns-2)

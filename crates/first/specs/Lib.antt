@@ -1,0 +1,2 @@
+-- What the lines of level 1 are.
+pub mod Roots

@@ -1,0 +1,2 @@
+-- The words of a level by turns.
+pub mod Turns
