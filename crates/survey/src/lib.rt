@@ -172,10 +172,10 @@ pub fn made(low: &[u32], first: &[u32], leaders: &[u32], f: Frame, r: u32) -> u3
     0
 }
 
-// Fills the array of numbers: of the first representation that each gives.
-pub fn count_numbers(low: &[u32], first: &[u32], leaders: &[u32], numbers: &mut [u32], f: Frame)
+// Fills the array of numbers: of the first representation that each gives. Returns how many all give.
+pub fn count_numbers(low: &[u32], first: &[u32], leaders: &[u32], numbers: &mut [u32], f: Frame) -> u32
     requires { ⌜ Stands f (now low) × Lines f (now low) (now first) × Array f (now low) (now leaders) (leaderIn f (now low)) × (f .reps ≤ length (now numbers)) ⌝ }
-    ensures { λ _. ⌜ Array f (now (low .entry)) (now (numbers .exit)) (numberIn f (now (low .entry))) × (length (now (numbers .exit)) ≡ length (now (numbers .entry))) ⌝ }
+    ensures { λ x. ⌜ (x ≡ numberIn f (now (low .entry)) (f .reps)) × Array f (now (low .entry)) (now (numbers .exit)) (numberIn f (now (low .entry))) × (length (now (numbers .exit)) ≡ length (now (numbers .entry))) ⌝ }
 {
     let mut c: u32 = 0;
     let reps = f.reps;
@@ -183,6 +183,7 @@ pub fn count_numbers(low: &[u32], first: &[u32], leaders: &[u32], numbers: &mut 
         store(numbers, r, c);
         c += made(low, first, leaders, f, r);
     }
+    c
 }
 
 // An entry at a representation.

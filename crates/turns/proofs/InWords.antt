@@ -2,12 +2,11 @@
 -- its orbit.
 --
 --   turn-extensions, turn-induction, turn-nothing      what is written in a turn
---   extensions-room, induction-room, nothing-room      there is room for it where there is room for the level
+--   extensions-length, induction-length                how many words it is
 --   turns-wrote                after the last turn the level is written
 use mathlib.Core.Path.{_≡_, sym, subst}
 use mathlib.Core.List.{List, []}
-use Prim.Native.Nat.{ℕ, suc, _+_, _*_, _<_, _≤_}
-use native.Mathlib.Omega.{arith}
+use Prim.Native.Nat.{ℕ, suc, _*_}
 use lib.ListN.{length}
 use borrow.Author.Tests.{eq-eqb, ne-eqb}
 use Rattle.definitions.specs.Table.{repWords, levelWords}
@@ -18,7 +17,7 @@ use Rattle.survey.specs.declared.Frame.{Frame}
 use Rattle.survey.specs.Below.{degOf, targetOf, leaderIn, sourceIn}
 use Rattle.extend.specs.Extending.{extensionsWords}
 use Rattle.turns.specs.Turns.{turnWords}
-use Rattle.turns.proofs.Turns.{turn-fixed, turn-led, turn-none, turn-room, fixed-room, led-room, level-wrote}
+use Rattle.turns.proofs.Turns.{turn-fixed, turn-led, turn-none, fixed-length, led-length, level-wrote}
 
 module _ (f : Frame) (W : List ℕ) (rows : List (List ℕ)) where
   -- ---- What is written
@@ -34,18 +33,13 @@ module _ (f : Frame) (W : List ℕ) (rows : List (List ℕ)) where
   pub turn-nothing : (r : ℕ) → ¬ (targetOf f W (f .top) r ≡ r) → ¬ (leaderIn f W r ≡ r) → [] ≡ turnWords (f .gens) (sourceIn f W rows) r
   turn-nothing r a b = sym (turn-none (f .gens) (sourceIn f W rows) r (ne-eqb _ r a) (ne-eqb _ r b))
 
-  -- ---- Room
+  -- ---- How many words
 
-  module _ {low : ℕ} {w₀ : List ℕ} {at₀ : ℕ} (r : ℕ) {w : List ℕ} {at : ℕ} (G : Going low (turnWords (f .gens) (sourceIn f W rows)) w₀ at₀ r w at) (l : r < f .reps)
-      (h : 8 * at₀ + length (levelWords (f .gens) (suc (f .top)) (levelBy (sourceIn f W rows))) ≤ length w₀) where
-    pub extensions-room : targetOf f W (f .top) r ≡ r → 8 * at + f .p * (8 * (f .gens * degOf f W r)) ≤ length w
-    extensions-room a = fixed-room (f .gens) (sourceIn f W rows) r G l h (eq-eqb _ r a)
+  pub extensions-length : (r : ℕ) → targetOf f W (f .top) r ≡ r → length (turnWords (f .gens) (sourceIn f W rows) r) ≡ f .p * (8 * (f .gens * degOf f W r))
+  extensions-length r a = fixed-length (f .gens) (sourceIn f W rows) r (eq-eqb _ r a)
 
-    pub induction-room : ¬ (targetOf f W (f .top) r ≡ r) → leaderIn f W r ≡ r → 8 * at + 8 * (f .gens * (f .p * degOf f W r)) ≤ length w
-    induction-room a b = led-room (f .gens) (sourceIn f W rows) r G l h (ne-eqb _ r a) (eq-eqb _ r b)
-
-    pub nothing-room : 8 * at ≤ length w
-    nothing-room = omega (arith, turn-room (f .gens) (sourceIn f W rows) r G l h)
+  pub induction-length : (r : ℕ) → ¬ (targetOf f W (f .top) r ≡ r) → leaderIn f W r ≡ r → length (turnWords (f .gens) (sourceIn f W rows) r) ≡ 8 * (f .gens * (f .p * degOf f W r))
+  induction-length r a b = led-length (f .gens) (sourceIn f W rows) r (ne-eqb _ r a) (eq-eqb _ r b)
 
   pub turns-wrote : {low : ℕ} {w₀ : List ℕ} {at₀ r : ℕ} {w : List ℕ} {at : ℕ} → Going low (turnWords (f .gens) (sourceIn f W rows)) w₀ at₀ r w at → r ≡ f .reps
       → Wrote w₀ (8 * at₀) (levelWords (f .gens) (suc (f .top)) (levelBy (sourceIn f W rows))) w (8 * at)

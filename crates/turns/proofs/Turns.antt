@@ -8,7 +8,7 @@
 --   turn-fixed, turn-led, turn-none      a turn by its case
 --   fixed-length, led-length, none-length      how many words a turn has
 --   level-length, turn-le      how many a level has; a turn has no more
---   turn-room, fixed-room, led-room      where there is room for the level, there is room for a turn
+--   turn-room                  where there is room for the level, there is room for a turn
 --   level-wrote                after the last turn the level is written
 use mathlib.Core.Path.{_≡_, refl, ap, sym, _∙_, subst}
 use mathlib.Core.Bool.{Bool, true, false, cond}
@@ -128,14 +128,6 @@ module _ (n : ℕ) (S : Source) {low : ℕ} {w₀ : List ℕ} {at₀ : ℕ} wher
   pub turn-room : (r : ℕ) {w : List ℕ} {at : ℕ} → Going low (turnWords n S) w₀ at₀ r w at → r < S .count → 8 * at₀ + length (levelWords n (suc (S .i)) (levelBy S)) ≤ length w₀
       → 8 * at + length (turnWords n S r) ≤ length w
   turn-room r G l h = going-room (S .count) G l (subst (λ s. 8 * at₀ + length s ≤ length w₀) (level-turns n S) h)
-
-  pub fixed-room : (r : ℕ) {w : List ℕ} {at : ℕ} → Going low (turnWords n S) w₀ at₀ r w at → r < S .count → 8 * at₀ + length (levelWords n (suc (S .i)) (levelBy S)) ≤ length w₀
-      → fixed S r ≡ true → 8 * at + S .p * (8 * (n * S .degree r)) ≤ length w
-  fixed-room r {w} {at} G l h a = subst (λ x. 8 * at + x ≤ length w) (fixed-length n S r a) (turn-room r G l h)
-
-  pub led-room : (r : ℕ) {w : List ℕ} {at : ℕ} → Going low (turnWords n S) w₀ at₀ r w at → r < S .count → 8 * at₀ + length (levelWords n (suc (S .i)) (levelBy S)) ≤ length w₀
-      → fixed S r ≡ false → eqb (leader S r) r ≡ true → 8 * at + 8 * (n * (S .p * S .degree r)) ≤ length w
-  led-room r {w} {at} G l h a b = subst (λ x. 8 * at + x ≤ length w) (led-length n S r a b) (turn-room r G l h)
 
   pub level-wrote : {w : List ℕ} {at : ℕ} → Going low (turnWords n S) w₀ at₀ (S .count) w at → Wrote w₀ (8 * at₀) (levelWords n (suc (S .i)) (levelBy S)) w (8 * at)
   level-wrote G = wrote-as (G .wrote) (sym (level-turns n S))

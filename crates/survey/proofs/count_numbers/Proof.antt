@@ -57,7 +57,7 @@ returns : tie.Need-returns Inv-loop μ-loop
 returns c = let z = c .before .before .before .before .before .before in
     let l = c .before .loop in
     let e : l .r ≡ z .args .f .reps = omega arith in
-    (record { long = omega (arith, l .inv .2, z .pre .3); at = λ k h. l .inv .4 k (omega (arith, e)) }, l .inv .2)
+    (l .inv .3 ∙ ap (numberIn (z .args .f) (now (z .args .low))) e, record { long = omega (arith, l .inv .2, z .pre .3); at = λ k h. l .inv .4 k (omega (arith, e)) }, l .inv .2)
 
 pub count-numbers-spec : {M : Type 1} → statement M
 count-numbers-spec =

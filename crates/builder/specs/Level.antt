@@ -1,0 +1,17 @@
+-- What building a level needs and does.
+--
+--   Sound                      the level below stands, and its generators move the blocks of each orbit around
+
+use mathlib.Core.Path.{_≡_}
+use mathlib.Core.List.{List}
+use Prim.Native.Nat.{ℕ, suc, _*_, _<_}
+use Rattle.definitions.specs.Table.{levelWords}
+use Rattle.formulas.specs.Formulas.{levelBy}
+use Rattle.survey.specs.declared.Frame.{Frame}
+use Rattle.survey.specs.Below.{targetOf, sourceIn, leaderIn, Stands, Rows}
+use Rattle.induce.specs.Inducing.{Cycles}
+
+pub record Sound (f : Frame) (W : List ℕ) (rows : List (List ℕ)) : Type 0 where
+  pub stands : Stands f W
+  pub words : Rows f W rows
+  pub cycles : (r : ℕ) → r < f .reps → ¬ (targetOf f W (f .top) r ≡ r) → leaderIn f W r ≡ r → (j : ℕ) → f .top < j → j < f .gens → Cycles f W rows j r

@@ -1,0 +1,2 @@
+-- What building a level needs and does.
+pub mod Level

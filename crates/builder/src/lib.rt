@@ -1,0 +1,124 @@
+// A level behind the level below, representation by representation.
+ghost use mathlib.Core.Path.{_≡_};
+ghost use mathlib.Core.List.{List, []};
+ghost use Prim.Native.Nat.{ℕ, suc, _+_, _*_, _≤_, _<_};
+ghost use lib.ListN.{length, getD, take};
+ghost use Rattle.definitions.specs.Table.{levelWords};
+ghost use Rattle.formulas.specs.Formulas.{levelBy};
+ghost use Rattle.text.specs.Writing.{Wrote};
+ghost use Rattle.survey.specs.Below.{sourceIn, Stands, Rows, Array, Lines, leaderIn, numberIn};
+ghost use Rattle.induce.specs.Inducing.{Surveyed};
+ghost use Rattle.turns.specs.Turns.{turnWords};
+ghost use Rattle.builder.specs.Level.{Sound};
+use collector::rows;
+use survey::Frame;
+
+// Appends what representation r of the level below gives. Returns the next line's number.
+pub fn append_turn(
+    words: &mut [u32],
+    first: &[u32],
+    rows: &[[u32; 12]; 78],
+    leaders: &[u32],
+    places: &[u32],
+    numbers: &[u32],
+    shifts: &[u32],
+    orbit: &mut [u32],
+    c: &mut [u32],
+    f: Frame,
+    at: usize,
+    r: u32,
+) -> usize
+    requires { ⌜ Surveyed f (take (8 * f .end) (now words)) (now rows) (now first) (now leaders) (now places) (now numbers) (now shifts) × (r < f .reps) × (f .end ≤ at) × (8 * at + length (turnWords (f .gens) (sourceIn f (take (8 * f .end) (now words)) (now rows)) r) ≤ length (now words)) × (f .p ≤ length (now orbit)) × (f .p ≤ length (now c)) ⌝ }
+    ensures { λ x. ⌜ Wrote (now (words .entry)) (8 * at) (turnWords (f .gens) (sourceIn f (take (8 * f .end) (now (words .entry))) (now (rows .entry))) r) (now (words .exit)) (8 * x) ⌝ }
+{
+    let n = 8 * f.end;
+    let t = survey::target(&words[..n], first, f, f.top, r);
+    if t == r {
+        return extend::append_extensions(words, first, rows, numbers, shifts, f, at, r);
+    }
+    let l = survey::element(leaders, r);
+    if l == r {
+        return induce::append_induction(words, first, rows, leaders, places, numbers, shifts, orbit, c, f, at, r);
+    }
+    at
+}
+
+// Appends what all of them give.
+pub fn append_turns(
+    words: &mut [u32],
+    first: &[u32],
+    rows: &[[u32; 12]; 78],
+    leaders: &[u32],
+    places: &[u32],
+    numbers: &[u32],
+    shifts: &[u32],
+    orbit: &mut [u32],
+    c: &mut [u32],
+    f: Frame,
+) -> usize
+    requires { ⌜ Surveyed f (take (8 * f .end) (now words)) (now rows) (now first) (now leaders) (now places) (now numbers) (now shifts) × (8 * f .end + length (levelWords (f .gens) (suc (f .top)) (levelBy (sourceIn f (take (8 * f .end) (now words)) (now rows)))) ≤ length (now words)) × (f .p ≤ length (now orbit)) × (f .p ≤ length (now c)) ⌝ }
+    ensures { λ x. ⌜ Wrote (now (words .entry)) (8 * f .end) (levelWords (f .gens) (suc (f .top)) (levelBy (sourceIn f (take (8 * f .end) (now (words .entry))) (now (rows .entry))))) (now (words .exit)) (8 * x) ⌝ }
+{
+    let mut pos = f.end;
+    let reps = f.reps;
+    for r in 0..reps {
+        pos = append_turn(words, first, rows, leaders, places, numbers, shifts, orbit, c, f, pos, r);
+    }
+    pos
+}
+
+// Fills the arrays of a level. Returns how many representations the next has.
+pub fn survey_level(
+    low: &[u32],
+    rows: &[[u32; 12]; 78],
+    first: &mut [u32],
+    leaders: &mut [u32],
+    places: &mut [u32],
+    numbers: &mut [u32],
+    shifts: &mut [u32],
+    f: Frame,
+) -> u32
+    requires { ⌜ Sound f (now low) (now rows) × (4096 ≤ length (now first)) × (4096 ≤ length (now leaders)) × (4096 ≤ length (now places)) × (4096 ≤ length (now numbers)) × (4096 ≤ length (now shifts)) ⌝ }
+    ensures { λ x. ⌜ (x ≡ numberIn f (now (low .entry)) (f .reps)) × Surveyed f (now (low .entry)) (now (rows .entry)) (now (first .exit)) (now (leaders .exit)) (now (places .exit)) (now (numbers .exit)) (now (shifts .exit)) ⌝ }
+{
+    survey::find_lines(low, first, f);
+    survey::mark_orbits(low, first, leaders, places, f);
+    let x = survey::count_numbers(low, first, leaders, numbers, f);
+    let t = lines::up(f.top);
+    let u = rows::word(rows, t, t);
+    survey::find_shifts(low, first, &u, shifts, f);
+    x
+}
+
+// A written level: the line behind it, and how many representations it has.
+pub struct Written {
+    pub end: usize,
+    pub reps: u32,
+}
+
+// Appends the level above the one that the frame shows.
+pub fn next_level(words: &mut [u32], rows: &[[u32; 12]; 78], f: Frame) -> Written
+    requires { ⌜ Sound f (take (8 * f .end) (now words)) (now rows) × (8 * f .end + length (levelWords (f .gens) (suc (f .top)) (levelBy (sourceIn f (take (8 * f .end) (now words)) (now rows)))) ≤ length (now words)) ⌝ }
+    ensures { λ t. ⌜ Wrote (now (words .entry)) (8 * f .end) (levelWords (f .gens) (suc (f .top)) (levelBy (sourceIn f (take (8 * f .end) (now (words .entry))) (now (rows .entry))))) (now (words .exit)) (8 * t .end) × (t .reps ≡ numberIn f (take (8 * f .end) (now (words .entry))) (f .reps)) ⌝ }
+{
+    let n = 8 * f.end;
+    let mut first = [0u32; 4096];
+    let mut leaders = [0u32; 4096];
+    let mut places = [0u32; 4096];
+    let mut numbers = [0u32; 4096];
+    let mut shifts = [0u32; 4096];
+    let mut orbit = [0u32; 4096];
+    let mut c = [0u32; 4096];
+    let reps = survey_level(
+        &words[..n],
+        rows,
+        &mut first,
+        &mut leaders,
+        &mut places,
+        &mut numbers,
+        &mut shifts,
+        f,
+    );
+    let end = append_turns(words, &first, rows, &leaders, &places, &numbers, &shifts, &mut orbit, &mut c, f);
+    Written { end: end, reps: reps }
+}
