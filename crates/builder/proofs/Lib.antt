@@ -1,1 +1,2 @@
 -- Laws of building.
+pub mod Laws

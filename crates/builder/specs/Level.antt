@@ -1,14 +1,11 @@
--- What building a level needs and does.
+-- What is asked of a level before the next is built.
 --
 --   Sound                      the level below stands, and its generators move the blocks of each orbit around
-
 use mathlib.Core.Path.{_≡_}
 use mathlib.Core.List.{List}
-use Prim.Native.Nat.{ℕ, suc, _*_, _<_}
-use Rattle.definitions.specs.Table.{levelWords}
-use Rattle.formulas.specs.Formulas.{levelBy}
+use Prim.Native.Nat.{ℕ, _<_}
 use Rattle.survey.specs.declared.Frame.{Frame}
-use Rattle.survey.specs.Below.{targetOf, sourceIn, leaderIn, Stands, Rows}
+use Rattle.survey.specs.Below.{targetOf, leaderIn, Stands, Rows}
 use Rattle.induce.specs.Inducing.{Cycles}
 
 pub record Sound (f : Frame) (W : List ℕ) (rows : List (List ℕ)) : Type 0 where

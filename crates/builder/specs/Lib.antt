@@ -1,2 +1,2 @@
--- What building a level needs and does.
+-- What building a level asks.
 pub mod Level

@@ -1,12 +1,11 @@
 // A level behind the level below, representation by representation.
 ghost use mathlib.Core.Path.{_≡_};
-ghost use mathlib.Core.List.{List, []};
-ghost use Prim.Native.Nat.{ℕ, suc, _+_, _*_, _≤_, _<_};
-ghost use lib.ListN.{length, getD, take};
+ghost use Prim.Native.Nat.{suc, _+_, _*_, _≤_, _<_};
+ghost use lib.ListN.{length, take};
 ghost use Rattle.definitions.specs.Table.{levelWords};
 ghost use Rattle.formulas.specs.Formulas.{levelBy};
 ghost use Rattle.text.specs.Writing.{Wrote};
-ghost use Rattle.survey.specs.Below.{sourceIn, Stands, Rows, Array, Lines, leaderIn, numberIn};
+ghost use Rattle.survey.specs.Below.{sourceIn, numberIn};
 ghost use Rattle.induce.specs.Inducing.{Surveyed};
 ghost use Rattle.turns.specs.Turns.{turnWords};
 ghost use Rattle.builder.specs.Level.{Sound};
@@ -38,7 +37,20 @@ pub fn append_turn(
     }
     let l = survey::element(leaders, r);
     if l == r {
-        return induce::append_induction(words, first, rows, leaders, places, numbers, shifts, orbit, c, f, at, r);
+        return induce::append_induction(
+            words,
+            first,
+            rows,
+            leaders,
+            places,
+            numbers,
+            shifts,
+            orbit,
+            c,
+            f,
+            at,
+            r,
+        );
     }
     at
 }
@@ -62,7 +74,20 @@ pub fn append_turns(
     let mut pos = f.end;
     let reps = f.reps;
     for r in 0..reps {
-        pos = append_turn(words, first, rows, leaders, places, numbers, shifts, orbit, c, f, pos, r);
+        pos = append_turn(
+            words,
+            first,
+            rows,
+            leaders,
+            places,
+            numbers,
+            shifts,
+            orbit,
+            c,
+            f,
+            pos,
+            r,
+        );
     }
     pos
 }
@@ -119,6 +144,20 @@ pub fn next_level(words: &mut [u32], rows: &[[u32; 12]; 78], f: Frame) -> Writte
         &mut shifts,
         f,
     );
-    let end = append_turns(words, &first, rows, &leaders, &places, &numbers, &shifts, &mut orbit, &mut c, f);
-    Written { end: end, reps: reps }
+    let end = append_turns(
+        words,
+        &first,
+        rows,
+        &leaders,
+        &places,
+        &numbers,
+        &shifts,
+        &mut orbit,
+        &mut c,
+        f,
+    );
+    Written {
+        end: end,
+        reps: reps,
+    }
 }

@@ -173,7 +173,13 @@ pub fn made(low: &[u32], first: &[u32], leaders: &[u32], f: Frame, r: u32) -> u3
 }
 
 // Fills the array of numbers: of the first representation that each gives. Returns how many all give.
-pub fn count_numbers(low: &[u32], first: &[u32], leaders: &[u32], numbers: &mut [u32], f: Frame) -> u32
+pub fn count_numbers(
+    low: &[u32],
+    first: &[u32],
+    leaders: &[u32],
+    numbers: &mut [u32],
+    f: Frame,
+) -> u32
     requires { ⌜ Stands f (now low) × Lines f (now low) (now first) × Array f (now low) (now leaders) (leaderIn f (now low)) × (f .reps ≤ length (now numbers)) ⌝ }
     ensures { λ x. ⌜ (x ≡ numberIn f (now (low .entry)) (f .reps)) × Array f (now (low .entry)) (now (numbers .exit)) (numberIn f (now (low .entry))) × (length (now (numbers .exit)) ≡ length (now (numbers .entry))) ⌝ }
 {

@@ -1,84 +1,74 @@
+-- `next_level` surveys the level below, and appends.
+use mathlib.Core.Path.{_≡_, refl, sym, ap, ap₂, _∙_, subst}
+use mathlib.Core.List.{List, []}
+use Prim.Native.Nat.{ℕ, suc, _+_, _*_, _≤_, _<_}
+use native.Mathlib.Omega.{arith}
+use lib.ListN.{length, getD, take}
+use lib.Seq.{length-take-le}
+use denote.Ref.{now}
+use borrow.Author.Needs.{needs}
+use Rattle.definitions.specs.Presentation.{pairNumber}
+use Rattle.builder.proofs.Laws.{numbers-named, shifts-named}
 use borrow.Author.Needs.{needs}
 use Rattle.builder.proofs.next_level.Statement.{statement}
 use Rattle.builder.proofs.next_level.Tie as tie
-use Rattle.builder.proofs.next_level.Reads as reads
-use Rattle.builder.proofs.next_level.Lts as lts
-use Rattle.builder.proofs.append_turns.Reads as append-turns-reads
-use Rattle.builder.proofs.survey_level.Reads as survey-level-reads
 
--- src/lib.rt:104:13
 mul-n : tie.Need-mul-n
-mul-n c = search needs
+mul-n c = let z = c .before .before in omega (arith, z .pre .1)
 
--- src/lib.rt:113:9
 slice-reshare-prefix-survey-level : tie.Need-slice-reshare-prefix-survey-level
 slice-reshare-prefix-survey-level c = search needs
 
--- src/lib.rt:113:9
 slice-aggregate-survey-level : tie.Need-slice-aggregate-survey-level
-slice-aggregate-survey-level c = ?
+slice-aggregate-survey-level c = let z = c .before .before .before in sym (length-take-le _ (now (z .args .words)) (omega (arith, z .pre .1)))
 
--- src/lib.rt:115:9
 slice-aggregate-survey-level-2 : tie.Need-slice-aggregate-survey-level-2
 slice-aggregate-survey-level-2 c = search needs
 
--- src/lib.rt:116:9
 slice-aggregate-survey-level-3 : tie.Need-slice-aggregate-survey-level-3
 slice-aggregate-survey-level-3 c = search needs
 
--- src/lib.rt:117:9
 slice-aggregate-survey-level-4 : tie.Need-slice-aggregate-survey-level-4
 slice-aggregate-survey-level-4 c = search needs
 
--- src/lib.rt:118:9
 slice-aggregate-survey-level-5 : tie.Need-slice-aggregate-survey-level-5
 slice-aggregate-survey-level-5 c = search needs
 
--- src/lib.rt:119:9
 slice-aggregate-survey-level-6 : tie.Need-slice-aggregate-survey-level-6
 slice-aggregate-survey-level-6 c = search needs
 
--- src/lib.rt:112:9
 survey-level-requires : tie.Need-survey-level-requires
 survey-level-requires c κs = search needs
 
--- src/lib.rt:122:35
 slice-aggregate-append-turns : tie.Need-slice-aggregate-append-turns
 slice-aggregate-append-turns c = search needs
 
--- src/lib.rt:122:49
 slice-aggregate-append-turns-2 : tie.Need-slice-aggregate-append-turns-2
 slice-aggregate-append-turns-2 c = search needs
 
--- src/lib.rt:122:59
 slice-aggregate-append-turns-3 : tie.Need-slice-aggregate-append-turns-3
 slice-aggregate-append-turns-3 c = search needs
 
--- src/lib.rt:122:68
 slice-aggregate-append-turns-4 : tie.Need-slice-aggregate-append-turns-4
 slice-aggregate-append-turns-4 c = search needs
 
--- src/lib.rt:122:78
 slice-aggregate-append-turns-5 : tie.Need-slice-aggregate-append-turns-5
 slice-aggregate-append-turns-5 c = search needs
 
--- src/lib.rt:122:87
 slice-aggregate-append-turns-6 : tie.Need-slice-aggregate-append-turns-6
 slice-aggregate-append-turns-6 c = search needs
 
--- src/lib.rt:122:99
 slice-aggregate-append-turns-7 : tie.Need-slice-aggregate-append-turns-7
 slice-aggregate-append-turns-7 c = search needs
 
--- src/lib.rt:122:9
 append-turns-requires : tie.Need-append-turns-requires
-append-turns-requires c κs = ?
+append-turns-requires c κs = let z = c .before .before .before .before .before .before .before .before .before .before .before .before .before .before .before .before .before .before .before .before .before .before in
+    let small = z .pre .0 .stands .prime .1 in
+    (c .before .before .before .before .before .before .before .before .before .before .before .before .before .survey-level .ensures .1, z .pre .1, omega (arith, small), omega (arith, small))
 
--- src/lib.rt:100:1
 same-length : tie.Need-same-length
 same-length c = search needs
 
--- src/lib.rt:100:1
 returns : tie.Need-returns
 returns c = search needs
 

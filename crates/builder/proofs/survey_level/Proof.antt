@@ -1,62 +1,67 @@
+-- `survey_level` fills one array behind the other.
+use mathlib.Core.Path.{_≡_, refl, sym, ap, ap₂, _∙_, subst}
+use mathlib.Core.List.{List, []}
+use Prim.Native.Nat.{ℕ, suc, _+_, _*_, _≤_, _<_}
+use native.Mathlib.Omega.{arith}
+use lib.ListN.{length, getD, take}
+use lib.Seq.{length-take-le}
+use denote.Ref.{now}
+use borrow.Author.Needs.{needs}
+use Rattle.definitions.specs.Presentation.{pairNumber}
+use Rattle.builder.proofs.Laws.{numbers-named, shifts-named}
 use borrow.Author.Needs.{needs}
 use Rattle.builder.proofs.survey_level.Statement.{statement}
 use Rattle.builder.proofs.survey_level.Tie as tie
-use Rattle.builder.proofs.survey_level.Reads as reads
-use Rattle.builder.proofs.survey_level.Lts as lts
-use Rattle.collector.proofs.rows.word.Reads as word-reads
-use Rattle.lines.proofs.up.Reads as up-reads
-use Rattle.survey.proofs.count_numbers.Reads as count-numbers-reads
-use Rattle.survey.proofs.find_lines.Reads as find-lines-reads
-use Rattle.survey.proofs.find_shifts.Reads as find-shifts-reads
-use Rattle.survey.proofs.mark_orbits.Reads as mark-orbits-reads
 
--- src/lib.rt:84:5
 find-lines-requires : tie.Need-find-lines-requires
 find-lines-requires c κs = search needs
 
--- src/lib.rt:85:5
 mark-orbits-requires : tie.Need-mark-orbits-requires
 mark-orbits-requires c κs = search needs
 
--- src/lib.rt:86:9
 count-numbers-requires : tie.Need-count-numbers-requires
 count-numbers-requires c κs = search needs
 
--- src/lib.rt:87:9
 up-requires : tie.Need-up-requires
 up-requires c κs = search needs
 
--- src/lib.rt:88:13
 word-requires : tie.Need-word-requires
 word-requires c κs = search needs
 
--- src/lib.rt:89:5
 find-shifts-requires : tie.Need-find-shifts-requires
-find-shifts-requires c κs = ?
+find-shifts-requires c κs = let z = c .before .before .before .before .before .before .before .before .before .before .before .before .before .before .before .before .before .before .before .before .before .before .before .before .before .before .before .before .before in (z .pre .0 .stands, c .before .before .before .before .before .before .before .before .before .before .before .before .before .before .before .before .before .before .before .before .before .find-lines .ensures .0, omega (arith, z .pre .0 .stands .few, z .pre .5))
 
--- src/lib.rt:71:1
 same-length : tie.Need-same-length
 same-length c = search needs
 
--- src/lib.rt:71:1
 same-length-2 : tie.Need-same-length-2
 same-length-2 c = search needs
 
--- src/lib.rt:71:1
 same-length-3 : tie.Need-same-length-3
 same-length-3 c = search needs
 
--- src/lib.rt:71:1
 same-length-4 : tie.Need-same-length-4
 same-length-4 c = search needs
 
--- src/lib.rt:71:1
 same-length-5 : tie.Need-same-length-5
 same-length-5 c = search needs
 
--- src/lib.rt:71:1
 returns : tie.Need-returns
-returns c = ?
+returns c = let z = c .before .before .before .before .before .before .before .before .before .before .before .before .before .before .before .before .before .before .before .before .before .before .before .before .before .before .before .before .before .before .before .before in
+    let Y = z .pre .0 in
+    let u = c .before .before .before .before .before .before .word .ensures ∙ ap (λ t. getD (now (z .args .rows)) (pairNumber t t) []) (c .before .before .before .before .before .before .before .up .ensures) in (
+      c .before .before .before .before .before .before .before .before .before .before .count-numbers .ensures .0,
+      record {
+        stands = Y .stands;
+        lines = c .before .before .before .before .before .before .before .before .before .before .before .before .before .before .before .before .before .before .before .before .before .before .before .before .find-lines .ensures .0;
+        words = Y .words;
+        leaders-are = c .before .before .before .before .before .before .before .before .before .before .before .before .before .before .before .before .before .before .mark-orbits .ensures .0;
+        places-are = c .before .before .before .before .before .before .before .before .before .before .before .before .before .before .before .before .before .before .mark-orbits .ensures .1;
+        numbers-are = numbers-named (z .args .f) (now (z .args .low)) (now (z .args .rows)) _ (c .before .before .before .before .before .before .before .before .before .before .count-numbers .ensures .1);
+        shifts-are = shifts-named (z .args .f) (now (z .args .low)) (now (z .args .rows)) _ _ u (c .before .before .find-shifts .ensures .0);
+        cycles = Y .cycles;
+      },
+    )
 
 pub survey-level-spec : {M : Type 1} → statement M
 survey-level-spec =
