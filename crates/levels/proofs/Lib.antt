@@ -1,0 +1,2 @@
+-- Laws of building all levels.
+pub mod Stages

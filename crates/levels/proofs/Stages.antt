@@ -1,0 +1,114 @@
+-- The words of a build, level by level.
+--
+--   Stage              after i levels: what is written, where the last begins, and how many representations it has
+--   first-asks         what level 1 asks
+--   stage-one          level 1 is written
+--   stage-placed, stage-sound, stage-room      what the next level asks
+--   stage-next         it is written
+--   stage-last         all levels are
+use mathlib.Core.Path.{_≡_, refl, sym, ap, ap₂, _∙_, subst}
+use mathlib.Core.List.{List, _++_}
+use Prim.Native.Nat.{ℕ, zero, suc, _+_, _*_, _-_, _≤_, _<_}
+use native.Mathlib.Omega.{arith}
+use native.Mathlib.Numerals.{add-one}
+use native.Mathlib.Nat.{zero-add}
+use lib.ListN.{length, getD, take}
+use lib.Seq.{take-append-seam}
+use Rattle.definitions.specs.Presentation.{order}
+use Rattle.definitions.specs.Table.{levelWords}
+use Rattle.definitions.specs.Steps.{levels, tableOf}
+use Rattle.clifford.specs.Accepted.{Accepted}
+use Rattle.formulas.specs.Formulas.{levelBy}
+use Rattle.text.specs.Writing.{put, Wrote}
+use Rattle.text.proofs.Writing.{wrote-as, wrote-more, wrote-length}
+use Rattle.first.specs.Roots.{firstWords, Exponents}
+use Rattle.survey.specs.declared.Frame.{Frame}
+use Rattle.survey.specs.Below.{sourceIn, numberIn}
+use Rattle.builder.specs.Level.{Sound}
+use Rattle.assembly.specs.Built.{upTo, Small, Placed, Told}
+use Rattle.assembly.proofs.Standing.{stands}
+use Rattle.assembly.proofs.Next.{rows-below}
+use Rattle.assembly.proofs.Cycles.{visited}
+use Rattle.assembly.proofs.First.{exponents-below}
+use Rattle.assembly.proofs.Room.{prime-le}
+use Rattle.assembly.proofs.Climb.{next-upTo, next-lines, next-room, next-reps, one-upTo, one-reps, one-room, one-placed}
+use Rattle.levels.specs.Given.{Given}
+
+pub record Stage (A : Accepted) (i base reps end : ℕ) (w₀ w : List ℕ) : Type 0 where
+  pub wrote : Wrote w₀ 0 (upTo A i) w (8 * end)
+  pub base-is : i < A .C .P .n → 8 * base ≡ length (upTo A (i - 1))
+  pub reps-is : reps ≡ length (levels (A .C .P) (order (A .C .P) (A .C .P .n)) i)
+
+take-wrote : (b s c : List ℕ) (next : ℕ) → Wrote b 0 s c next → take next c ≡ s
+unfolding put
+take-wrote b s c next q = ap₂ take (q .end ∙ zero-add _) (q .content) ∙ take-append-seam s _
+
+module _ (A : Accepted) (rows : List (List ℕ)) (primes : List ℕ) (n m have : ℕ) (G : Given rows primes n m have A) where
+  -- ---- Level 1
+
+  pub first-asks : (p : ℕ) → p ≡ getD primes 0 0 → (n ≤ 12) × (p ≤ 4096) × (m ≤ 16384) × Exponents n p rows × (8 * (p * n) ≤ have)
+  first-asks p e =
+      let q : p ≡ A .C .P .p 0 = e ∙ G .primes-are 0 (A .positive) in
+      let N = G .n-is in (
+        omega (arith, N, G .small .few),
+        omega (arith, q, prime-le A 0 (A .positive), G .small .low),
+        omega (arith, G .m-is, G .small .low),
+        subst (λ x. Exponents x p rows) (sym N) (subst (λ x. Exponents (A .C .P .n) x rows) (sym q) (exponents-below A rows (G .told 0 (A .positive)))),
+        omega (arith, ap₂ (λ x y. 8 * (x * y)) q N, one-room A rows (G .told 0 (A .positive)), G .room),
+      )
+
+  pub stage-one : (p : ℕ) → p ≡ getD primes 0 0 → (w₀ w : List ℕ) (end : ℕ) → Wrote w₀ 0 (firstWords n p m rows) w (8 * end) → Stage A 1 0 p end w₀ w
+  stage-one p e w₀ w end W =
+      let q : p ≡ A .C .P .p 0 = e ∙ G .primes-are 0 (A .positive) in
+      record {
+        wrote = wrote-as W ((λ o. firstWords (G .n-is o) (q o) (G .m-is o) rows) ∙ one-upTo A rows (G .told 0 (A .positive)));
+        base-is = λ l. one-placed A rows (G .told 0 (A .positive)) l .base-is;
+        reps-is = q ∙ sym (one-reps A);
+      }
+
+  -- ---- The next
+
+  module _ (i base reps end p : ℕ) (w₀ w : List ℕ) (above : 0 < i) (below : i < n) (known : p ≡ getD primes i 0) (S : Stage A i base reps end w₀ w) where
+    abbrev pub frame : Frame
+    frame = record { m = m; top = i; gens = n; p = p; base = base; reps = reps; end = end }
+
+    inside : i < A .C .P .n
+    inside = omega (arith, below, G .n-is)
+
+    pub stage-placed : Placed A i frame (take (8 * end) w)
+    stage-placed = record {
+      above = above;
+      below = inside;
+      modulus-is = G .m-is;
+      top-is = refl;
+      gens-is = G .n-is;
+      prime-is = known ∙ G .primes-are i inside;
+      base-is = S .base-is inside;
+      reps-is = S .reps-is;
+      end-is = S .wrote .end ∙ zero-add _;
+      words-are = take-wrote w₀ (upTo A i) w (8 * end) (S .wrote);
+    }
+
+    pub stage-sound : Sound frame (take (8 * end) w) rows
+    stage-sound = record {
+      stands = stands A (G .small) i frame (take (8 * end) w) stage-placed;
+      words = rows-below A i frame (take (8 * end) w) rows stage-placed (G .told i inside);
+      cycles = λ r h mv own j a b.
+          let seen = visited A i frame (take (8 * end) w) rows stage-placed (G .told i inside) r h mv own j a b in
+          record { visits = seen .visits; once = seen .once };
+    }
+
+    pub stage-room : have ≤ length w₀ → 8 * end + length (levelWords n (suc i) (levelBy (sourceIn frame (take (8 * end) w) rows))) ≤ length w
+    stage-room h = omega (arith, next-room A i frame (take (8 * end) w) rows stage-placed (G .told i inside), G .room, h, wrote-length (S .wrote))
+
+    pub stage-next : (w′ : List ℕ) (end′ reps′ : ℕ) → Wrote w (8 * end) (levelWords n (suc i) (levelBy (sourceIn frame (take (8 * end) w) rows))) w′ (8 * end′) → reps′ ≡ numberIn frame (take (8 * end) w) reps
+        → Stage A (i + 1) end reps′ end′ w₀ w′
+    stage-next w′ end′ reps′ W e =
+        let Q = stage-placed in
+        let next : i + 1 - 1 ≡ i = omega arith in
+        record {
+          wrote = wrote-as (wrote-more (S .wrote) W)
+              (ap₂ (_++_) (sym (Q .words-are)) (ap (λ x. levelWords x (suc i) (levelBy (sourceIn frame (take (8 * end) w) rows))) (G .n-is)) ∙ next-upTo A i frame (take (8 * end) w) rows Q (G .told i inside) ∙ ap (upTo A) (sym (add-one i)));
+          base-is = λ l. Q .end-is ∙ ap (λ x. length (upTo A x)) (sym next);
+          reps-is = e ∙ next-reps A i frame (take (8 * end) w) Q ∙ ap (λ x. length (levels (A .C .P) (order (A .C .P) (A .C .P .n)) x)) (sym (add-one i));
+        }

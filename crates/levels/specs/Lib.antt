@@ -1,0 +1,2 @@
+-- What building all levels asks.
+pub mod Given
