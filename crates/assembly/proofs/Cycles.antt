@@ -3,7 +3,7 @@
 --   block-at                  block t is t times 1 plus the exponent of the generator on top, modulo its prime
 --   unit-at                   which the prime does not divide, where something moves
 --   once-at, visits-at        so no block comes twice in p steps, and every block comes
---   Visited, visited          the same in any frame that says so
+--   visited                   the same in any frame that says so
 use mathlib.Core.Path.{_≡_, sym, _∙_, ap, subst}
 use mathlib.Core.List.{List, []}
 use Prim.Native.Nat.{ℕ, zero, suc, _*_, _%_, _<_, _∣_}
@@ -25,6 +25,7 @@ use Rattle.closed.proofs.Sources.{Twins, left, leader-same, block-same}
 use Rattle.closed.proofs.Table.{rungs, twins}
 use Rattle.lines.specs.Lines.{matrixIn}
 use Rattle.survey.specs.declared.Frame.{Frame}
+use Rattle.induce.specs.Inducing.{Cycling}
 use Rattle.survey.specs.Below.{sourceIn, degOf, matrixOf, targetOf, leaderIn}
 use Rattle.assembly.specs.Built.{upTo, frameAt, Placed, Told}
 use Rattle.assembly.proofs.Words.{reads, target-of}
@@ -98,15 +99,9 @@ module _ (A : Accepted) (k : ℕ) (l : suc k < A .C .P .n) (rows : List (List �
 
 -- ---- In any frame that says so
 
--- the blocks along generator j from the orbit of r
-pub record Visited (f : Frame) (W : List ℕ) (rows : List (List ℕ)) (r j : ℕ) : Type 0 where
-  pub once : (t t′ : ℕ) → t < f .p → t′ < f .p → blockAt (sourceIn f W rows) j r t ≡ blockAt (sourceIn f W rows) j r t′ → t ≡ t′
-  pub visits : (b : ℕ) → b < f .p → (t : ℕ) × (t < f .p) × (blockAt (sourceIn f W rows) j r t ≡ b)
-
-pub visited : (A : Accepted) (i : ℕ) (f : Frame) (W : List ℕ) (rows : List (List ℕ)) → Placed A i f W → Told A i rows
-    → (r : ℕ) → r < f .reps → ¬ (targetOf f W (f .top) r ≡ r) → leaderIn f W r ≡ r → (j : ℕ) → f .top < j → j < f .gens → Visited f W rows r j
+pub visited : (A : Accepted) (i : ℕ) (f : Frame) (W : List ℕ) (rows : List (List ℕ)) → Placed A i f W → Told A i rows → Cycling f W rows
 visited A zero f W rows Q told = absurd (omega (arith, Q .above))
 visited A (suc k) f W rows Q told =
-    subst (λ f. (r : ℕ) → r < f .reps → ¬ (targetOf f W (f .top) r ≡ r) → leaderIn f W r ≡ r → (j : ℕ) → f .top < j → j < f .gens → Visited f W rows r j) (sym (placed A k f W Q))
-    (subst (λ W. (r : ℕ) → r < frameAt A k .reps → ¬ (targetOf (frameAt A k) W (suc k) r ≡ r) → leaderIn (frameAt A k) W r ≡ r → (j : ℕ) → suc k < j → j < frameAt A k .gens → Visited (frameAt A k) W rows r j) (sym (Q .words-are))
+    subst (λ f. Cycling f W rows) (sym (placed A k f W Q))
+    (subst (λ W. Cycling (frameAt A k) W rows) (sym (Q .words-are))
     (λ r h mv own j ij jn. record { once = once-at A k (Q .below) rows told r h mv own j ij jn; visits = visits-at A k (Q .below) rows told r h mv own j ij jn }))

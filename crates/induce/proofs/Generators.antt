@@ -4,22 +4,22 @@
 --   parts-are                  the blocks of a generator
 --   scalars-small              the scalars are below the modulus
 use mathlib.Core.Path.{_≡_, refl, sym, ap, ap₂, _∙_, subst}
-use mathlib.Core.List.{List, []}
-use Prim.Native.Nat.{ℕ, zero, suc, _+_, _*_, _%_, _≤_, _<_}
+use mathlib.Core.List.{List}
+use Prim.Native.Nat.{ℕ, zero, suc, _<_}
 use native.Mathlib.Omega.{arith}
 use native.Mathlib.Nat.{mod-lt}
 use native.Mathlib.Decide.{decLt, ℕ-discrete}
 use mathlib.Core.Bool.{cond}
-use borrow.Author.Tests.{le-leb, lt-leb}
+use borrow.Author.Tests.{le-leb}
 use lib.Dec.{eqb, ltb, leb}
-use lib.ListN.{length, getD}
+use lib.ListN.{getD}
 use Rattle.definitions.specs.Lists.{iter, blocks, least}
 use Rattle.definitions.specs.Monomial.{less}
-use Rattle.numbers.proofs.Bools.{cond-true, cond-false, cond-lt, cond-ge, cond-eq, cond-ne}
+use Rattle.numbers.proofs.Bools.{cond-true, cond-lt, cond-eq}
 use Rattle.numbers.proofs.Blocks.{blocks-below}
 use Rattle.formulas.specs.Formulas.{Source, start, shift, leader, blockTo, blockBy, scalar, scalarAt}
 use Rattle.survey.specs.declared.Frame.{Frame}
-use Rattle.survey.specs.Below.{degOf, targetOf, sourceIn, leaderIn, Array}
+use Rattle.survey.specs.Below.{targetOf, sourceIn}
 use Rattle.induce.specs.Inducing.{Inducing, BlockScalars, factorIn, referenceIn, partsIn, generatorWords}
 use Rattle.induce.proofs.Parts.{part-is, generator-words}
 

@@ -4,9 +4,9 @@
 --   cycled-held, conjugate-starts      entries that are held along the generator on top
 --   shifts-below, righting, right-is, left-is    what is known of an orbit, and the two sides at its blocks
 --   plus-zero                  adding 0 to an exponent below the modulus
-use mathlib.Core.Path.{_≡_, refl, ap, sym, _∙_, subst}
+use mathlib.Core.Path.{_≡_, ap, sym, _∙_, subst}
 use mathlib.Core.List.{List, []}
-use Prim.Native.Nat.{ℕ, zero, suc, _+_, _*_, _<_, _≤_, _%_}
+use Prim.Native.Nat.{ℕ, zero, suc, _<_, _%_}
 use native.Mathlib.Omega.{arith}
 use mathlib.Core.Bool.{cond}
 use lib.Dec.{ltb}

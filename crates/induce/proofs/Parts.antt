@@ -6,14 +6,14 @@
 --   generator-length, part-length, parts-length, induction-length      how many words
 use mathlib.Core.Path.{_≡_, refl, sym, ap, ap₂, _∙_, subst}
 use mathlib.Core.List.{List, [], _∷_}
-use Prim.Native.Nat.{ℕ, suc, _+_, _*_, _/_, _%_, _≤_, _<_}
+use Prim.Native.Nat.{ℕ, suc, _+_, _*_, _%_, _<_}
 use native.Mathlib.Omega.{arith}
 use mathlib.Core.Bool.{cond}
 use lib.Dec.{leb}
 use lib.Arith.{digits-div}
-use lib.ListN.{length, getD, length-map}
+use lib.ListN.{length, length-map}
 use Rattle.definitions.specs.declared.Entry.{Entry}
-use Rattle.definitions.specs.Lists.{iter, blocks, sum}
+use Rattle.definitions.specs.Lists.{iter, blocks}
 use Rattle.definitions.specs.Monomial.{Matrix, entry, col, scale}
 use Rattle.definitions.specs.Steps.{lift}
 use Rattle.definitions.specs.Table.{lineOf, repWords}
@@ -21,7 +21,7 @@ use Rattle.numbers.proofs.Blocks.{getD-map, length-table, blocks-below, blocks-
 use Rattle.numbers.proofs.Sums.{sum-const}
 use Rattle.formulas.specs.Formulas.{Source, start, leader, blockTo, blockBy, inductionAt}
 use Rattle.lines.specs.declared.Head.{Head}
-use Rattle.lines.specs.Lines.{entryIn, matrixIn, headLine, blockLines}
+use Rattle.lines.specs.Lines.{entryIn, headLine, blockLines}
 use Rattle.lines.proofs.Laws.{col-matrixIn}
 use Rattle.extend.proofs.Laws.{col-scale}
 use Rattle.survey.specs.declared.Frame.{Frame}

@@ -1,7 +1,7 @@
 -- What an induced representation is made with.
 --
 --   OrbitArray                 an array that holds an orbit
---   Cycles                     generator j moves the blocks of an orbit around, each once
+--   Cycles, Cycling            generator j moves the blocks of an orbit around, each once; so do all above the one on top
 --   Inducing                   what is known where the representation induced from the orbit of r is written
 --   Cycled                     one step of the generator on top
 --   Righting, rightIn          the two sides of an intertwiner's equation at column 0
@@ -40,6 +40,10 @@ module _ (f : Frame) (W : List ℕ) where
     pub record Cycles (j r : ℕ) : Type 0 where
       pub visits : (b : ℕ) → b < f .p → (t : ℕ) × (t < f .p) × (blockAt (sourceIn f W rows) j r t ≡ b)
       pub once : (t t′ : ℕ) → t < f .p → t′ < f .p → blockAt (sourceIn f W rows) j r t ≡ blockAt (sourceIn f W rows) j r t′ → t ≡ t′
+
+    -- the least of every orbit that moves is so for every generator above the one on top
+    abbrev pub Cycling : Type 0
+    Cycling = (r : ℕ) → r < f .reps → ¬ (targetOf f W (f .top) r ≡ r) → leaderIn f W r ≡ r → (j : ℕ) → f .top < j → j < f .gens → Cycles j r
 
     pub record Inducing (first leaders places shifts orbit : List ℕ) (r : ℕ) : Type 0 where
       pub stands : Stands f W
@@ -105,7 +109,7 @@ pub record Surveyed (f : Frame) (W : List ℕ) (rows : List (List ℕ)) (first l
   pub places-are : Array f W places (positionIn f W)
   pub numbers-are : Array f W numbers (start (sourceIn f W rows))
   pub shifts-are : Array f W shifts (shift (sourceIn f W rows))
-  pub cycles : (r : ℕ) → r < f .reps → ¬ (targetOf f W (f .top) r ≡ r) → leaderIn f W r ≡ r → (j : ℕ) → f .top < j → j < f .gens → Cycles f W rows j r
+  pub cycles : Cycling f W rows
 
 -- what is known where generator g of the representation induced from r is written
 pub record Writing (f : Frame) (W : List ℕ) (first places shifts orbit scalars : List ℕ) (r g : ℕ) : Type 0 where

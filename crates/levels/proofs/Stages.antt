@@ -8,7 +8,7 @@
 --   stage-last         all levels are
 use mathlib.Core.Path.{_≡_, refl, sym, ap, ap₂, _∙_, subst}
 use mathlib.Core.List.{List, _++_}
-use Prim.Native.Nat.{ℕ, zero, suc, _+_, _*_, _-_, _≤_, _<_}
+use Prim.Native.Nat.{ℕ, suc, _+_, _*_, _-_, _≤_, _<_}
 use native.Mathlib.Omega.{arith}
 use native.Mathlib.Numerals.{add-one}
 use native.Mathlib.Nat.{zero-add}
@@ -16,7 +16,7 @@ use lib.ListN.{length, getD, take}
 use lib.Seq.{take-append-seam}
 use Rattle.definitions.specs.Presentation.{order}
 use Rattle.definitions.specs.Table.{levelWords}
-use Rattle.definitions.specs.Steps.{levels, tableOf}
+use Rattle.definitions.specs.Steps.{levels}
 use Rattle.clifford.specs.Accepted.{Accepted}
 use Rattle.formulas.specs.Formulas.{levelBy}
 use Rattle.text.specs.Writing.{put, Wrote}
@@ -25,13 +25,13 @@ use Rattle.first.specs.Roots.{firstWords, Exponents}
 use Rattle.survey.specs.declared.Frame.{Frame}
 use Rattle.survey.specs.Below.{sourceIn, numberIn}
 use Rattle.builder.specs.Level.{Sound}
-use Rattle.assembly.specs.Built.{upTo, Small, Placed, Told}
+use Rattle.assembly.specs.Built.{upTo, Placed}
 use Rattle.assembly.proofs.Standing.{stands}
 use Rattle.assembly.proofs.Next.{rows-below}
 use Rattle.assembly.proofs.Cycles.{visited}
 use Rattle.assembly.proofs.First.{exponents-below}
 use Rattle.assembly.proofs.Room.{prime-le}
-use Rattle.assembly.proofs.Climb.{next-upTo, next-lines, next-room, next-reps, one-upTo, one-reps, one-room, one-placed}
+use Rattle.assembly.proofs.Climb.{next-upTo, next-room, next-reps, one-upTo, one-reps, one-room, one-placed}
 use Rattle.levels.specs.Given.{Given}
 
 pub record Stage (A : Accepted) (i base reps end : ℕ) (w₀ w : List ℕ) : Type 0 where
@@ -93,9 +93,7 @@ module _ (A : Accepted) (rows : List (List ℕ)) (primes : List ℕ) (n m have :
     stage-sound = record {
       stands = stands A (G .small) i frame (take (8 * end) w) stage-placed;
       words = rows-below A i frame (take (8 * end) w) rows stage-placed (G .told i inside);
-      cycles = λ r h mv own j a b.
-          let seen = visited A i frame (take (8 * end) w) rows stage-placed (G .told i inside) r h mv own j a b in
-          record { visits = seen .visits; once = seen .once };
+      cycles = visited A i frame (take (8 * end) w) rows stage-placed (G .told i inside);
     }
 
     pub stage-room : have ≤ length w₀ → 8 * end + length (levelWords n (suc i) (levelBy (sourceIn frame (take (8 * end) w) rows))) ≤ length w

@@ -4,7 +4,7 @@
 use mathlib.Core.Path.{_≡_}
 use mathlib.Core.List.{List}
 use Prim.Native.Nat.{ℕ, _≤_, _<_}
-use lib.ListN.{length, getD}
+use lib.ListN.{getD}
 use Rattle.definitions.specs.Presentation.{order}
 use Rattle.definitions.specs.Presentation.{buildWords}
 use Rattle.clifford.specs.Accepted.{Accepted}

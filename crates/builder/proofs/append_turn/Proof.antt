@@ -1,22 +1,15 @@
 -- `append_turn`, case by case.
-use mathlib.Core.Path.{_≡_, refl, sym, ap, ap₂, _∙_, subst}
-use mathlib.Core.List.{List, []}
-use Prim.Native.Nat.{ℕ, suc, _+_, _*_, _-_, _≤_, _<_, _%_}
+use mathlib.Core.Path.{_≡_, sym, _∙_}
+use Prim.Native.Nat.{_*_, _-_}
 use native.Mathlib.Omega.{arith}
-use native.Mathlib.Numerals.{add-one}
-use lib.ListN.{length, getD, set, length-set}
 use denote.Ref.{now}
 use lib.ListN.{take}
 use lib.Seq.{length-take-le}
 use native.Mathlib.Nat.{le-refl}
 use borrow.Author.Needs.{needs}
-use borrow.Author.Tests.{eq-eqb}
 use Rattle.text.proofs.Writing.{wrote-as, wrote-none}
-use Rattle.lines.proofs.Appending.{Going, going-none, going-more}
-use Rattle.survey.specs.Below.{degOf, targetOf, sourceIn, leaderIn}
-use Rattle.turns.specs.Turns.{turnWords}
-use Rattle.turns.proofs.Turns.{turn-room}
-use Rattle.turns.proofs.InWords.{turn-extensions, turn-induction, turn-nothing, turns-wrote, extensions-length, induction-length}
+use Rattle.survey.specs.Below.{targetOf, leaderIn}
+use Rattle.turns.proofs.InWords.{turn-extensions, turn-induction, turn-nothing, extensions-length, induction-length}
 use borrow.Author.Needs.{needs}
 use Rattle.builder.proofs.append_turn.Statement.{statement}
 use Rattle.builder.proofs.append_turn.Tie as tie

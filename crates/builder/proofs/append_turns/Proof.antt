@@ -1,22 +1,17 @@
 -- `append_turns` appends turn behind turn.
-use mathlib.Core.Path.{_≡_, refl, sym, ap, ap₂, _∙_, subst}
-use mathlib.Core.List.{List, []}
-use Prim.Native.Nat.{ℕ, suc, _+_, _*_, _-_, _≤_, _<_, _%_}
+use mathlib.Core.Path.{_≡_, refl}
+use Prim.Native.Nat.{_*_, _-_, _≤_, _<_}
 use native.Mathlib.Omega.{arith}
-use native.Mathlib.Numerals.{add-one}
-use lib.ListN.{length, getD, set, length-set}
+use lib.ListN.{length}
 use denote.Ref.{now}
 use lib.ListN.{take}
-use lib.Seq.{length-take-le}
 use native.Mathlib.Nat.{le-refl}
 use borrow.Author.Needs.{needs}
-use borrow.Author.Tests.{eq-eqb}
-use Rattle.text.proofs.Writing.{wrote-as, wrote-none}
 use Rattle.lines.proofs.Appending.{Going, going-none, going-more}
-use Rattle.survey.specs.Below.{degOf, targetOf, sourceIn, leaderIn}
+use Rattle.survey.specs.Below.{sourceIn}
 use Rattle.turns.specs.Turns.{turnWords}
 use Rattle.turns.proofs.Turns.{turn-room}
-use Rattle.turns.proofs.InWords.{turn-extensions, turn-induction, turn-nothing, turns-wrote, extensions-length, induction-length}
+use Rattle.turns.proofs.InWords.{turns-wrote}
 use Rattle.builder.proofs.append_turns.Statement.{statement}
 use Rattle.builder.proofs.append_turns.Tie as tie
 

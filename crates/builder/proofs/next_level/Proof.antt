@@ -1,14 +1,9 @@
 -- `next_level` surveys the level below, and appends.
-use mathlib.Core.Path.{_≡_, refl, sym, ap, ap₂, _∙_, subst}
-use mathlib.Core.List.{List, []}
-use Prim.Native.Nat.{ℕ, suc, _+_, _*_, _≤_, _<_}
+use mathlib.Core.Path.{sym}
 use native.Mathlib.Omega.{arith}
-use lib.ListN.{length, getD, take}
 use lib.Seq.{length-take-le}
 use denote.Ref.{now}
 use borrow.Author.Needs.{needs}
-use Rattle.definitions.specs.Presentation.{pairNumber}
-use Rattle.builder.proofs.Laws.{numbers-named, shifts-named}
 use borrow.Author.Needs.{needs}
 use Rattle.builder.proofs.next_level.Statement.{statement}
 use Rattle.builder.proofs.next_level.Tie as tie

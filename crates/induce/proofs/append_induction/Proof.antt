@@ -1,25 +1,14 @@
 -- `append_induction` appends its generators one behind the other.
-use mathlib.Core.Path.{_≡_, refl, sym, ap, ap₂, _∙_, subst}
-use mathlib.Core.List.{List, []}
-use Prim.Native.Nat.{ℕ, suc, _+_, _*_, _-_, _≤_, _<_, _%_}
+use mathlib.Core.Path.{_≡_, refl, sym, ap, _∙_}
+use Prim.Native.Nat.{suc, _+_, _*_, _-_, _≤_, _<_}
 use native.Mathlib.Omega.{arith}
-use native.Mathlib.Numerals.{add-one}
-use lib.ListN.{length, getD, set, length-set}
+use lib.ListN.{length}
 use denote.Ref.{now}
-use Rattle.definitions.specs.declared.Entry.{Entry}
-use Rattle.definitions.specs.Lists.{iter}
-use Rattle.definitions.specs.Monomial.{entry, act}
-use Rattle.formulas.specs.Formulas.{plus}
-use Rattle.lines.specs.Lines.{Below}
-use Rattle.survey.specs.Below.{degOf, targetOf, sourceIn}
+use Rattle.survey.specs.Below.{degOf, sourceIn}
 use borrow.Author.Needs.{needs}
-use Rattle.survey.specs.Below.{leaderIn}
-use Rattle.survey.proofs.Marking.{lead-below}
 use lib.ListN.{take}
 use lib.Seq.{length-take-le}
 use Rattle.text.proofs.Writing.{wrote-as}
-use Rattle.induce.proofs.Laws.{shifts-below}
-use Rattle.induce.proofs.Generators.{parts-are, scalars-small}
 use Rattle.definitions.specs.Lists.{blocks}
 use Rattle.definitions.specs.Table.{repWords}
 use Rattle.formulas.specs.Formulas.{inductionAt}

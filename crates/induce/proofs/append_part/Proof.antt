@@ -1,22 +1,15 @@
 -- `append_part` appends one block.
-use mathlib.Core.Path.{_≡_, refl, sym, ap, ap₂, _∙_, subst}
-use mathlib.Core.List.{List, []}
-use Prim.Native.Nat.{ℕ, suc, _+_, _*_, _-_, _≤_, _<_, _%_}
+use mathlib.Core.Path.{refl, sym, ap, _∙_, subst}
+use Prim.Native.Nat.{_*_, _-_, _≤_, _<_}
 use native.Mathlib.Omega.{arith}
 use native.Mathlib.Numerals.{add-one}
-use lib.ListN.{length, getD, set, length-set}
 use denote.Ref.{now}
-use Rattle.definitions.specs.declared.Entry.{Entry}
-use Rattle.definitions.specs.Lists.{iter}
-use Rattle.definitions.specs.Monomial.{entry, act}
-use Rattle.formulas.specs.Formulas.{plus}
-use Rattle.lines.specs.Lines.{Below}
-use Rattle.survey.specs.Below.{degOf, targetOf, sourceIn}
+use Rattle.survey.specs.Below.{degOf}
 use borrow.Author.Needs.{needs}
-use Rattle.survey.specs.Below.{matrixOf, positionIn}
-use Rattle.survey.proofs.Marking.{orbit-inside, pos-below}
+use Rattle.survey.specs.Below.{matrixOf}
+use Rattle.survey.proofs.Marking.{orbit-inside}
 use Rattle.induce.proofs.Laws.{orbit-degree}
-use Rattle.induce.proofs.Cases.{to-low, to-next, to-last, to-above, by-low, by-next, by-last, by-above, reference-low, reference-above, block-fits}
+use Rattle.induce.proofs.Cases.{block-fits}
 use lib.ListN.{take}
 use lib.Seq.{length-take-le}
 use Rattle.text.proofs.Writing.{wrote-as}

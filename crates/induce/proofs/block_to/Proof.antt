@@ -1,22 +1,14 @@
 -- `block_to`, case by case.
-use mathlib.Core.Path.{_≡_, refl, sym, ap, ap₂, _∙_, subst}
-use mathlib.Core.List.{List, []}
-use Prim.Native.Nat.{ℕ, suc, _+_, _*_, _-_, _≤_, _<_, _%_}
+use mathlib.Core.Path.{sym, ap, _∙_, subst}
+use Prim.Native.Nat.{_-_, _<_}
 use native.Mathlib.Omega.{arith}
 use native.Mathlib.Numerals.{add-one}
-use lib.ListN.{length, getD, set, length-set}
 use denote.Ref.{now}
-use Rattle.definitions.specs.declared.Entry.{Entry}
-use Rattle.definitions.specs.Lists.{iter}
-use Rattle.definitions.specs.Monomial.{entry, act}
-use Rattle.formulas.specs.Formulas.{plus}
-use Rattle.lines.specs.Lines.{Below}
-use Rattle.survey.specs.Below.{degOf, targetOf, sourceIn}
+use Rattle.survey.specs.Below.{targetOf}
 use borrow.Author.Needs.{needs}
-use Rattle.survey.specs.Below.{matrixOf, positionIn}
+use Rattle.survey.specs.Below.{positionIn}
 use Rattle.survey.proofs.Marking.{orbit-inside, pos-below}
-use Rattle.induce.proofs.Laws.{orbit-degree}
-use Rattle.induce.proofs.Cases.{to-low, to-next, to-last, to-above, by-low, by-next, by-last, by-above, reference-low, reference-above, block-fits}
+use Rattle.induce.proofs.Cases.{to-low, to-next, to-last, to-above}
 use borrow.Author.Needs.{needs}
 use Rattle.induce.proofs.block_to.Statement.{statement}
 use Rattle.induce.proofs.block_to.Tie as tie

@@ -1,19 +1,17 @@
 -- `conjugate` walks the word within a block, and turns by the generator on top.
-use mathlib.Core.Path.{_≡_, refl, sym, ap, ap₂, _∙_, subst}
-use mathlib.Core.List.{List, []}
-use Prim.Native.Nat.{ℕ, suc, _+_, _*_, _-_, _≤_, _<_, _%_}
+use mathlib.Core.Path.{sym, ap, ap₂, _∙_, subst}
+use mathlib.Core.List.{[]}
+use Prim.Native.Nat.{_+_, _-_, _<_}
 use native.Mathlib.Omega.{arith}
 use native.Mathlib.Numerals.{add-one}
-use lib.ListN.{length, getD, set, length-set}
+use lib.ListN.{getD}
 use denote.Ref.{now}
-use Rattle.definitions.specs.declared.Entry.{Entry}
 use Rattle.definitions.specs.Lists.{iter}
-use Rattle.definitions.specs.Monomial.{entry, act}
-use Rattle.formulas.specs.Formulas.{plus}
+use Rattle.definitions.specs.Monomial.{entry}
 use Rattle.lines.specs.Lines.{Below}
-use Rattle.survey.specs.Below.{degOf, targetOf, sourceIn}
+use Rattle.survey.specs.Below.{degOf, sourceIn}
 use Rattle.definitions.specs.Presentation.{toNF}
-use Rattle.formulas.specs.Formulas.{shift, walk}
+use Rattle.formulas.specs.Formulas.{walk}
 use Rattle.formulas.specs.Formulas as Fm
 use Rattle.survey.proofs.Marking.{orbit-inside}
 use Rattle.induce.specs.Inducing.{Held}

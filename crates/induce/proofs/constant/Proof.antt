@@ -1,22 +1,10 @@
 -- `constant`: the closing constant stands at the end of the orbit.
-use mathlib.Core.Path.{_≡_, refl, sym, ap, ap₂, _∙_, subst}
-use mathlib.Core.List.{List, []}
-use Prim.Native.Nat.{ℕ, suc, _+_, _*_, _-_, _≤_, _<_, _%_}
+use mathlib.Core.Path.{sym, ap, _∙_, subst}
+use Prim.Native.Nat.{suc, _-_, _≤_, _<_}
 use native.Mathlib.Omega.{arith}
-use native.Mathlib.Numerals.{add-one}
-use lib.ListN.{length, getD, set, length-set}
+use lib.ListN.{getD}
 use denote.Ref.{now}
-use Rattle.definitions.specs.declared.Entry.{Entry}
-use Rattle.definitions.specs.Lists.{iter}
-use Rattle.definitions.specs.Monomial.{entry, act}
-use Rattle.formulas.specs.Formulas.{plus}
-use Rattle.lines.specs.Lines.{Below}
-use Rattle.survey.specs.Below.{degOf, targetOf, sourceIn}
-use mathlib.Core.Bool.{cond}
-use lib.Dec.{ltb}
 use Rattle.numbers.proofs.Bools.{cond-lt, cond-ge}
-use Rattle.survey.proofs.Marking.{orbit-inside}
-use Rattle.induce.proofs.Laws.{orbit-degree}
 use borrow.Author.Needs.{needs}
 use Rattle.induce.proofs.constant.Statement.{statement}
 use Rattle.induce.proofs.constant.Tie as tie

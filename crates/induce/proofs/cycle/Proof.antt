@@ -1,18 +1,15 @@
 -- `cycle`: within the orbit the next block, and at its end block 0 and the constant.
-use mathlib.Core.Path.{_≡_, refl, sym, ap, ap₂, _∙_, subst}
-use mathlib.Core.List.{List, []}
-use Prim.Native.Nat.{ℕ, suc, _+_, _*_, _-_, _≤_, _<_, _%_}
+use mathlib.Core.Path.{_≡_, sym, ap, ap₂, _∙_, subst}
+use mathlib.Core.List.{[]}
+use Prim.Native.Nat.{suc, _-_, _≤_, _<_}
 use native.Mathlib.Omega.{arith}
 use native.Mathlib.Numerals.{add-one}
-use lib.ListN.{length, getD, set, length-set}
 use denote.Ref.{now}
-use Rattle.definitions.specs.declared.Entry.{Entry}
 use Rattle.definitions.specs.Lists.{iter}
 use Rattle.definitions.specs.Monomial.{entry, act}
 use Rattle.formulas.specs.Formulas.{plus}
 use Rattle.lines.specs.Lines.{Below}
 use Rattle.survey.specs.Below.{degOf, targetOf, sourceIn}
-use native.Mathlib.Nat.{add-zero, mod-eq-of-lt}
 use Rattle.numbers.proofs.Bools.{cond-lt, cond-ge}
 use Rattle.survey.proofs.Marking.{orbit-inside}
 use Rattle.induce.proofs.Laws.{orbit-degree, plus-zero}

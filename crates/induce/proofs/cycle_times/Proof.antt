@@ -1,17 +1,12 @@
 -- `cycle_times`: after i turns t is what i turns make of s.
-use mathlib.Core.Path.{_≡_, refl, sym, ap, ap₂, _∙_, subst}
-use mathlib.Core.List.{List, []}
-use Prim.Native.Nat.{ℕ, suc, _+_, _*_, _-_, _≤_, _<_, _%_}
+use mathlib.Core.Path.{_≡_, refl, sym, subst}
+use mathlib.Core.List.{List}
+use Prim.Native.Nat.{ℕ, _-_, _≤_, _<_}
 use native.Mathlib.Omega.{arith}
-use native.Mathlib.Numerals.{add-one}
-use lib.ListN.{length, getD, set, length-set}
 use denote.Ref.{now}
-use Rattle.definitions.specs.declared.Entry.{Entry}
 use Rattle.definitions.specs.Lists.{iter}
-use Rattle.definitions.specs.Monomial.{entry, act}
-use Rattle.formulas.specs.Formulas.{plus}
 use Rattle.lines.specs.Lines.{Below}
-use Rattle.survey.specs.Below.{degOf, targetOf, sourceIn}
+use Rattle.survey.specs.Below.{degOf, sourceIn}
 use borrow.Author.Needs.{needs}
 use Rattle.numbers.proofs.Lists.{iter-zero}
 use Rattle.lines.proofs.Laws.{iter-next}

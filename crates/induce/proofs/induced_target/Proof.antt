@@ -1,21 +1,11 @@
 -- `induced_target` follows the least of an orbit.
-use mathlib.Core.Path.{_≡_, refl, sym, ap, ap₂, _∙_, subst}
-use mathlib.Core.List.{List, []}
-use Prim.Native.Nat.{ℕ, suc, _+_, _*_, _-_, _≤_, _<_, _%_}
+use mathlib.Core.Path.{ap, _∙_}
+use Prim.Native.Nat.{_-_}
 use native.Mathlib.Omega.{arith}
-use native.Mathlib.Numerals.{add-one}
-use lib.ListN.{length, getD, set, length-set}
+use lib.ListN.{getD}
 use denote.Ref.{now}
-use Rattle.definitions.specs.declared.Entry.{Entry}
-use Rattle.definitions.specs.Lists.{iter}
-use Rattle.definitions.specs.Monomial.{entry, act}
-use Rattle.formulas.specs.Formulas.{plus}
-use Rattle.lines.specs.Lines.{Below}
-use Rattle.survey.specs.Below.{degOf, targetOf, sourceIn}
-use borrow.Author.Needs.{needs}
 use Rattle.survey.specs.Below.{leaderIn}
 use Rattle.survey.proofs.Marking.{lead-below}
-use borrow.Author.Needs.{needs}
 use Rattle.induce.proofs.induced_target.Statement.{statement}
 use Rattle.induce.proofs.induced_target.Tie as tie
 
