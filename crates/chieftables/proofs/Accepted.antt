@@ -17,7 +17,7 @@ use Rattle.definitions.proofs.Rendering.{says-unique}
 use Rattle.presentation.specs.declared.Presentation.{Presentation}
 use Rattle.presentation.specs.declared.Outcome.{Outcome}
 use Rattle.presentation.specs.Outcome.{Holds, textRefusals, ReadText}
-use Rattle.presentation.proofs.Accepted.{refused-first, read-first}
+use Rattle.presentation.proofs.Refusals.{Numbered, first-refused, first-behind}
 use Rattle.collector.specs.Rows.{Ready}
 use Rattle.collector.specs.Answers.{Holds as Held, Decides}
 use Rattle.collector.proofs.Relations.{holds-ready, decides-consistent}
@@ -42,6 +42,9 @@ unless : (b : Bool) → ¬ (b ≡ true) → b ≡ false
 unless true h = absurd (h refl)
 unless false h = refl
 
+numbered : (t : Bytes) → Numbered (textRefusals t)
+numbered t = (omega arith, (omega arith, (omega arith, (omega arith, tt))))
+
 module _ {t : Bytes} where
   -- a test that no relations said by t pass fails for those that it says
   unsaid : (f : Relations → Bool) {R : Relations} → Says t R → ¬ says t (λ (Q : Relations). f Q ≡ true) → f R ≡ false
@@ -57,7 +60,7 @@ module _ {t : Bytes} where
 
   module _ {o : Outcome} (read : ReadText t o) where
     pub accepted-refused : ¬ (o .status ≡ 0) → Accepted t o
-    accepted-refused h = record { answered = refused-first (inconsistent t) (read .answered) h; sound = λ z. absurd (h z) }
+    accepted-refused h = record { answered = first-refused (inconsistent t) (o .status) (textRefusals t) (read .answered) h; sound = λ z. absurd (h z) }
 
     module _ (zero-read : o .status ≡ 0) where
       none-first : First (textRefusals t) 0
@@ -80,7 +83,7 @@ module _ {t : Bytes} where
           pub accepted-consistent : r ≡ true → Accepted t (record { status = 0; presentation = o .presentation })
           accepted-consistent e =
               record {
-                answered = read-first (inconsistent t) none-first (inr (allowed, refl));
+                answered = first-behind (inconsistent t) 0 (textRefusals t) (numbered t) none-first (inr (allowed, refl));
                 sound = λ z. record { passed = passed; consistent = decided .0 e };
               }
             where
@@ -89,6 +92,6 @@ module _ {t : Bytes} where
 
           pub accepted-inconsistent : r ≡ false → Accepted t (record { status = 15; presentation = o .presentation })
           accepted-inconsistent e = record {
-            answered = read-first (inconsistent t) none-first (inl ((passed .R, passed .said, λ c. false≢true (sym e ∙ decided .1 c)), refl));
+            answered = first-behind (inconsistent t) 15 (textRefusals t) (numbered t) none-first (inl ((passed .R, passed .said, λ c. false≢true (sym e ∙ decided .1 c)), refl));
             sound = λ z. absurd (omega arith);
           }

@@ -1,2 +1,3 @@
 -- Laws behind the public calls.
 pub mod Accepted
+pub mod Built

@@ -1,5 +1,6 @@
 // The public calls: in which order the refusals are asked, and what is answered.
 pub mod accept; // accept.rt: whether a presentation text is accepted
+pub mod build; // build.rt: a presentation text to words
 pub mod counted; // counted.rt: an answer and a count
 pub mod read_table; // read_table.rt: table text to words
 pub mod write_table; // write_table.rt: words to table text

@@ -2,7 +2,7 @@
 --
 --   twice, triangle, sum-within, number-within        the sum 1 + .. + j; a pair below twelve has a number below 78
 --   product-zero, product-suc, product-mono     the product of primes
---   product-turn, order-exceeds, order-within   a turn of the product; the ceiling
+--   product-turn, elements-turn, order-exceeds, order-within   a turn of the product and of the elements; the ceiling
 --   entry-high, entry-zero, entry-power, entry-commutator     an exponent, case by case
 --   p-power, p-commutator, pair-stray, pair-row     a line, by its p and its word
 --   Tested, tested-none, tested-more, tested-all, tested-fails      a loop of tests
@@ -72,6 +72,13 @@ product-mono primes m (suc n) l h = pick (ℕ-discrete m (suc n)) (λ k. product
 pub product-turn : (primes : List ℕ) (j x y : ℕ) → x ≡ product primes j → y ≡ getD primes j 0 → x * y ≡ product primes (j + 1)
 product-turn primes j x y q r =
     mul-comm x y ∙ ap₂ (λ (a b : ℕ). a * b) r q ∙ sym (product-suc primes j) ∙ ap (product primes) (sym (add-one j))
+
+-- one level more of elements
+pub elements-turn : (primes : List ℕ) (j x y : ℕ) → x ≡ sum j (λ i. product primes (suc i)) → y ≡ product primes (j + 1)
+    → x + y ≡ sum (j + 1) (λ i. product primes (suc i))
+elements-turn primes j x y q r =
+    ap₂ (λ (a b : ℕ). a + b) q (r ∙ ap (product primes) (add-one j)) ∙ sym (sum-suc j (λ i. product primes (suc i)))
+    ∙ ap (λ (k : ℕ). sum k (λ i. product primes (suc i))) (sym (add-one j))
 
 pub order-exceeds : (primes : List ℕ) (m n x : ℕ) → m ≤ n → ((j : ℕ) → j < n → 0 < getD primes j 0) → x ≡ product primes m → 4096 < x
     → leb (product primes n) maxOrder ≡ false

@@ -9,4 +9,4 @@ pub mod Rows
 pub mod Reading
 pub mod Conditions
 pub mod Judged
-pub mod Accepted
+pub mod Refusals

@@ -3,3 +3,4 @@ pub mod Lines
 pub mod Rows
 pub mod Conditions
 pub mod Outcome
+pub mod Size

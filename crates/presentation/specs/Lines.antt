@@ -14,7 +14,7 @@ use Rattle.definitions.specs.Presentation.{presentationNames}
 use Rattle.text.specs.Reading.{Ends, trail}
 use Rattle.text.specs.declared.Read.{Read}
 use Rattle.text.specs.declared.Read.the-variants.{Value, Nothing}
-use Rattle.presentation.specs.declared.lines.Word.{Word}
+use Rattle.presentation.specs.declared.reader.Word.{Word}
 
 -- ---- The size of the rows
 

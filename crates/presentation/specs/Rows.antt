@@ -15,7 +15,7 @@ use Rattle.definitions.specs.Lists.{all}
 use Rattle.definitions.specs.Text.{Bytes, valueLine}
 use Rattle.definitions.specs.Presentation.{Row, pairs, pairNumber, rowValues, isPrime}
 use Rattle.definitions.proofs.Rendering.{rowFormed}
-use Rattle.presentation.specs.declared.lines.Lines.{Lines}
+use Rattle.presentation.specs.declared.reader.Lines.{Lines}
 use Rattle.presentation.specs.Lines.{rowWidth, rowCount}
 
 abbrev pub noRow : Row

@@ -8,8 +8,9 @@
 //   conclude              refusals 13 and 14 on what was kept of at most twelve generators
 //   read                  the reader
 //   prime                 primality of a value
-//   lines                 the lines of a text
+//   reader                the lines of a text
 //   judge                 refusals 13 and 14
+//   size                  the order, and the words of a build
 use text::Read;
 ghost use mathlib.Core.Path.{_≡_};
 ghost use Prim.Native.Nat.{ℕ, _<_, _≤_};
@@ -19,8 +20,9 @@ ghost use Rattle.presentation.specs.Lines.{rowWidth};
 ghost use Rattle.presentation.specs.Outcome.{Concluded, ReadText};
 
 pub mod judge;
-pub mod lines;
 pub mod prime;
+pub mod reader;
+pub mod size;
 
 // The ceilings on generators and on the order, and the number of pairs of so many generators.
 pub const GENERATORS: usize = 12;
@@ -94,12 +96,12 @@ fn conclude(n: usize, words: Words, ps: [u32; PAIRS]) -> Outcome
 pub fn read(text: &[u8]) -> Outcome
     ensures { λ r. ⌜ ReadText (now (text .entry)) r ⌝ }
 {
-    let Read::Value(n, at) = lines::names(text) else {
+    let Read::Value(n, at) = reader::names(text) else {
         return refused(11);
     };
     let mut words = [[0u32; GENERATORS]; PAIRS];
     let mut ps = [0u32; PAIRS];
-    let l = lines::read_lines(text, at, n, &mut words, &mut ps);
+    let l = reader::read_lines(text, at, n, &mut words, &mut ps);
     let ok = l.ok;
     if !ok {
         return refused(11);

@@ -6,8 +6,8 @@ use native.Mathlib.Omega.{arith}
 use lib.ListN.{length}
 use Rattle.presentation.proofs.Rows.{line-no-head, line-no-word}
 use Rattle.presentation.proofs.Reading.{Reading, reading-none, reading-more, reading-no-line, reading-refused, reading-end}
-use Rattle.presentation.proofs.lines.read_lines.Statement.{statement}
-use Rattle.presentation.proofs.lines.read_lines.Tie as tie
+use Rattle.presentation.proofs.reader.read_lines.Statement.{statement}
+use Rattle.presentation.proofs.reader.read_lines.Tie as tie
 
 abbrev Inv-loop : tie.InvT-loop
 Inv-loop text start n words₀ ps₀ at₀ j₀ i₀ k₀ primes₀ words ps at j i k primes = Reading text start n at j i k words ps primes

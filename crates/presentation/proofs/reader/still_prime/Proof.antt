@@ -4,8 +4,8 @@ use mathlib.Core.Bool.{Bool, _&&_}
 use borrow.Author.Tests.{not-true, not-false, eq-eqb, ne-eqb}
 use Rattle.presentation.specs.Rows.{passes}
 use borrow.Author.Needs.{needs}
-use Rattle.presentation.proofs.lines.still_prime.Statement.{statement}
-use Rattle.presentation.proofs.lines.still_prime.Tie as tie
+use Rattle.presentation.proofs.reader.still_prime.Statement.{statement}
+use Rattle.presentation.proofs.reader.still_prime.Tie as tie
 
 returns : tie.Need-returns
 returns c =
