@@ -90,9 +90,9 @@ same-length c = search needs
 returns : tie.Need-returns
 unfolding headLine
 returns c = record {
-  content = put-eight (now (c .args .words)) (8 * c .args .at) (c .args .h .level) (c .args .h .rep) (c .args .h .deg) (c .args .h .generator) (c .args .h .refn) (c .args .k) (c .args .x .row) (c .args .x .exp) (c .pre);
+  content = put-eight (now (c .args .words)) (8 * c .args .at) (c .args .h .level) (c .args .h .rep) (c .args .h .deg) (c .args .h .generator) (c .args .h .refn) (c .args .k) (c .args .x .row) (c .args .x .exp) (omega arith);
   end = omega arith;
-  room = c .pre;
+  room = omega arith;
 }
 
 pub put-line-spec : {M : Type 1} → statement M
