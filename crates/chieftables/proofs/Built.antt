@@ -26,7 +26,7 @@ use Rattle.presentation.specs.declared.Outcome.{Outcome}
 use Rattle.presentation.specs.declared.size.Size.{Size}
 use Rattle.presentation.specs.Conditions.{product}
 use Rattle.presentation.specs.Size.{Measured}
-use Rattle.presentation.proofs.Conditions.{product-zero, product-suc}
+use Rattle.presentation.proofs.Conditions.{product-order}
 use Rattle.presentation.proofs.Refusals.{Numbered, first-refused, first-behind}
 use Rattle.text.specs.Writing.{put, Wrote}
 use Rattle.text.proofs.Writing.{wrote-as}
@@ -50,14 +50,6 @@ build-refused {t} {o} before a h = record {
   answered = first-refused (short t (length before)) (o .status) (presentationRefusals t) (a .answered) h;
   leaves = record { finished = λ z. absurd (h z); refused = λ n. (refl, refl) };
 }
-
-order-zero : (R : Relations) → order (presentation R) 0 ≡ 1
-unfolding order
-order-zero R = refl
-
-order-suc : (R : Relations) (i : ℕ) → order (presentation R) (suc i) ≡ presentation R .p i * order (presentation R) i
-unfolding order
-order-suc R i = refl
 
 module _ {t : Bytes} {P : Presentation} (S : Sound t P) where
   abbrev R : Relations
@@ -90,9 +82,7 @@ module _ {t : Bytes} {P : Presentation} (S : Sound t P) where
   prime-is j l = S .passed .held .prime-held j (omega (arith, S .passed .held .count))
 
   product-is : (j : ℕ) → j ≤ P .n → product (P .primes) j ≡ order (presentation R) j
-  product-is zero l = product-zero (P .primes) ∙ sym (order-zero R)
-  product-is (suc j) l =
-      product-suc (P .primes) j ∙ ap₂ (λ (a b : ℕ). a * b) (prime-is j (omega arith)) (product-is j (omega arith)) ∙ sym (order-suc R j)
+  product-is = product-order (presentation R) (P .primes) (P .n) prime-is
 
   pub measurable : (j : ℕ) → j ≤ P .n → product (P .primes) j ≤ maxOrder
   unfolding maxOrder

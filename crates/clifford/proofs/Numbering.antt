@@ -27,8 +27,9 @@ use Rattle.numbers.proofs.Orbits.{Orbits, leaderOf, positionOf, leader, positio
 use Rattle.group.proofs.Level.{level, conjNf}
 use Rattle.clifford.specs.Extension.{Extension}
 use Rattle.clifford.specs.Stands.{Stands, Rung}
+use Rattle.clifford.specs.Ready.{Ready}
 use Rattle.clifford.proofs.Levels.{extension}
-use Rattle.clifford.proofs.Scalars.{Ready, orbits}
+use Rattle.clifford.proofs.Scalars.{orbits}
 
 module _ (R : Rung) where
   open Rung R using (T, m, pos, i, L, Ω, F, stands)

@@ -1,8 +1,6 @@
 -- The scalars of the steps, modulo m, close: s / p for an extension, the last block of an induction, the number l to
 -- which an intertwiner maps an extension, and the scalars c of an intertwiner along an orbit.
 --
---   Ready                                   the numbers of a family: how many representations, a basis index of each,
---                                           and m a multiple of p times the order of the group
 --   parts, orbits                           what m and the representations give
 --   σ, σ-fixed, σ-last, σ-other, normed     the scalars of the new matrix
 --   roots                                   the p roots that number the extensions
@@ -30,6 +28,7 @@ use Rattle.monomial.specs.Families.{Family}
 use Rattle.monomial.proofs.Exponents.{idr, negl, lcomm, neg-of, total-zero, total-suc, total-ext, total-single, times-nil, times-add, times-mul}
 use Rattle.monomial.proofs.Residues.{residues, root-divides, part, part-times, neg-divides, unit, unit-p, unit-injective, unit-mod, log, log-times}
 use Rattle.clifford.specs.Extension.{Extension}
+use Rattle.clifford.specs.Ready.{Ready}
 use Rattle.clifford.proofs.Defect.{defect, defect-const, defect-step, X-maps, target-home, root}
 use Rattle.clifford.proofs.Top.{Normed, φ, φ-power-maps, q, q-const, around, swap, fixed-back}
 use Rattle.clifford.proofs.Step.{Roots}
@@ -49,18 +48,7 @@ module _ {G G⁺ : Type 0} {𝓖 : Mul G} {𝓖⁺ : Mul G⁺} {conj : ℕ → G
   abbrev pub T : Ω → Residue m
   T = defect S F
 
-  pub record Ready : Type 0 where
-    pub count : ℕ
-    pub rep-below : (a : Ω) → F .rep a < count
-    pub first : ℕ → Ω
-    pub first-rep : (r : ℕ) → r < count → F .rep (first r) ≡ r
-    pub share : ℕ
-    pub split : m ≡ S .p * share
-    pub spare : ℕ
-    pub split′ : share ≡ S .order * spare
-    pub units : Units (S .p)
-
-  module _ (Q : Ready) where
+  module _ (Q : Ready S m pos F) where
     open Ready Q using (count, rep-below, first, first-rep)
 
     abbrev pub parts : Parts m

@@ -18,7 +18,7 @@ use Rattle.monomial.specs.Exponents.{Exponents, total, times}
 use Rattle.monomial.specs.Maps.{Map, compose, maps, diagonal}
 use Rattle.monomial.specs.Families.{Separated, Family}
 use Rattle.monomial.specs.Over.{At, Over}
-use Rattle.monomial.proofs.Exponents.{idr, lcomm, cancel, total-zero, total-add, times-nil, times-swap}
+use Rattle.monomial.proofs.Exponents.{idr, lcomm, rcomm, cancel, total-zero, total-add, times-nil, times-swap}
 use Rattle.monomial.proofs.Maps.{pair, column, at-mul, mul-at, maps-laws, power-diagonal}
 use Rattle.monomial.proofs.Over.{over-one, over-mul, over-same}
 use Rattle.monomial.proofs.Schur.{rep-power}
@@ -152,9 +152,6 @@ module _ {G G⁺ : Type 0} {𝓖 : Mul G} {𝓖⁺ : Mul G⁺} {conj : ℕ → G
               two : (a : Ω) → _≡_ {A = Ω × E} ((X j ((B a) .0)) .0, add ((X j ((B a) .0)) .1) ((B a) .1)) ((d h ((X j a) .0)) .0, add ((d h ((X j a) .0)) .1) ((X j a) .1))
               two a = sym (at-mul 𝓔 (X j) B a) ∙ column 𝓔 (F .past j (omega arith) jn h) a ∙ at-mul 𝓔 (d h) (X j) a
 
-              flip : (x y z : E) → add (add x y) z ≡ add (add x z) y
-              flip x y z = simp (𝓔 .assoc, 𝓔 .comm, lcomm 𝓔)
-
               point : (x : Ω′) → _≡_ {A = Ω′ × E} ((X′ j ((B′ x) .0)) .0, add ((X′ j ((B′ x) .0)) .1) ((B′ x) .1)) ((d′ (low h) ((X′ j x) .0)) .0, add ((d′ (low h) ((X′ j x) .0)) .1) ((X′ j x) .1))
               point x =
                   let a : Ω = base x in
@@ -167,7 +164,7 @@ module _ {G G⁺ : Type 0} {𝓖 : Mul G} {𝓖⁺ : Mul G⁺} {conj : ℕ → G
                     N .injective ((X′ j ((B′ x) .0)) .0) ((d′ (low h) ((X′ j x) .0)) .0)
                         (y .is-base ∙ ap (λ s. (X j s) .0) (b .is-base) ∙ ap (λ s. s .0) (two a) ∙ sym (v .is-base ∙ ap (λ s. (d h s) .0) (z .is-base)))
                         (y .is-number ∙ ap₂ (ν j ij jn) rb (b .is-number) ∙ sym (v .is-number ∙ z .is-number)) o,
-                    (ap₂ add (y .is-exponent ∙ ap₂ add (ap (λ s. (X j s) .1) (b .is-base)) (ap (c j ij jn) rb)) (b .is-exponent) ∙ flip _ _ _ ∙ ap (λ s. add s (c j ij jn (rep a))) (ap (λ s. s .1) (two a)) ∙ 𝓔 .assoc _ _ _
+                    (ap₂ add (y .is-exponent ∙ ap₂ add (ap (λ s. (X j s) .1) (b .is-base)) (ap (c j ij jn) rb)) (b .is-exponent) ∙ rcomm 𝓔 _ _ _ ∙ ap (λ s. add s (c j ij jn (rep a))) (ap (λ s. s .1) (two a)) ∙ 𝓔 .assoc _ _ _
                         ∙ sym (ap₂ add (v .is-exponent ∙ ap (λ s. (d h s) .1) (z .is-base)) (z .is-exponent))) o,
                   )
 

@@ -2,3 +2,4 @@
 pub mod Extension
 pub mod Stands
 pub mod Accepted
+pub mod Ready

@@ -1,6 +1,6 @@
 -- Laws of exponents and of their sums.
 --
---   idr, lcomm, negl, cancel, neg-of       what follows from the laws of an abelian group
+--   idr, lcomm, rcomm, negl, cancel, neg-of       what follows from the laws of an abelian group
 --   exchange, regroup                      sums of four terms in other orders
 --   total-zero, total-suc, total-ext, total-add, total-single, total-none      sums of many terms
 --   times-nil, times-add, times-mul, times-swap                                multiples
@@ -22,6 +22,9 @@ module _ {E : Type 0} (𝓔 : Exponents E) where
 
   pub lcomm : (x y z : E) → add x (add y z) ≡ add y (add x z)
   lcomm x y z = sym (𝓔 .assoc x y z) ∙ ap (λ s. add s z) (𝓔 .comm x y) ∙ 𝓔 .assoc y x z
+
+  pub rcomm : (x y z : E) → add (add x y) z ≡ add (add x z) y
+  rcomm x y z = 𝓔 .assoc x y z ∙ ap (add x) (𝓔 .comm y z) ∙ sym (𝓔 .assoc x z y)
 
   pub undo : (x y : E) → add (neg x) (add x y) ≡ y
   undo x y = sym (𝓔 .assoc _ _ _) ∙ ap (λ s. add s y) (negl x) ∙ 𝓔 .idl y

@@ -1,7 +1,7 @@
 -- Laws of the conditions of refusals 13 and 14.
 --
 --   twice, triangle, sum-within, number-within        the sum 1 + .. + j; a pair below twelve has a number below 78
---   product-zero, product-suc, product-mono     the product of primes
+--   product-zero, product-suc, product-order, product-mono     the product of primes
 --   product-turn, elements-turn, order-exceeds, order-within   a turn of the product and of the elements; the ceiling
 --   entry-high, entry-zero, entry-power, entry-commutator     an exponent, case by case
 --   p-power, p-commutator, pair-stray, pair-row     a line, by its p and its word
@@ -22,7 +22,7 @@ use lib.Dec.{ltb, leb, eqb}
 use borrow.Author.Count.{below-more}
 use borrow.Author.Tests.{lt-ltb, le-ltb, le-leb, lt-leb, eq-eqb, ne-eqb}
 use Rattle.definitions.specs.Lists.{sum, allBelow}
-use Rattle.definitions.specs.Presentation.{pairNumber, allowed, maxOrder}
+use Rattle.definitions.specs.Presentation.{Presentation, order, pairNumber, allowed, maxOrder}
 use Rattle.numbers.proofs.Bools.{cond-eq, cond-ne}
 use Rattle.numbers.proofs.Lists.{allBelow-intro, allBelow-fails, sum-mono}
 use Rattle.numbers.proofs.Sums.{sum-zero, sum-suc}
@@ -55,6 +55,13 @@ product-zero primes = refl
 pub product-suc : (primes : List ℕ) (n : ℕ) → product primes (suc n) ≡ getD primes n 0 * product primes n
 unfolding product
 product-suc primes n = refl
+
+-- the product of a presentation's primes is its order
+pub product-order : (P : Presentation) (primes : List ℕ) (n : ℕ) → ((j : ℕ) → j < n → getD primes j 0 ≡ P .p j) → (m : ℕ) → m ≤ n
+    → product primes m ≡ order P m
+unfolding order product
+product-order P primes n is zero l = refl
+product-order P primes n is (suc m) l = ap₂ (λ (a b : ℕ). a * b) (is m l) (product-order P primes n is m (omega arith))
 
 pub product-mono : (primes : List ℕ) (m n : ℕ) → m ≤ n → ((j : ℕ) → j < n → 0 < getD primes j 0) → product primes m ≤ product primes n
 product-mono primes m zero l h = subst (λ (k : ℕ). product primes k ≤ product primes 0) zero-is (omega arith)

@@ -27,7 +27,7 @@ use Rattle.presentation.specs.Rows.{noRow, rowText, AllLines, NoLines}
 use Rattle.presentation.specs.Conditions.{product, entryWell, rowWells, pairWell, allWell, Primes}
 use Rattle.presentation.specs.Outcome.{Holds, ReadText, Concluded}
 use Rattle.presentation.proofs.Primes.{not-prime-small}
-use Rattle.presentation.proofs.Conditions.{product-zero, product-suc, number-within}
+use Rattle.presentation.proofs.Conditions.{product-order, number-within}
 
 -- ---- Texts that are not in the form
 
@@ -59,14 +59,6 @@ allBelow-ext : (n : ℕ) (q r : ℕ → Bool) → ((k : ℕ) → k < n → q k �
 unfolding allBelow
 allBelow-ext zero q r h = refl
 allBelow-ext (suc n) q r h = ap₂ (λ (a b : Bool). a && b) (allBelow-ext n q r (λ k l. h k (omega arith))) (h n (omega arith))
-
-order-zero : (R : Relations) → order (presentation R) 0 ≡ 1
-unfolding order
-order-zero R = refl
-
-order-suc : (R : Relations) (m : ℕ) → order (presentation R) (suc m) ≡ rowOf R m m .p * order (presentation R) m
-unfolding order presentation
-order-suc R m = refl
 
 module _ {t : Bytes} {n next : ℕ} (nm : NamesLine t n next) {words : List (List ℕ)} {ps : List ℕ} {flag : Bool} (al : AllLines t next n words ps flag) where
   abbrev pub relationsOf : Relations
@@ -136,16 +128,15 @@ module _ {t : Bytes} {n next : ℕ} (nm : NamesLine t n next) {words : List (Lis
     unfolding rowOf
     word-is j i l m k b = al .stored .word-kept (pairNumber j i) (row-within j i l m) (row-kept j i l m) k b
 
-    order-is : (m : ℕ) → m ≤ n → order (presentation relationsOf) m ≡ product primes m
-    order-is zero l = order-zero relationsOf ∙ sym (product-zero primes)
-    order-is (suc m) l =
-        order-suc relationsOf m ∙ ap₂ (λ (a b : ℕ). a * b) (sym (prime-is m l)) (order-is m (omega arith)) ∙ sym (product-suc primes m)
+    order-is : order (presentation relationsOf) n ≡ product primes n
+    unfolding presentation
+    order-is = sym (product-order (presentation relationsOf) primes n prime-is n (omega arith))
 
     too-large : tooLarge relationsOf ≡ ltb maxOrder (product primes n)
     unfolding tooLarge maxGenerators
     too-large =
         ap (λ (b : Bool). b || ltb maxOrder (order (presentation relationsOf) n)) (le-ltb 12 n few)
-        ∙ ap (ltb maxOrder) (order-is n (omega arith))
+        ∙ ap (ltb maxOrder) order-is
 
     pair-is : (j i : ℕ) → j < n → i ≤ j → pairWell words ps primes n j i ≡ rowWell relationsOf j i
     unfolding pairWell rowWells rowWell presentation

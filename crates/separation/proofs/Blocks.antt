@@ -25,7 +25,7 @@ use Rattle.numbers.proofs.Iterates.{iter-out}
 use Rattle.monomial.specs.Exponents.{Exponents}
 use Rattle.monomial.specs.Maps.{Map, maps, Inverse}
 use Rattle.monomial.specs.Families.{Separated, Family}
-use Rattle.monomial.proofs.Exponents.{cancel, lcomm}
+use Rattle.monomial.proofs.Exponents.{cancel, lcomm, rcomm}
 use Rattle.monomial.proofs.Maps.{pair, column, at-mul, at-one, maps-laws, inverse-root, inverse-injective}
 use Rattle.clifford.specs.Extension.{Extension}
 use Rattle.separation.specs.Blocked.{Blocked}
@@ -218,13 +218,10 @@ module _ {G G⁺ : Type 0} {𝓖 : Mul G} {𝓖⁺ : Mul G⁺} {conj : ℕ → G
       let line-x : add ((Z x′) .1) t ≡ add v ((Z x) .1) = at-image x x′ h g fg e in
       let line-y : add ((Z y′) .1) t ≡ add v ((Z y) .1)
       = ap (λ a. add ((Z y′) .1) ((F .d h a) .1)) q ∙ at-image y y′ h g fg ey ∙ ap (λ a. add ((F .d g a) .1) ((Z y) .1)) (sym (base-step x y q)) in
-      cancel 𝓔 t _ _ (move t ((Z x′) .1) ((Z y) .1) ∙ ap (λ z. add z ((Z y) .1)) line-x ∙ swap v ((Z x) .1) ((Z y) .1) ∙ ap (λ z. add z ((Z x) .1)) (sym line-y) ∙ sym (move t ((Z y′) .1) ((Z x) .1)))
+      cancel 𝓔 t _ _ (move t ((Z x′) .1) ((Z y) .1) ∙ ap (λ z. add z ((Z y) .1)) line-x ∙ rcomm 𝓔 v ((Z x) .1) ((Z y) .1) ∙ ap (λ z. add z ((Z x) .1)) (sym line-y) ∙ sym (move t ((Z y′) .1) ((Z x) .1)))
     where
       move : (t a b : E) → add t (add a b) ≡ add (add a t) b
       move t a b = simp (𝓔 .assoc, 𝓔 .comm, lcomm 𝓔)
-
-      swap : (v a b : E) → add (add v a) b ≡ add (add v b) a
-      swap v a b = simp (𝓔 .assoc, 𝓔 .comm, lcomm 𝓔)
 
       at-image : (x x′ : Ω⁺) (h g : G) → f g ≡ h → (l h x) .0 ≡ x′ → add ((Z x′) .1) ((F .d h (base x)) .1) ≡ add ((F .d g (base ((Z x) .0))) .1) ((Z x) .1)
       at-image x x′ h g fg e =

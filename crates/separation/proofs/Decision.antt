@@ -1,4 +1,4 @@
--- Where 21 to 24 hold on two levels and the lower passes 25, the upper passes 25 exactly if the quick test passes.
+-- Where 21 to 23 hold on two levels and the lower passes 25, the upper passes 25 exactly if the quick test passes.
 --
 --   quick-separates       the quick test gives 25
 --   separates-quick       25 gives the quick test

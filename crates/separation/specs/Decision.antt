@@ -1,4 +1,4 @@
--- What decides 25 on level suc i of a table, where 21 to 24 hold and level i passes 25: no product is formed.
+-- What decides 25 on level suc i of a table, where 21 to 23 hold and level i passes 25: no product is formed.
 --
 --   blockCount r       how many blocks representation r has
 --   outside r          generator i takes column 0 out of its block
