@@ -1,2 +1,2 @@
 -- Proofs that belong to no one function.
-pub mod Within  -- what a finished call counts stands within the buffer
+pub mod Calls  -- from the answers of the two calls to that of the program
