@@ -15,7 +15,7 @@ const WORDS: usize = 8192;
 // Bytes of the text of so many lines, at most: 34 for the line of names, and for a line 80, eight values of nine digits.
 const ROOM: usize = 34 + 80 * (WORDS / 8);
 
-// Writes the text of the table that a text asks for: 11 to 16, or 0 and the count of bytes.
+// Writes the text of the table that a presentation text asks for: the number of a refusal, or 0 and the count of bytes.
 fn tabulate(text: &[u8], out: &mut [u8]) -> Counted
     ensures { λ r. ⌜ Tabulated (now (text .entry)) (length (now (out .entry))) (r .answer) (take (r .count) (now (out .exit))) ⌝ }
     ensures { λ r. ⌜ Counts (r .count) (now (out .exit)) ⌝ }
@@ -35,7 +35,7 @@ fn print_answer(number: u32) {
     io::write_all(STDOUT_FILENO, b"\n");
 }
 
-// Prints the table that a text asks for.
+// Prints the table that a presentation text asks for, or the answer of a refusal.
 fn print_table(text: &[u8]) {
     let mut out = [0u8; ROOM];
     let written = tabulate(text, &mut out);

@@ -1,4 +1,4 @@
--- `tabulate` meets its contract.
+-- `tabulate` meets its contract: the words that are written as text are those of the table, and no more.
 use mathlib.Core.Path.{sym}
 use Prim.Native.Nat.{ℕ}
 use native.Mathlib.Omega.{arith}
