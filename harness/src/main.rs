@@ -1,7 +1,9 @@
-//! Calls the static library: answers presentation texts, writes and reads table texts, and measures how long that takes.
+//! Calls the static library: answers presentation texts, builds their tables, writes and reads table texts, and measures
+//! how long that takes.
 //!
 //!     harness answers FILE..    the answer to each text
 //!     harness times FILE..      the answer, and the time of a call in microseconds: of the text, and of reading it alone
+//!     harness builds FILE..     the answer, the lines of the table, and the time of a call, beside that of a plain copy
 //!     harness tables LINES..    so many lines written as table text and read back: the bytes, and the median times
 //!
 //! Build: `rustc -O harness/src/main.rs -L native=target/staticlib -l static=chieftables -o target/harness`
@@ -12,6 +14,9 @@ use std::time::{Duration, Instant};
 extern "C" {
     /// The number that a presentation text is refused with, or 0. It reads `length` bytes from `text` on.
     fn chieftables_accept(text: *const u8, length: usize) -> u32;
+
+    /// Builds the table of a presentation text in `have` words from `words` on: the answer, and the count of lines.
+    fn chieftables_build(text: *const u8, length: usize, words: *mut u32, have: usize) -> Counted;
 
     /// Reads table text into `have` words from `words` on: the answer, and the count of lines.
     fn chieftables_read_table(text: *const u8, length: usize, words: *mut u32, have: usize) -> Counted;
@@ -27,8 +32,13 @@ struct Counted {
     count: usize,
 }
 
-fn read_table(text: &[u8], words: &mut [u32]) -> Counted {
+fn build(text: &[u8], words: &mut [u32]) -> Counted {
     // the library reads and writes nothing outside the slices: that is proved of it
+    unsafe { chieftables_build(text.as_ptr(), text.len(), words.as_mut_ptr(), words.len()) }
+}
+
+fn read_table(text: &[u8], words: &mut [u32]) -> Counted {
+    // likewise
     unsafe { chieftables_read_table(text.as_ptr(), text.len(), words.as_mut_ptr(), words.len()) }
 }
 
@@ -47,22 +57,22 @@ const SAMPLES: usize = 101;
 const SAMPLE: Duration = Duration::from_millis(2);
 
 /// How long `count` calls take.
-fn calls(text: &[u8], count: u32) -> Duration {
+fn calls<T>(call: &mut impl FnMut() -> T, count: u32) -> Duration {
     let start = Instant::now();
     for _ in 0..count {
-        black_box(accept(black_box(text)));
+        black_box(call());
     }
     start.elapsed()
 }
 
 /// The median time of a call, in microseconds.
-fn median(text: &[u8]) -> f64 {
+fn median<T>(mut call: impl FnMut() -> T) -> f64 {
     let mut count = 1;
-    while calls(text, count) < SAMPLE {
+    while calls(&mut call, count) < SAMPLE {
         count *= 2;
     }
     let mut times: Vec<f64> = (0..SAMPLES)
-        .map(|_| calls(text, count).as_secs_f64() * 1e6 / f64::from(count))
+        .map(|_| calls(&mut call, count).as_secs_f64() * 1e6 / f64::from(count))
         .collect();
     times.sort_by(f64::total_cmp);
     times[SAMPLES / 2]
@@ -105,6 +115,39 @@ fn table(lines: usize) {
     println!("{lines} lines, {} bytes: read {reading:.1}, written {writing:.1}", text.len());
 }
 
+/// Words of a line, and those that the largest build wants.
+const LINE: usize = 8;
+const WORDS: usize = 786_240;
+
+/// Writes lines again from a copy of them. Each is made as a builder makes it from a line of the level below: `up` is added
+/// to the row and `more` to the exponent, modulo `order`, and eight words are stored.
+fn copy(lines: &[u32], up: u32, more: u32, order: u32, words: &mut [u32]) {
+    for (from, to) in lines.chunks_exact(LINE).zip(words.chunks_exact_mut(LINE)) {
+        let sum = from[7] + more;
+        let exponent = if sum < order { sum } else { sum - order };
+        to.copy_from_slice(&[from[0], from[1], from[2], from[3], from[4], from[5], from[6] + up, exponent]);
+    }
+}
+
+/// Builds the table of a text, and times that and the copy.
+fn built(text: &[u8], path: &str) {
+    let mut words = vec![7u32; WORDS];
+    let Counted { answer, count } = build(text, &mut words);
+    let size = LINE * count;
+    assert!(words[size..].iter().all(|&word| word == 7));
+    let building = median(|| build(black_box(text), &mut words));
+    print!("{answer:2} {count:6} lines: built {building:.2} us");
+    if size > 0 {
+        let lines = words[..size].to_vec();
+        let copying = median(|| copy(black_box(&lines), black_box(0), black_box(0), black_box(u32::MAX), &mut words));
+        assert!(words[..size] == lines);
+        let word = |time: f64| time * 1e3 / size as f64;
+        print!(", {:.2} ns a word; the same lines copied by a loop in Rust", word(building));
+        print!(" {copying:.2} us, {:.2} ns a word", word(copying));
+    }
+    println!("; {path}");
+}
+
 fn main() {
     let mut arguments = std::env::args().skip(1);
     let command = arguments.next().unwrap_or_default();
@@ -119,11 +162,12 @@ fn main() {
             "answers" => println!("{answer} {path}"),
             "times" => {
                 let read = misused(&text);
-                let reading = if accept(&read) == 14 { median(&read) } else { f64::NAN };
-                println!("{answer:2} {:10.2} {reading:10.2} {path}", median(&text));
+                let reading = if accept(&read) == 14 { median(|| accept(black_box(&read))) } else { f64::NAN };
+                println!("{answer:2} {:10.2} {reading:10.2} {path}", median(|| accept(black_box(&text))));
             }
+            "builds" => built(&text, &path),
             _ => {
-                eprintln!("usage: harness answers|times FILE.., or harness tables LINES..");
+                eprintln!("usage: harness answers|times|builds FILE.., or harness tables LINES..");
                 return;
             }
         }

@@ -1,0 +1,56 @@
+-- `tabulate` meets its contract: the words that are written as text are those of the table, and no more.
+use mathlib.Core.Path.{sym}
+use Prim.Native.Nat.{ℕ}
+use native.Mathlib.Omega.{arith}
+use lib.ListN.{length, length-replicate}
+use lib.Seq.{length-take-le}
+use borrow.Author.Needs.{needs}
+use Rattle.reptable.proofs.Calls.{lines-within, refused, written}
+use Rattle.reptable.proofs.tabulate.Statement.{statement}
+use Rattle.reptable.proofs.tabulate.Tie as tie
+
+slice-aggregate-build : tie.Need-slice-aggregate-build
+slice-aggregate-build c = search needs
+
+build-requires : tie.Need-build-requires
+build-requires c κs = search needs
+
+returns : tie.Need-returns
+returns c =
+    let z = c .before .before .before .before .before .before .before in
+    refused (length (z .args .out .now)) (z .args .out .now) (length-replicate {0} {A = ℕ} 8192 0) (c .if1 .taken) (c .before .before .before .build .ensures)
+
+mul-words : tie.Need-mul-words
+mul-words c = omega (arith, lines-within (c .if1 .left) (c .before .before .before .build .ensures))
+
+array-share-prefix-words : tie.Need-array-share-prefix-words
+array-share-prefix-words c = omega (arith, lines-within (c .if1 .left) (c .before .before .before .build .ensures))
+
+slice-aggregate-write-table : tie.Need-slice-aggregate-write-table
+slice-aggregate-write-table c = sym (length-take-le _ _ (omega (arith, lines-within (c .before .if1 .left) (c .before .before .before .before .build .ensures))))
+
+write-table-requires : tie.Need-write-table-requires
+write-table-requires c κs = search needs
+
+same-length : tie.Need-same-length
+same-length c = search needs
+
+returns-2 : tie.Need-returns-2
+returns-2 c =
+    let w = c .before .before in
+    let e = w .before .before .before in
+    written (length-replicate {0} {A = ℕ} 8192 0) (e .if1 .left) (e .before .before .before .build .ensures) (w .write-table .ensures)
+
+pub tabulate-spec : {M : Type 1} → statement M
+tabulate-spec =
+    tie.close
+    (tie.spec
+    slice-aggregate-build
+    build-requires
+    returns
+    mul-words
+    array-share-prefix-words
+    slice-aggregate-write-table
+    write-table-requires
+    same-length
+    returns-2)

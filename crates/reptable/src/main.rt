@@ -1,0 +1,73 @@
+// Writes the table of the presentation text in the file group.txt to the standard output: the table text, or the line
+// `answer` and a line with the number of the refusal.
+use chieftables::counted::Counted;
+use libc::STDOUT_FILENO;
+ghost use lib.ListN.{length, take};
+ghost use Rattle.io.specs.Counts.{Counts};
+ghost use Rattle.reptable.specs.Tabulated.{Tabulated};
+
+// Bytes of a presentation text, at most.
+const TEXT: usize = 4096;
+
+// Words that are lent to the build: those of 1,024 lines.
+const WORDS: usize = 8192;
+
+// Bytes of the text of so many lines, at most: 34 for the line of names, and for a line 80, eight values of nine digits.
+const ROOM: usize = 34 + 80 * (WORDS / 8);
+
+// Writes the text of the table that a presentation text asks for: the number of a refusal, or 0 and the count of bytes.
+fn tabulate(text: &[u8], out: &mut [u8]) -> Counted
+    ensures { λ r. ⌜ Tabulated (now (text .entry)) (length (now (out .entry))) (r .answer) (take (r .count) (now (out .exit))) ⌝ }
+    ensures { λ r. ⌜ Counts (r .count) (now (out .exit)) ⌝ }
+{
+    let mut words = [0u32; WORDS];
+    let built = chieftables::build::build(text, &mut words);
+    if built.answer != 0 {
+        return built;
+    }
+    let count = built.count;
+    chieftables::write_table::write_table(&words[..8 * count], out)
+}
+
+fn print_answer(number: u32) {
+    io::write_all(STDOUT_FILENO, b"answer\n");
+    io::print_decimal(STDOUT_FILENO, number as u64);
+    io::write_all(STDOUT_FILENO, b"\n");
+}
+
+// Prints the table that a presentation text asks for, or the answer of a refusal.
+fn print_table(text: &[u8]) {
+    let mut out = [0u8; ROOM];
+    let written = tabulate(text, &mut out);
+    let number = written.answer;
+    if number != 0 {
+        print_answer(number);
+        return;
+    }
+    let count = written.count;
+    io::write_all(STDOUT_FILENO, &out[..count]);
+}
+
+// Reads the start of group.txt, and answers how many bytes came: none from a file that is missing or cannot be read.
+fn read_group(text: &mut [u8]) -> usize
+    ensures { λ r. ⌜ Counts r (now (text .exit)) ⌝ }
+{
+    let fd = os::open_read(b"group.txt");
+    if fd < 0 {
+        return 0;
+    }
+    let count = io::read_full(fd, text);
+    libc::close(fd);
+    count
+}
+
+// One byte more is read than a text may have, so that a longer file is seen.
+fn main() {
+    let mut text = [0u8; TEXT + 1];
+    let count = read_group(&mut text);
+    if count > TEXT {
+        print_answer(11);
+        return;
+    }
+    print_table(&text[..count]);
+}
