@@ -4,7 +4,7 @@
 --   pair-power, pair-commutator    pair numbers as the code finds them
 --   same-none, same-more, same-differs    the comparison of two rows from the top down
 --   generator-row, generator-is    the row of a generator, and the normal form that it says
---   remaining-all, remaining-period    the turns that are left
+--   remaining-period               the turns that are left
 --   empty-is                       a row that is compared with zeros
 --   stays-zero, stays-word         an exponent that stays
 use mathlib.Core.Path.{_≡_, refl, sym, _∙_, ap, ap₂, subst}
@@ -90,9 +90,6 @@ generator-is (suc i) k r g = go (generator-is i k r g) (ℕ-discrete k i)
     go h (no q) = ap₂ (λ s t. (s, t)) (g .at i ∙ cond-ne i k 1 0 (λ e. q (sym e))) h ∙ sym (cond-ne k i (1, trivial i) (0, generator i k) q)
 
 -- ---- Turns of a map
-
-pub remaining-all : (k : ℕ) (x c : List ℕ) (n left : ℕ) → Remaining k x c n left left
-remaining-all k x c n left = record { less = omega arith; leads = λ f h. refl }
 
 pub remaining-period : (k : ℕ) (x c : List ℕ) (n left : ℕ) → 0 < n → sameForm k (toNF k x) (toNF k c) ≡ true → Remaining k x c n left (left % n)
 remaining-period k x c n left l s = record {

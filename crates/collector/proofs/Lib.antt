@@ -1,5 +1,6 @@
 -- Laws that the proofs of the functions cite.
 pub mod Laws
+pub mod Skips
 pub mod Steps
 pub mod Values
 pub mod Answers

@@ -1,34 +1,40 @@
 -- The steps of product and conjugation: what each call and each turn of a loop adds to what is known.
 --
 --   small-below, ready-below, reads-below      what holds of m generators holds of fewer
---   Turning, turning-start, turning-more       the loop of product: conjugates of the lower part, turn after turn
---   product-zero, product-left, product-right  level 0; a trivial factor
+--   Turning, turning-start, turning-more       conjugates, turn after turn
+--   turned-done, turned-fixed                  when no turn is left; where conjugation fixes the form
+--   product-up, product-none                   the exponents above those of the right factor stay; where it has none
 --   product-low, product-high                  no carry; a carry
---   powering-start, powering-more    the loop of conjugation: powers of the image of a generator
---   conjugate-zero, conjugate-stays, conjugate-moves    level 0; the exponent stays; the general step
+--   powering-start, powering-more, power-once  powers, one after another; the first
+--   power-lowest                               powers of a form of the lowest generator alone
+--   conjugate-up, conjugate-none               exponents that stay; where all stay
+--   image-low, image-high                      the conjugate of a generator: no carry; a carry
+--   conjugate-moves, lower-small               the general step; the lower part, with exponent 0 on top
 use mathlib.Core.Path.{_≡_, refl, sym, _∙_, ap, ap₂, subst}
-use mathlib.Core.Bool.{true, _||_}
+use mathlib.Core.Bool.{true}
 use mathlib.Core.List.{List, []}
-use Prim.Native.Nat.{ℕ, suc, _+_, _-_, _≤_, _<_}
+use Prim.Native.Nat.{ℕ, zero, suc, _+_, _*_, _%_, _-_, _≤_, _<_}
+use native.Mathlib.Nat.{mul-zero, zero-mod, mod-lt, mod-eq-of-lt, mod-eq-sub-mod, add-mod-mod}
 use native.Mathlib.Numerals.{add-one}
 use native.Mathlib.Omega.{arith}
-use native.Mathlib.Decide.{ℕ-discrete}
+use native.Mathlib.Decide.{decLt, ℕ-discrete}
 use lib.Dec.{eqb}
 use lib.ListN.{length, getD, set, replicate}
 use lib.Seq.{getD-set-same, getD-set-other}
 use borrow.Author.Tests.{eqb-true}
 use Rattle.definitions.specs.Lists.{iter}
 use Rattle.definitions.specs.Presentation.{toNF, trivial, Valid, power, pairNumber}
-use Rattle.definitions.specs.Consistency.{mul, conj, forms, sameForm}
+use Rattle.definitions.specs.Consistency.{mulStep, mul, conj, forms, sameForm}
 use Rattle.numbers.proofs.Bools.{or-cases, OneOf, first, second, cond-eq, cond-ne}
-use Rattle.numbers.proofs.Lists.{below-suc, iter-zero, iter-suc, iter-add}
+use Rattle.numbers.proofs.Lists.{below-suc, iter-zero, iter-suc, iter-add, iter-fix}
 use Rattle.group.specs.Context.{Context}
 use Rattle.group.proofs.Values.{power-zero, power-suc}
-use Rattle.group.proofs.Clauses.{mulStep-below, mulStep-over, mul-suc, conj-suc, generator-top, sameForm-eq}
-use Rattle.group.proofs.Units.{mul-trivial-left, mul-trivial-right, conj-empty, conj-zero}
-use Rattle.group.proofs.Rows.{toNF-suc, toNF-set-top, toNF-trivial, toNF-valid}
-use Rattle.collector.specs.Rows.{Small, Ready, Reads, Generator, Product, Conjugate, Remaining, Power}
-use Rattle.collector.proofs.Laws.{zeros, generator-is}
+use Rattle.group.proofs.Clauses.{mulStep-below, mulStep-over, mul-suc, conj-suc, sameForm-eq}
+use Rattle.group.proofs.Units.{mul-trivial-right, mul-top-below, mul-top-over, conj-empty, conj-zero}
+use Rattle.group.proofs.Rows.{toNF-suc, toNF-ext, toNF-set-top, toNF-trivial, toNF-valid}
+use Rattle.collector.specs.Rows.{Small, Ready, Reads, Generator, Lowest, Top, Stacked, keeps, Moved, Product, Image, Conjugate, Remaining, Power, Turned}
+use Rattle.collector.proofs.Laws.{zeros}
+use Rattle.collector.proofs.Skips.{climb, lowest-row}
 
 -- ---- Fewer generators
 
@@ -92,51 +98,89 @@ module _ (k b : ℕ) (ps : List ℕ) (ws : List (List ℕ)) (x : List ℕ) where
       more C R = let e : suc (left - 1) ≡ left = omega arith in
           ap (iter (conj (C .P) k k) (left - 1)) (q .is C R) ∙ sym (iter-suc (conj (C .P) k k) (left - 1) (toNF k c)) ∙ ap (λ m. iter (conj (C .P) k k) m (toNF k c)) e ∙ t .is C R .1
 
-  module _ (y c z : List ℕ) (n left : ℕ) (e : b ≡ getD y k 0) (over : left ≡ 0) (t : Turning k b ps ws x c n left) (q : Product k ps ws c y z) where
-    rest-is : (C : Context) → Reads C (suc k) ps ws → toNF k z ≡ mul (C .P) k (iter (conj (C .P) k k) (getD y k 0) (toNF k x)) (toNF k y)
-    rest-is C R = q .is C (reads-below C k (suc k) ps ws (omega arith) R) ∙ ap (λ s. mul (C .P) k s (toNF k y))
-        (sym (iter-zero (conj (C .P) k k) (toNF k c)) ∙ ap (λ m. iter (conj (C .P) k k) m (toNF k c)) (sym over) ∙ t .is C R .1 ∙ ap (λ m. iter (conj (C .P) k k) m (toNF k x)) e)
-
-    pub product-low : k < length z → getD x k 0 + b < getD ps k 0 → Product (suc k) ps ws x y (set z k (getD x k 0 + b))
-    product-low l h = record { small = small-set k ps z _ l (q .small) h; is = equal }
-      where
-        equal : (C : Context) → Reads C (suc k) ps ws → toNF (suc k) (set z k (getD x k 0 + b)) ≡ mul (C .P) (suc k) (toNF (suc k) x) (toNF (suc k) y)
-        equal C R =
-            let w : getD x k 0 + getD y k 0 < C .P .p k = omega (arith, R .p-is k (omega arith)) in
-            toNF-set-top k z _ l ∙ ap₂ (λ s t. (s, t)) (ap (λ s. getD x k 0 + s) e) (rest-is C R)
-            ∙ sym (mulStep-below (C .P .p k) (mul (C .P) k) (conj (C .P) k k) (C .P .u k) (getD x k 0, toNF k x) (getD y k 0, toNF k y) w)
-            ∙ sym (mul-suc (C .P) k _ _) ∙ ap₂ (mul (C .P) (suc k)) (sym (toNF-suc k x)) (sym (toNF-suc k y))
-
-    pub product-high : (u v : List ℕ) → u ≡ getD ws (pairNumber k k) [] → Product k ps ws u z v → k < length v → getD ps k 0 ≤ getD x k 0 + b → getD x k 0 + b - getD ps k 0 < getD ps k 0
-        → Product (suc k) ps ws x y (set v k (getD x k 0 + b - getD ps k 0))
-    product-high u v ue qv l h s = record { small = small-set k ps v _ l (qv .small) s; is = equal }
-      where
-        equal : (C : Context) → Reads C (suc k) ps ws → toNF (suc k) (set v k (getD x k 0 + b - getD ps k 0)) ≡ mul (C .P) (suc k) (toNF (suc k) x) (toNF (suc k) y)
-        equal C R =
-            let w : C .P .p k ≤ getD x k 0 + getD y k 0 = omega (arith, R .p-is k (omega arith)) in
-            let a : getD x k 0 + b - getD ps k 0 ≡ getD x k 0 + getD y k 0 - C .P .p k = omega (arith, R .p-is k (omega arith)) in
-            toNF-set-top k v _ l ∙ ap₂ (λ s t. (s, t)) a (qv .is C (reads-below C k (suc k) ps ws (omega arith) R)
-            ∙ ap₂ (mul (C .P) k) (ap (toNF k) ue ∙ R .u-is k (omega arith)) (rest-is C R))
-            ∙ sym (mulStep-over (C .P .p k) (mul (C .P) k) (conj (C .P) k k) (C .P .u k) (getD x k 0, toNF k x) (getD y k 0, toNF k y) w)
-            ∙ sym (mul-suc (C .P) k _ _) ∙ ap₂ (mul (C .P) (suc k)) (sym (toNF-suc k x)) (sym (toNF-suc k y))
-
-pub product-zero : (i : ℕ) (ps : List ℕ) (ws : List (List ℕ)) (x y : List ℕ) → i ≡ 0 → Product i ps ws x y x
-product-zero i ps ws x y e = subst (λ i. Product i ps ws x y x) (sym e) (record { small = record { below = λ k l. absurd (omega arith) }; is = λ C R. refl })
-
-module _ (i : ℕ) (ps : List ℕ) (ws : List (List ℕ)) (x y : List ℕ) where
-  pub product-left : sameForm i (toNF i x) (trivial i) ≡ true → Small i ps y → Product i ps ws x y y
-  product-left e s = record {
-    small = s;
-    is = λ C R. sym (ap (λ t. mul (C .P) i t (toNF i y)) (sameForm-eq i _ _ e) ∙ mul-trivial-left C i (toNF i y) (small-valid C i i ps ws y R (omega arith) s));
+  pub turned-done : (c : List ℕ) (n left : ℕ) → left ≡ 0 → Turning k b ps ws x c n left → Turned k b ps ws x c
+  turned-done c n left e t = record {
+    small = t .small;
+    is = λ C R. sym (iter-zero (conj (C .P) k k) (toNF k c)) ∙ ap (λ m. iter (conj (C .P) k k) m (toNF k c)) (sym e) ∙ t .is C R .1;
   }
 
-  pub product-right : sameForm i (toNF i y) (trivial i) ≡ true → Small i ps x → Product i ps ws x y x
-  product-right e s = record {
-    small = s;
-    is = λ C R. sym (ap (mul (C .P) i (toNF i x)) (sameForm-eq i _ _ e) ∙ mul-trivial-right C i (toNF i x) (small-valid C i i ps ws x R (omega arith) s));
+  -- a form that conjugation fixes
+  pub turned-fixed : Conjugate k k ps ws x x → Turned k b ps ws x x
+  turned-fixed q = record { small = q .small; is = λ C R. sym (iter-fix (conj (C .P) k k) (toNF k x) (sym (q .is C R)) b) }
+
+-- the form of a row of two
+stacked-is : (k : ℕ) (low high : List ℕ) (s : ℕ) (r : List ℕ) → Stacked k low high s r → toNF (suc k) r ≡ (s, toNF k low)
+stacked-is k low high s r t = toNF-suc k r ∙ ap₂ (λ a b. (a, b)) (t .at) (toNF-ext k r low (t .below))
+
+stacked-small : (k : ℕ) (ps low high : List ℕ) (s : ℕ) (r : List ℕ) → Stacked k low high s r → Small k ps low → s < getD ps k 0 → Small (suc k) ps r
+stacked-small k ps low high s r t q l = record {
+  below = below-suc k (λ m. getD r m 0 < getD ps m 0) (λ m a. subst (λ v. v < getD ps m 0) (sym (t .below m a)) (q .below m a)) (subst (λ v. v < getD ps k 0) (sym (t .at)) l);
+}
+
+module _ (k b : ℕ) (ps : List ℕ) (ws : List (List ℕ)) (x y c z : List ℕ) (e : b ≡ getD y k 0) (t : Turned k b ps ws x c) (q : Product k ps ws c y z) where
+  rest-is : (C : Context) → Reads C (suc k) ps ws → toNF k z ≡ mul (C .P) k (iter (conj (C .P) k k) (getD y k 0) (toNF k x)) (toNF k y)
+  rest-is C R = q .is C (reads-below C k (suc k) ps ws (omega arith) R) ∙ ap (λ s. mul (C .P) k s (toNF k y)) (t .is C R ∙ ap (λ m. iter (conj (C .P) k k) m (toNF k x)) e)
+
+  pub product-low : (r : List ℕ) → Stacked k z x (getD x k 0 + b) r → getD x k 0 + b < getD ps k 0 → Product (suc k) ps ws x y r
+  product-low r st h = record { small = stacked-small k ps z x _ r st (q .small) h; is = equal }
+    where
+      equal : (C : Context) → Reads C (suc k) ps ws → toNF (suc k) r ≡ mul (C .P) (suc k) (toNF (suc k) x) (toNF (suc k) y)
+      equal C R =
+          let w : getD x k 0 + getD y k 0 < C .P .p k = omega (arith, R .p-is k (omega arith)) in
+          stacked-is k z x _ r st ∙ ap₂ (λ s t. (s, t)) (ap (λ s. getD x k 0 + s) e) (rest-is C R)
+          ∙ sym (mulStep-below (C .P .p k) (mul (C .P) k) (conj (C .P) k k) (C .P .u k) (getD x k 0, toNF k x) (getD y k 0, toNF k y) w)
+          ∙ sym (mul-suc (C .P) k _ _) ∙ ap₂ (mul (C .P) (suc k)) (sym (toNF-suc k x)) (sym (toNF-suc k y))
+
+  pub product-high : (u v r : List ℕ) → u ≡ getD ws (pairNumber k k) [] → Product k ps ws u z v → Stacked k v x (getD x k 0 + b - getD ps k 0) r → getD ps k 0 ≤ getD x k 0 + b
+      → getD x k 0 + b - getD ps k 0 < getD ps k 0 → Product (suc k) ps ws x y r
+  product-high u v r ue qv st h s = record { small = stacked-small k ps v x _ r st (qv .small) s; is = equal }
+    where
+      equal : (C : Context) → Reads C (suc k) ps ws → toNF (suc k) r ≡ mul (C .P) (suc k) (toNF (suc k) x) (toNF (suc k) y)
+      equal C R =
+          let w : C .P .p k ≤ getD x k 0 + getD y k 0 = omega (arith, R .p-is k (omega arith)) in
+          let a : getD x k 0 + b - getD ps k 0 ≡ getD x k 0 + getD y k 0 - C .P .p k = omega (arith, R .p-is k (omega arith)) in
+          stacked-is k v x _ r st ∙ ap₂ (λ s t. (s, t)) a (qv .is C (reads-below C k (suc k) ps ws (omega arith) R)
+          ∙ ap₂ (mul (C .P) k) (ap (toNF k) ue ∙ R .u-is k (omega arith)) (rest-is C R))
+          ∙ sym (mulStep-over (C .P .p k) (mul (C .P) k) (conj (C .P) k k) (C .P .u k) (getD x k 0, toNF k x) (getD y k 0, toNF k y) w)
+          ∙ sym (mul-suc (C .P) k _ _) ∙ ap₂ (mul (C .P) (suc k)) (sym (toNF-suc k x)) (sym (toNF-suc k y))
+
+-- above the exponents of y, those of x stay
+module _ (ps : List ℕ) (ws : List (List ℕ)) (x y r : List ℕ) where
+  product-step : (i : ℕ) → getD y i 0 ≡ 0 → getD r i 0 ≡ getD x i 0 → getD x i 0 < getD ps i 0 → Product i ps ws x y r → Product (suc i) ps ws x y r
+  product-step i ye re l q = record {
+    small = record { below = below-suc i (λ m. getD r m 0 < getD ps m 0) (q .small .below) (subst (λ v. v < getD ps i 0) (sym re) l) };
+    is = λ C R.
+        let w : getD x i 0 + 0 < C .P .p i = omega (arith, R .p-is i (omega arith)) in
+        let z : getD x i 0 + 0 ≡ getD x i 0 = omega arith in
+        toNF-suc i r ∙ ap₂ (λ s t. (s, t)) (re ∙ sym z) (q .is C (reads-below C i (suc i) ps ws (omega arith) R)
+        ∙ ap (λ s. mul (C .P) i s (toNF i y)) (sym (iter-zero (conj (C .P) i i) (toNF i x))))
+        ∙ sym (mulStep-below (C .P .p i) (mul (C .P) i) (conj (C .P) i i) (C .P .u i) (getD x i 0, toNF i x) (0, toNF i y) w)
+        ∙ sym (mul-suc (C .P) i _ _) ∙ ap₂ (mul (C .P) (suc i)) (sym (toNF-suc i x)) (sym (toNF-suc i y ∙ ap (λ s. (s, toNF i y)) ye));
   }
 
--- ---- Conjugation
+  pub product-up : (m i : ℕ) → Top i y m → ((k : ℕ) → m ≤ k → k < i → getD r k 0 ≡ getD x k 0) → Small i ps x → Product m ps ws x y r → Product i ps ws x y r
+  product-up m i t re sx = climb (λ k. Product k ps ws x y r) m i (t .less) (λ k a b. product-step k (t .rest k a b) (re k a b) (sx .below k b))
+
+-- no exponent in y
+pub product-none : (i : ℕ) (ps : List ℕ) (ws : List (List ℕ)) (x y : List ℕ) → Top i y 0 → Small i ps x → Product i ps ws x y x
+product-none i ps ws x y t sx = product-up ps ws x y x 0 i t (λ k a b. refl) sx (record { small = record { below = λ k l. absurd (omega arith) }; is = λ C R. refl })
+
+-- the highest exponent of y is below m
+module _ (i m : ℕ) (ps : List ℕ) (ws : List (List ℕ)) (x y c z : List ℕ) (pos : 0 < m) (over : Top i y m) (sx : Small i ps x)
+    (t : Turned (m - 1) (getD y (m - 1) 0) ps ws x c) (q : Product (m - 1) ps ws c y z) where
+  raised : (low r : List ℕ) (s : ℕ) → Stacked (m - 1) low x s r → Product (suc (m - 1)) ps ws x y r → Product i ps ws x y r
+  raised low r s st a = let level : suc (m - 1) ≡ m = omega arith in
+      product-up ps ws x y r m i over (λ k b l. st .above k (omega arith)) sx (subst (λ n. Product n ps ws x y r) level a)
+
+  pub product-low-at : (r : List ℕ) → Stacked (m - 1) z x (getD x (m - 1) 0 + getD y (m - 1) 0) r → getD x (m - 1) 0 + getD y (m - 1) 0 < getD ps (m - 1) 0 → Product i ps ws x y r
+  product-low-at r st h = raised z r _ st (product-low (m - 1) _ ps ws x y c z refl t q r st h)
+
+  pub product-high-at : (u v r : List ℕ) → u ≡ getD ws (pairNumber (m - 1) (m - 1)) [] → Product (m - 1) ps ws u z v
+      → Stacked (m - 1) v x (getD x (m - 1) 0 + getD y (m - 1) 0 - getD ps (m - 1) 0) r → getD ps (m - 1) 0 ≤ getD x (m - 1) 0 + getD y (m - 1) 0 → Small i ps y → Product i ps ws x y r
+  product-high-at u v r ue qv st h sy = raised v r _ st (product-high (m - 1) _ ps ws x y c z refl t q u v r ue qv st h
+      (omega (arith, over .less, sx .below (m - 1) (omega (arith, over .less)), sy .below (m - 1) (omega (arith, over .less)))))
+
+-- ---- Powers
 
 module _ (k : ℕ) (ps : List ℕ) (ws : List (List ℕ)) (h : List ℕ) where
   pub powering-start : Ready k ps ws → Power k ps ws h (replicate 12 0) 0
@@ -148,71 +192,163 @@ module _ (k : ℕ) (ps : List ℕ) (ws : List (List ℕ)) (h : List ℕ) where
     is = λ C R. q .is C R ∙ ap (mul (C .P) k (toNF k h)) (t .is C R) ∙ sym (power-suc (forms (C .P) k) (toNF k h) n) ∙ ap (power (forms (C .P) k) (toNF k h)) (sym (add-one n));
   }
 
-pub conjugate-zero : (k j : ℕ) (ps : List ℕ) (ws : List (List ℕ)) (x : List ℕ) → k ≡ 0 → Conjugate k j ps ws x x
-conjugate-zero k j ps ws x e = subst (λ k. Conjugate k j ps ws x x) (sym e) (record { small = record { below = λ k l. absurd (omega arith) }; is = λ C R. refl })
+  pub power-once : Small k ps h → Power k ps ws h h 1
+  power-once s = record {
+    small = s;
+    is = λ C R. sym (power-suc (forms (C .P) k) (toNF k h) 0 ∙ ap (mul (C .P) k (toNF k h)) (power-zero (forms (C .P) k) (toNF k h))
+        ∙ mul-trivial-right C k (toNF k h) (small-valid C k k ps ws h R (omega arith) s));
+  }
 
-module _ (l j : ℕ) (ps : List ℕ) (ws : List (List ℕ)) (x z w : List ℕ) (lj : l < j) (long : l < length z)
-    (sx : Small (suc l) ps x) (q : Conjugate l j ps ws x z) (we : w ≡ getD ws (pairNumber j l) []) where
-  word-is : (C : Context) → Reads C (suc j) ps ws → toNF (suc l) w ≡ C .P .w l j
-  word-is C R = ap (toNF (suc l)) we ∙ R .w-is l j lj (omega arith)
+-- level 1 adds exponents below the prime
+product-first : (ps : List ℕ) (ws : List (List ℕ)) (x y s : List ℕ) → getD x 0 0 < getD ps 0 0 → getD y 0 0 < getD ps 0 0 → getD s 0 0 ≡ (getD x 0 0 + getD y 0 0) % getD ps 0 0 → Product 1 ps ws x y s
+product-first ps ws x y s sx sy e = go (decLt (getD x 0 0 + getD y 0 0) (getD ps 0 0))
+  where
+    first-is : (a : ℕ) → a < getD ps 0 0 → getD s 0 0 ≡ a → ((C : Context) → Reads C 1 ps ws → _≡_ {A = ℕ × Unit {0}} (a, tt) (mulStep (C .P .p 0) (mul (C .P) 0) (conj (C .P) 0 0) (C .P .u 0) (getD x 0 0, tt) (getD y 0 0, tt))) → Product 1 ps ws x y s
+    first-is a l q h = record {
+      small = record { below = below-suc 0 (λ m. getD s m 0 < getD ps m 0) (λ m b. absurd (omega arith)) (subst (λ v. v < getD ps 0 0) (sym q) l) };
+      is = λ C R. toNF-suc 0 s ∙ ap (λ v. (v, toNF 0 s)) q ∙ h C R ∙ sym (mul-suc (C .P) 0 _ _) ∙ ap₂ (mul (C .P) 1) (sym (toNF-suc 0 x)) (sym (toNF-suc 0 y));
+    }
 
-  pub conjugate-stays : (eqb (getD x l 0) 0 || sameForm (suc l) (toNF (suc l) w) (trivial (suc l))) ≡ true → Conjugate (suc l) j ps ws x (set z l (getD x l 0))
-  conjugate-stays h = record { small = small-set l ps z _ long (q .small) (sx .below l (omega arith)); is = λ C R. equal C R (or-cases _ _ h) }
+    go : Dec (getD x 0 0 + getD y 0 0 < getD ps 0 0) → Product 1 ps ws x y s
+    go (yes l) = first-is _ l (e ∙ mod-eq-of-lt l)
+        (λ C R. sym (mulStep-below (C .P .p 0) (mul (C .P) 0) (conj (C .P) 0 0) (C .P .u 0) (getD x 0 0, tt) (getD y 0 0, tt) (omega (arith, R .p-is 0 (omega arith)))))
+    go (no l) =
+        let h : getD ps 0 0 ≤ getD x 0 0 + getD y 0 0 = omega arith in
+        let b : getD x 0 0 + getD y 0 0 - getD ps 0 0 < getD ps 0 0 = omega arith in
+        first-is _ b (e ∙ mod-eq-sub-mod h ∙ mod-eq-of-lt b)
+        (λ C R. ap (λ p. (getD x 0 0 + getD y 0 0 - p, tt)) (R .p-is 0 (omega arith))
+        ∙ sym (mulStep-over (C .P .p 0) (mul (C .P) 0) (conj (C .P) 0 0) (C .P .u 0) (getD x 0 0, tt) (getD y 0 0, tt) (omega (arith, R .p-is 0 (omega arith)))))
+
+-- powers of a form that has no exponent but that of the lowest generator
+module _ (i : ℕ) (ps : List ℕ) (ws : List (List ℕ)) (x : List ℕ) (ready : Ready i ps ws) (sx : Small i ps x) (one : Top i x 1) where
+  abbrev rest-of : ℕ → ℕ
+  rest-of e = (getD x 0 0 * e) % getD ps 0 0
+
+  pub power-lowest : (e : ℕ) (r : List ℕ) → Lowest ((getD x 0 0 * e) % getD ps 0 0) r → Power i ps ws x r e
+  power-lowest zero r q = record {
+    small = record { below = λ k l. subst (λ v. v < getD ps k 0) (sym (none k)) (omega (arith, ready .two k l)) };
+    is = λ C R. toNF-trivial i r (λ k l. none k) ∙ sym (power-zero (forms (C .P) i) (toNF i x));
+  }
     where
-      equal : (C : Context) → Reads C (suc j) ps ws → OneOf (eqb (getD x l 0) 0) (sameForm (suc l) (toNF (suc l) w) (trivial (suc l)))
-          → toNF (suc l) (set z l (getD x l 0)) ≡ conj (C .P) (suc l) j (toNF (suc l) x)
-      equal C R d = toNF-set-top l z _ long ∙ ap (λ t. (getD x l 0, t)) (q .is C R) ∙ sym (go d) ∙ ap (conj (C .P) (suc l) j) (sym (toNF-suc l x))
+      none : (k : ℕ) → getD r k 0 ≡ 0
+      none zero = q .at ∙ ap (λ v. v % getD ps 0 0) (mul-zero (getD x 0 0)) ∙ zero-mod (getD ps 0 0)
+      none (suc k) = q .rest (suc k) (omega arith)
+  power-lowest (suc n) r q = subst (Power i ps ws x r) (add-one n) (powering-more i ps ws x r′ r n (power-lowest n r′ (lowest-row (rest-of n))) (product-up ps ws x r′ r 1 i top′ above sx first))
+    where
+      r′ : List ℕ
+      r′ = set (replicate 12 0) 0 (rest-of n)
+
+      low′ : Lowest (rest-of n) r′
+      low′ = lowest-row (rest-of n)
+
+      top′ : Top i r′ 1
+      top′ = record { less = one .less; rest = λ k a b. low′ .rest k (omega arith) }
+
+      above : (k : ℕ) → 1 ≤ k → k < i → getD r k 0 ≡ getD x k 0
+      above k a b = q .rest k (omega arith) ∙ sym (one .rest k a b)
+
+      pos : 0 < getD ps 0 0
+      pos = omega (arith, ready .two 0 (one .less))
+
+      next : rest-of (suc n) ≡ (getD x 0 0 + rest-of n) % getD ps 0 0
+      next = let e : getD x 0 0 * suc n ≡ getD x 0 0 + getD x 0 0 * n = omega arith in ap (λ v. v % getD ps 0 0) e ∙ sym (add-mod-mod (getD x 0 0) (getD x 0 0 * n) (getD ps 0 0))
+
+      first : Product 1 ps ws x r′ r
+      first = product-first ps ws x r′ r (sx .below 0 (one .less)) (subst (λ v. v < getD ps 0 0) (sym (low′ .at)) (mod-lt (getD x 0 0 * n) pos))
+          (q .at ∙ next ∙ ap (λ v. (getD x 0 0 + v) % getD ps 0 0) (sym (low′ .at)))
+
+-- ---- Conjugation
+
+-- conjugation keeps an exponent
+module _ (j : ℕ) (ps : List ℕ) (ws : List (List ℕ)) (x r : List ℕ) where
+  conjugate-step : (l : ℕ) → l < j → keeps ws j l (getD x l 0) ≡ true → getD r l 0 ≡ getD x l 0 → Small (suc l) ps x → Conjugate l j ps ws x r → Conjugate (suc l) j ps ws x r
+  conjugate-step l lj h re sx q = record {
+    small = record { below = below-suc l (λ m. getD r m 0 < getD ps m 0) (q .small .below) (subst (λ v. v < getD ps l 0) (sym re) (sx .below l (omega arith))) };
+    is = λ C R. equal C R (or-cases _ _ h);
+  }
+    where
+      word : List ℕ
+      word = getD ws (pairNumber j l) []
+
+      equal : (C : Context) → Reads C (suc j) ps ws → OneOf (eqb (getD x l 0) 0) (sameForm (suc l) (toNF (suc l) word) (trivial (suc l)))
+          → toNF (suc l) r ≡ conj (C .P) (suc l) j (toNF (suc l) x)
+      equal C R d = toNF-suc l r ∙ ap₂ (λ s t. (s, t)) re (q .is C R) ∙ sym (go d) ∙ ap (conj (C .P) (suc l) j) (sym (toNF-suc l x))
         where
           valid : Valid (C .P) (suc l) (getD x l 0, toNF l x)
           valid = subst (Valid (C .P) (suc l)) (toNF-suc l x) (small-valid C (suc j) (suc l) ps ws x R (omega arith) sx)
 
-          go : OneOf (eqb (getD x l 0) 0) (sameForm (suc l) (toNF (suc l) w) (trivial (suc l))) → conj (C .P) (suc l) j (getD x l 0, toNF l x) ≡ (getD x l 0, conj (C .P) l j (toNF l x))
+          go : OneOf (eqb (getD x l 0) 0) (sameForm (suc l) (toNF (suc l) word) (trivial (suc l))) → conj (C .P) (suc l) j (getD x l 0, toNF l x) ≡ (getD x l 0, conj (C .P) l j (toNF l x))
           go (first a) = let e = eqb-true (getD x l 0) 0 a in subst (λ t. conj (C .P) (suc l) j (t, toNF l x) ≡ (t, conj (C .P) l j (toNF l x))) (sym e) (conj-zero C l j (toNF l x) (valid .1))
-          go (second a) = conj-empty C l j (getD x l 0, toNF l x) valid (sym (word-is C R) ∙ sameForm-eq (suc l) _ _ a)
+          go (second a) = conj-empty C l j (getD x l 0, toNF l x) valid (sym (R .w-is l j lj (omega arith)) ∙ sameForm-eq (suc l) _ _ a)
 
-  pub conjugate-moves : (g h r s : List ℕ) → Generator l g → Product (suc l) ps ws g w h → Power (suc l) ps ws h r (getD x l 0) → Product (suc l) ps ws r (set z l 0) s
-      → Conjugate (suc l) j ps ws x s
-  conjugate-moves g h r s gg qh t qs = record { small = qs .small; is = equal }
+  pub conjugate-up : (m k : ℕ) → k ≤ j → Moved ws k j x m → ((q : ℕ) → m ≤ q → getD r q 0 ≡ getD x q 0) → Small k ps x → Conjugate m j ps ws x r → Conjugate k j ps ws x r
+  conjugate-up m k kj t re sx = climb (λ k. Conjugate k j ps ws x r) m k (t .less)
+      (λ q a b. conjugate-step q (omega arith) (t .rest q a b) (re q a) (small-below (suc q) k ps x (omega arith) sx))
+
+module _ (j : ℕ) (ps : List ℕ) (ws : List (List ℕ)) (x : List ℕ) where
+  -- nothing moves
+  pub conjugate-none : (k : ℕ) → k ≤ j → Moved ws k j x 0 → Small k ps x → Conjugate k j ps ws x x
+  conjugate-none k kj t sx = conjugate-up j ps ws x x 0 k kj t (λ q a. refl) sx (record { small = record { below = λ k l. absurd (omega arith) }; is = λ C R. refl })
+
+-- the conjugate of a generator, without a carry and with one
+module _ (j l : ℕ) (ps : List ℕ) (ws : List (List ℕ)) (w : List ℕ) (lj : l < j) (ready : Ready (suc j) ps ws) (we : w ≡ getD ws (pairNumber j l) []) where
+  pub commutator-small : Small (suc l) ps w
+  commutator-small = subst (Small (suc l) ps) (sym we) (small-below (suc l) (suc j) ps _ (omega arith) (ready .word j l (omega arith) (omega arith)))
+
+  word-is : (C : Context) → Reads C (suc j) ps ws → C .P .w l j ≡ (getD w l 0, toNF l w)
+  word-is C R = sym (ap (toNF (suc l)) we ∙ R .w-is l j lj (omega arith)) ∙ toNF-suc l w
+
+  word-valid : (C : Context) → Reads C (suc j) ps ws → Valid (C .P) l (toNF l w)
+  word-valid C R = small-valid C (suc j) l ps ws w R (omega arith) (small-below l (suc l) ps w (omega arith) commutator-small)
+
+  pub image-low : l < length w → getD w l 0 + 1 < getD ps l 0 → Image j l ps ws (set w l (getD w l 0 + 1))
+  image-low long h = record {
+    small = small-set l ps w _ long (small-below l (suc l) ps w (omega arith) commutator-small) h;
+    is = λ C R.
+        let a : 1 + getD w l 0 < C .P .p l = omega (arith, R .p-is l (omega arith)) in
+        let z : getD w l 0 + 1 ≡ 1 + getD w l 0 = omega arith in
+        toNF-set-top l w _ long ∙ ap (λ s. (s, toNF l w)) z ∙ sym (mul-top-below C l 1 (getD w l 0) (toNF l w) (word-valid C R) a) ∙ ap (mul (C .P) (suc l) (1, trivial l)) (sym (word-is C R));
+  }
+
+  pub image-high : (u v : List ℕ) → u ≡ getD ws (pairNumber l l) [] → Product l ps ws u w v → l < length v → getD ps l 0 ≤ getD w l 0 + 1 → Image j l ps ws (set v l 0)
+  image-high u v ue q long h = record {
+    small = small-set l ps v 0 long (q .small) (omega (arith, ready .two l (omega arith)));
+    is = λ C R.
+        let p : C .P .p l ≤ 1 + getD w l 0 = omega (arith, R .p-is l (omega arith)) in
+        let z : 0 ≡ 1 + getD w l 0 - C .P .p l = omega (arith, R .p-is l (omega arith), commutator-small .below l (omega arith)) in
+        toNF-set-top l v 0 long ∙ ap₂ (λ s t. (s, t)) z (q .is C (reads-below C l (suc j) ps ws (omega arith) R) ∙ ap (λ t. mul (C .P) l t (toNF l w)) (ap (toNF l) ue ∙ R .u-is l (omega arith)))
+        ∙ sym (mul-top-over C l 1 (getD w l 0) (toNF l w) (word-valid C R) p) ∙ ap (mul (C .P) (suc l) (1, trivial l)) (sym (word-is C R));
+  }
+
+module _ (l j : ℕ) (ps : List ℕ) (ws : List (List ℕ)) (x z : List ℕ) (lj : l < j) (long : l < length z) (q : Conjugate l j ps ws x z) where
+  pub conjugate-moves : (h r s t : List ℕ) → Image j l ps ws h → Power (suc l) ps ws h r (getD x l 0) → Product (suc l) ps ws r (set z l 0) s → Stacked l s x (getD s l 0) t
+      → Conjugate (suc l) j ps ws x t
+  conjugate-moves h r s t qh qr qs st = record {
+    small = stacked-small l ps s x _ t st (small-below l (suc l) ps s (omega arith) (qs .small)) (qs .small .below l (omega arith));
+    is = equal;
+  }
     where
-      equal : (C : Context) → Reads C (suc j) ps ws → toNF (suc l) s ≡ conj (C .P) (suc l) j (toNF (suc l) x)
+      equal : (C : Context) → Reads C (suc j) ps ws → toNF (suc l) t ≡ conj (C .P) (suc l) j (toNF (suc l) x)
       equal C R =
           let R′ = reads-below C (suc l) (suc j) ps ws (omega arith) R in
-          qs .is C R′ ∙ ap₂ (mul (C .P) (suc l))
-          (t .is C R′ ∙ ap (λ m. power (forms (C .P) (suc l)) m (getD x l 0)) (qh .is C R′ ∙ ap₂ (mul (C .P) (suc l)) (generator-is (suc l) l g gg ∙ generator-top l) (word-is C R)))
+          stacked-is l s x _ t st ∙ sym (toNF-suc l s) ∙ qs .is C R′ ∙ ap₂ (mul (C .P) (suc l))
+          (qr .is C R′ ∙ ap (λ m. power (forms (C .P) (suc l)) m (getD x l 0)) (qh .is C R))
           (toNF-set-top l z 0 long ∙ ap (λ m. (0, m)) (q .is C R))
           ∙ sym (conj-suc (C .P) l j (getD x l 0, toNF l x)) ∙ ap (conj (C .P) (suc l) j) (sym (toNF-suc l x))
 
--- ---- The same at a level i above 0, with i - 1 as the code writes it
+  pub lower-small : Ready (suc l) ps ws → Small (suc l) ps (set z l 0)
+  lower-small r = small-set l ps z 0 long (q .small) (omega (arith, r .two l (omega arith)))
 
-module _ (i : ℕ) (ps : List ℕ) (ws : List (List ℕ)) (x y c z : List ℕ) (n left : ℕ) (pos : 0 < i) (over : left ≡ 0)
-    (t : Turning (i - 1) (getD y (i - 1) 0) ps ws x c n left) (q : Product (i - 1) ps ws c y z) where
-  level : suc (i - 1) ≡ i
+-- the highest exponent that moves is below m
+module _ (k j m : ℕ) (ps : List ℕ) (ws : List (List ℕ)) (x z : List ℕ) (pos : 0 < m) (kj : k ≤ j) (long : m ≤ length z) (over : Moved ws k j x m) (q : Conjugate (m - 1) j ps ws x z) where
+  level : suc (m - 1) ≡ m
   level = omega arith
 
-  pub product-low-at : i ≤ length z → getD x (i - 1) 0 + getD y (i - 1) 0 < getD ps (i - 1) 0 → Product i ps ws x y (set z (i - 1) (getD x (i - 1) 0 + getD y (i - 1) 0))
-  product-low-at l h = subst (λ m. Product m ps ws x y (set z (i - 1) (getD x (i - 1) 0 + getD y (i - 1) 0))) level
-      (product-low (i - 1) (getD y (i - 1) 0) ps ws x y c z n left refl over t q (omega arith) h)
+  pub conjugate-moves-at : (h r s t : List ℕ) → Small k ps x → Image j (m - 1) ps ws h → Power m ps ws h r (getD x (m - 1) 0) → Product m ps ws r (set z (m - 1) 0) s
+      → Stacked (m - 1) s x (getD s (m - 1) 0) t → Conjugate k j ps ws x t
+  conjugate-moves-at h r s t sx qh qr qs st = conjugate-up j ps ws x t m k kj over (λ n a. st .above n (omega arith)) sx (subst (λ n. Conjugate n j ps ws x t) level
+      (conjugate-moves (m - 1) j ps ws x z (omega (arith, over .less)) (omega arith) q h r s t qh (subst (λ n. Power n ps ws h r (getD x (m - 1) 0)) (sym level) qr)
+      (subst (λ n. Product n ps ws r (set z (m - 1) 0) s) (sym level) qs) st))
 
-  pub product-high-at : (u v : List ℕ) → u ≡ getD ws (pairNumber (i - 1) (i - 1)) [] → Product (i - 1) ps ws u z v → i ≤ length v → getD ps (i - 1) 0 ≤ getD x (i - 1) 0 + getD y (i - 1) 0
-      → Small i ps x → Small i ps y → Product i ps ws x y (set v (i - 1) (getD x (i - 1) 0 + getD y (i - 1) 0 - getD ps (i - 1) 0))
-  product-high-at u v ue qv l h sx sy = subst (λ m. Product m ps ws x y (set v (i - 1) (getD x (i - 1) 0 + getD y (i - 1) 0 - getD ps (i - 1) 0))) level
-      (product-high (i - 1) (getD y (i - 1) 0) ps ws x y c z n left refl over t q u v ue qv (omega arith) h (omega (arith, sx .below (i - 1) (omega arith), sy .below (i - 1) (omega arith))))
-
-module _ (k j : ℕ) (ps : List ℕ) (ws : List (List ℕ)) (x z w : List ℕ) (pos : 0 < k) (kj : k ≤ j) (long : k ≤ length z)
-    (sx : Small k ps x) (q : Conjugate (k - 1) j ps ws x z) (we : w ≡ getD ws (pairNumber j (k - 1)) []) where
-  level′ : suc (k - 1) ≡ k
-  level′ = omega arith
-
-  pub conjugate-stays-at : (eqb (getD x (k - 1) 0) 0 || sameForm (suc (k - 1)) (toNF (suc (k - 1)) w) (trivial (suc (k - 1)))) ≡ true → Conjugate k j ps ws x (set z (k - 1) (getD x (k - 1) 0))
-  conjugate-stays-at h = subst (λ m. Conjugate m j ps ws x (set z (k - 1) (getD x (k - 1) 0))) level′
-      (conjugate-stays (k - 1) j ps ws x z w (omega arith) (omega arith) (subst (λ m. Small m ps x) (sym level′) sx) q we h)
-
-  pub conjugate-moves-at : (g h r s : List ℕ) → Generator (k - 1) g → Product k ps ws g w h → Power k ps ws h r (getD x (k - 1) 0) → Product k ps ws r (set z (k - 1) 0) s
-      → Conjugate k j ps ws x s
-  conjugate-moves-at g h r s gg qh t qs = subst (λ m. Conjugate m j ps ws x s) level′
-      (conjugate-moves (k - 1) j ps ws x z w (omega arith) (omega arith) (subst (λ m. Small m ps x) (sym level′) sx) q we g h r s gg
-      (subst (λ m. Product m ps ws g w h) (sym level′) qh) (subst (λ m. Power m ps ws h r (getD x (k - 1) 0)) (sym level′) t)
-      (subst (λ m. Product m ps ws r (set z (k - 1) 0) s) (sym level′) qs))
-
-  pub lower-small : Ready k ps ws → Small k ps (set z (k - 1) 0)
-  lower-small r = subst (λ m. Small m ps (set z (k - 1) 0)) level′ (small-set (k - 1) ps z 0 (omega arith) (q .small) (omega (arith, r .two (k - 1) (omega arith))))
+  pub lower-small-at : Ready m ps ws → Small m ps (set z (m - 1) 0)
+  lower-small-at r = subst (λ n. Small n ps (set z (m - 1) 0)) level (lower-small (m - 1) j ps ws x z (omega (arith, over .less)) (omega arith) q (ready-below (suc (m - 1)) m ps ws (omega arith) r))

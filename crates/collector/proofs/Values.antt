@@ -1,7 +1,6 @@
 -- The steps of powers, repeated conjugation, images and values over them.
 --
 --   scaled-zero, scaled-more      a power times a form: exponent 0; the general case
---   turned-done                   repeated conjugation when no turn is left
 --   images-none, images-more      the table of images, one more
 --   value-none, value-more        the value over the images, one exponent more
 use mathlib.Core.Path.{_≡_, sym, _∙_, ap, ap₂, subst}
@@ -11,16 +10,15 @@ use native.Mathlib.Numerals.{add-one}
 use native.Mathlib.Omega.{arith}
 use lib.ListN.{length, getD, set, replicate}
 use lib.Seq.{getD-set-same, getD-set-other}
-use Rattle.definitions.specs.Lists.{iter}
 use Rattle.definitions.specs.Presentation.{toNF, power, value}
 use Rattle.definitions.specs.Consistency.{mul, conj, forms, image}
-use Rattle.numbers.proofs.Lists.{below-suc, iter-zero}
+use Rattle.numbers.proofs.Lists.{below-suc}
 use Rattle.group.proofs.Values.{power-zero, value-zero, value-suc}
 use Rattle.group.proofs.Units.{mul-trivial-left}
 use Rattle.group.proofs.Rows.{toNF-suc, toNF-trivial}
-use Rattle.collector.specs.Rows.{Small, Ready, Generator, Product, Conjugate, Power, Scaled, Turned, Images, Value}
+use Rattle.collector.specs.Rows.{Small, Ready, Generator, Product, Conjugate, Power, Scaled, Images, Value}
 use Rattle.collector.proofs.Laws.{zeros, generator-is}
-use Rattle.collector.proofs.Steps.{reads-below, small-valid, small-zeros, Turning}
+use Rattle.collector.proofs.Steps.{reads-below, small-valid, small-zeros}
 
 module _ (i : ℕ) (ps : List ℕ) (ws : List (List ℕ)) where
   pub scaled-zero : (x v : List ℕ) (e : ℕ) → e ≡ 0 → Small i ps v → Scaled i ps ws x e v v
@@ -32,12 +30,6 @@ module _ (i : ℕ) (ps : List ℕ) (ws : List (List ℕ)) where
 
   pub scaled-more : (x q v r : List ℕ) (e : ℕ) → Power i ps ws x q e → Product i ps ws q v r → Scaled i ps ws x e v r
   scaled-more x q v r e a b = record { small = b .small; is = λ C R. b .is C R ∙ ap (λ m. mul (C .P) i m (toNF i v)) (a .is C R) }
-
-  pub turned-done : (b : ℕ) (x c : List ℕ) (n left : ℕ) → left ≡ 0 → Turning i b ps ws x c n left → Turned i b ps ws x c
-  turned-done b x c n left e t = record {
-    small = t .small;
-    is = λ C R. sym (iter-zero (conj (C .P) i i) (toNF i c)) ∙ ap (λ m. iter (conj (C .P) i i) m (toNF i c)) (sym e) ∙ t .is C R .1;
-  }
 
   pub images-none : (h : List (List ℕ)) → Images i ps ws h 0
   images-none h = record { small = λ k l. absurd (omega arith); is = λ C R k l. absurd (omega arith) }

@@ -4,19 +4,23 @@
 --   Ready m primes words          primes and words of the first m generators are in range
 --   Reads C m primes words        they are those of the presentation of C
 --   Generator k r                 r is the row of generator k
---   Product, Conjugate            what product and conjugation return
+--   Lowest a r                    r has exponent a of the lowest generator, and no other
+--   Top, Stacked                  the highest exponent that is not 0; a row of two with an exponent between
+--   Quiet m words reach           from reach j on, generator j commutes with the generators below it
+--   Moved                         where conjugation begins to change a row
+--   Product, Image, Conjugate     what product and conjugation return
 --   Remaining                     how many turns are left, once a period is known
 --   Power, Scaled, Turned         powers, a power times a form, and conjugates turn after turn
 --   Images, Value                 the images of the generators under conjugation by the next; values over them
 use mathlib.Core.Path.{_≡_}
-use mathlib.Core.Bool.{cond}
+use mathlib.Core.Bool.{Bool, true, _||_, cond}
 use mathlib.Core.List.{List, []}
 use Prim.Native.Nat.{ℕ, suc, _≤_, _<_}
 use lib.ListN.{getD}
 use lib.Dec.{eqb}
 use Rattle.definitions.specs.Lists.{iter}
-use Rattle.definitions.specs.Presentation.{NF, toNF, power, value, pairNumber}
-use Rattle.definitions.specs.Consistency.{mul, conj, forms, image}
+use Rattle.definitions.specs.Presentation.{NF, toNF, trivial, power, value, pairNumber}
+use Rattle.definitions.specs.Consistency.{mul, conj, forms, sameForm, image}
 use Rattle.group.specs.Context.{Context}
 
 pub record Small (i : ℕ) (primes x : List ℕ) : Type 0 where
@@ -36,9 +40,44 @@ pub record Reads (C : Context) (m : ℕ) (primes : List ℕ) (words : List (List
 pub record Generator (k : ℕ) (r : List ℕ) : Type 0 where
   pub at : (m : ℕ) → getD r m 0 ≡ cond (eqb m k) 1 0
 
+pub record Lowest (a : ℕ) (r : List ℕ) : Type 0 where
+  pub at : getD r 0 0 ≡ a
+  pub rest : (m : ℕ) → 0 < m → getD r m 0 ≡ 0
+
+-- no exponent of x from r up to i
+pub record Top (i : ℕ) (x : List ℕ) (r : ℕ) : Type 0 where
+  pub less : r ≤ i
+  pub rest : (k : ℕ) → r ≤ k → k < i → getD x k 0 ≡ 0
+
+pub record Stacked (k : ℕ) (low high : List ℕ) (s : ℕ) (r : List ℕ) : Type 0 where
+  pub below : (m : ℕ) → m < k → getD r m 0 ≡ getD low m 0
+  pub at : getD r k 0 ≡ s
+  pub above : (m : ℕ) → k < m → getD r m 0 ≡ getD high m 0
+
+-- conjugation by generator j keeps an exponent e of generator l: e is 0, or the word of the two is empty
+abbrev pub keeps : (words : List (List ℕ)) (j l e : ℕ) → Bool
+keeps words j l e = eqb e 0 || sameForm (suc l) (toNF (suc l) (getD words (pairNumber j l) [])) (trivial (suc l))
+
+-- conjugation by generator j keeps the exponents of x from r up to k
+pub record Moved (words : List (List ℕ)) (k j : ℕ) (x : List ℕ) (r : ℕ) : Type 0 where
+  pub less : r ≤ k
+  pub rest : (l : ℕ) → r ≤ l → l < k → keeps words j l (getD x l 0) ≡ true
+
+-- conjugation by generator j keeps every exponent from r up to j
+pub record Reach (words : List (List ℕ)) (j r : ℕ) : Type 0 where
+  pub rest : (l e : ℕ) → r ≤ l → l < j → keeps words j l e ≡ true
+
+pub record Quiet (m : ℕ) (words : List (List ℕ)) (reach : List ℕ) : Type 0 where
+  pub at : (j : ℕ) → j < m → Reach words j (getD reach j 0)
+
 pub record Product (i : ℕ) (primes : List ℕ) (words : List (List ℕ)) (x y r : List ℕ) : Type 0 where
   pub small : Small i primes r
   pub is : (C : Context) → Reads C i primes words → toNF i r ≡ mul (C .P) i (toNF i x) (toNF i y)
+
+-- h is the conjugate of generator l by generator j
+pub record Image (j l : ℕ) (primes : List ℕ) (words : List (List ℕ)) (h : List ℕ) : Type 0 where
+  pub small : Small (suc l) primes h
+  pub is : (C : Context) → Reads C (suc j) primes words → toNF (suc l) h ≡ mul (C .P) (suc l) (1, trivial l) (C .P .w l j)
 
 pub record Conjugate (k j : ℕ) (primes : List ℕ) (words : List (List ℕ)) (x r : List ℕ) : Type 0 where
   pub small : Small k primes r

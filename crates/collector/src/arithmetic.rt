@@ -1,20 +1,32 @@
 // Product and conjugation of normal forms, level by level, with powers and repeated conjugation.
 ghost use mathlib.Core.Path.{_≡_};
-ghost use mathlib.Core.Bool.{_||_};
-ghost use Prim.Native.Nat.{suc, _≤_, _<_};
-ghost use mathlib.Core.List.{[]};
+ghost use Prim.Native.Nat.{suc, _*_, _%_, _≤_, _<_};
 ghost use lib.ListN.{getD};
-ghost use lib.Dec.{eqb};
-ghost use Rattle.definitions.specs.Presentation.{toNF, trivial, pairNumber};
-ghost use Rattle.definitions.specs.Consistency.{sameForm};
-ghost use Rattle.collector.specs.Rows.{Small, Ready, Product, Conjugate, Remaining, Power, Scaled, Turned};
+ghost use Rattle.collector.specs.Rows.{Small, Ready, keeps, Lowest, Moved, Reach, Quiet, Product, Image, Conjugate, Remaining, Power, Scaled, Turned};
 use super::rows::GENERATORS;
+use super::rows::Reaches;
 use super::rows::Row;
 use super::rows::Words;
 use super::rows::empty;
-use super::rows::generator;
 use super::rows::same;
+use super::rows::stacked;
+use super::rows::top;
 use super::rows::word;
+
+// A number as one of 64 bits.
+fn wide(x: u32) -> u64
+    ensures { λ r. ⌜ (r ≡ x) × (r < 4294967296) ⌝ }
+{
+    x as u64
+}
+
+// The product of a and e, divided by p: the remainder.
+pub fn remainder(a: u32, e: u32, p: u32) -> u32
+    requires { ⌜ 0 < p ⌝ }
+    ensures { λ r. ⌜ r ≡ (a * e) % p ⌝ }
+{
+    (wide(a) * wide(e) % wide(p)) as u32
+}
 
 // How many of `left` more turns of a map are needed after the n that led from x to c: where c is x again, whole periods
 // are left out.
@@ -22,13 +34,16 @@ pub fn remaining(k: usize, x: Row, c: Row, n: u32, left: u32) -> u32
     requires { ⌜ (k ≤ 12) × (0 < n) ⌝ }
     ensures { λ r. ⌜ Remaining k x c n left r ⌝ }
 {
+    if left == 0 {
+        return left;
+    }
     if same(k, x, c) { left % n } else { left }
 }
 
 // Conjugation by generator j keeps an exponent e of generator l where e is 0 or the word of the two generators is empty.
 pub fn stays(words: &Words, j: usize, l: usize, e: u32) -> bool
     requires { ⌜ (l < j) × (j < 12) ⌝ }
-    ensures { λ r. ⌜ r ≡ (eqb e 0 || sameForm (suc l) (toNF (suc l) (getD (now (words .entry)) (pairNumber j l) [])) (trivial (suc l))) ⌝ }
+    ensures { λ r. ⌜ r ≡ keeps (now (words .entry)) j l e ⌝ }
 {
     if e == 0 {
         return true;
@@ -37,113 +52,169 @@ pub fn stays(words: &Words, j: usize, l: usize, e: u32) -> bool
     empty(l + 1, w)
 }
 
-// The product of x and y on level i. The conjugates that it needs are of the level below.
-pub fn product(primes: &Row, words: &Words, i: usize, x: Row, y: Row) -> Row
-    requires { ⌜ Ready i (now primes) (now words) × Small i (now primes) x × Small i (now primes) y ⌝ }
+// Generator j commutes with the generators from the answer up to j: their words with it are empty.
+pub fn reached(words: &Words, j: usize) -> usize
+    requires { ⌜ j < 12 ⌝ }
+    ensures { λ r. ⌜ Reach (now (words .entry)) j r ⌝ }
+{
+    let mut m = j;
+    while m > 0 {
+        let w = word(words, j, m - 1);
+        if !empty(m, w) {
+            return m;
+        }
+        m -= 1;
+    }
+    0
+}
+
+// The same for the first n generators.
+pub fn reaches(words: &Words, n: usize) -> Reaches
+    requires { ⌜ n ≤ 12 ⌝ }
+    ensures { λ r. ⌜ Quiet n (now (words .entry)) r ⌝ }
+{
+    let mut r = [0usize; GENERATORS];
+    for j in 0..n {
+        let m = reached(words, j);
+        r[j] = m;
+    }
+    r
+}
+
+// One more than the highest of the first k exponents of x that conjugation by generator j may change; 0 where it keeps all.
+pub fn moved(words: &Words, reach: &Reaches, k: usize, j: usize, x: Row) -> usize
+    requires { ⌜ (k ≤ j) × (j < 12) × Reach (now words) j (getD (now reach) j 0) ⌝ }
+    ensures { λ r. ⌜ Moved (now (words .entry)) k j x r ⌝ }
+{
+    let first = reach[j];
+    let mut m = if first < k { first } else { k };
+    while m > 0 {
+        if !stays(words, j, m - 1, x[m - 1]) {
+            return m;
+        }
+        m -= 1;
+    }
+    0
+}
+
+// The product of x and y on level i. The conjugates that it needs are of the level below the highest exponent of y.
+pub fn product(primes: &Row, words: &Words, reach: &Reaches, i: usize, x: Row, y: Row) -> Row
+    requires { ⌜ Ready i (now primes) (now words) × Quiet i (now words) (now reach) × Small i (now primes) x × Small i (now primes) y ⌝ }
     ensures { λ r. ⌜ Product i (now (primes .entry)) (now (words .entry)) x y r ⌝ }
 {
-    if i == 0 {
+    let m = top(i, y);
+    if m == 0 {
         return x;
     }
-    if empty(i, x) {
-        return y;
-    }
-    if empty(i, y) {
-        return x;
-    }
-    let k = i - 1;
+    let k = m - 1;
     let b = y[k];
-    let mut c = x;
-    let mut n: u32 = 0;
-    let mut left = b;
-    while left > 0 {
-        let d = conjugate(primes, words, k, k, c);
-        n += 1;
-        left = remaining(k, x, d, n, left - 1);
-        c = d;
-    }
-    let mut z = product(primes, words, k, c, y);
+    let c = turned(primes, words, reach, k, x, b);
+    let z = product(primes, words, reach, k, c, y);
     let s = x[k] + b;
     let p = primes[k];
     if s < p {
-        z[k] = s;
-        return z;
+        return stacked(k, z, x, s);
     }
     let u = word(words, k, k);
-    let mut v = product(primes, words, k, u, z);
-    v[k] = s - p;
+    let v = product(primes, words, reach, k, u, z);
+    stacked(k, v, x, s - p)
+}
+
+// The conjugate of generator l by generator j.
+pub fn image(primes: &Row, words: &Words, reach: &Reaches, j: usize, l: usize) -> Row
+    requires { ⌜ Ready (suc j) (now primes) (now words) × Quiet (suc j) (now words) (now reach) × (l < j) ⌝ }
+    ensures { λ r. ⌜ Image j l (now (primes .entry)) (now (words .entry)) r ⌝ }
+{
+    let mut h = word(words, j, l);
+    let s = h[l] + 1;
+    let p = primes[l];
+    if s < p {
+        h[l] = s;
+        return h;
+    }
+    let u = word(words, l, l);
+    let mut v = product(primes, words, reach, l, u, h);
+    v[l] = 0;
     v
 }
 
-// The conjugate of x by generator j on level k, k ≤ j. It is a product on level k.
-pub fn conjugate(primes: &Row, words: &Words, k: usize, j: usize, x: Row) -> Row
-    requires { ⌜ Ready (suc j) (now primes) (now words) × (k ≤ j) × Small k (now primes) x ⌝ }
+// The conjugate of x by generator j on level k, k ≤ j. It is a product on the level of the highest exponent that moves.
+pub fn conjugate(primes: &Row, words: &Words, reach: &Reaches, k: usize, j: usize, x: Row) -> Row
+    requires { ⌜ Ready (suc j) (now primes) (now words) × Quiet (suc j) (now words) (now reach) × (k ≤ j) × Small k (now primes) x ⌝ }
     ensures { λ r. ⌜ Conjugate k j (now (primes .entry)) (now (words .entry)) x r ⌝ }
 {
-    if k == 0 {
+    let m = moved(words, reach, k, j, x);
+    if m == 0 {
         return x;
     }
-    let l = k - 1;
-    let e = x[l];
-    let mut z = conjugate(primes, words, l, j, x);
-    if stays(words, j, l, e) {
-        z[l] = e;
-        return z;
-    }
+    let l = m - 1;
+    let mut z = conjugate(primes, words, reach, l, j, x);
     z[l] = 0;
-    let g = generator(l);
-    let w = word(words, j, l);
-    let h = product(primes, words, k, g, w);
+    let h = image(primes, words, reach, j, l);
+    let r = power(primes, words, reach, m, h, x[l]);
+    let s = product(primes, words, reach, m, r, z);
+    stacked(l, s, x, s[l])
+}
+
+// The exponent of the lowest generator in x, e times, below its prime.
+pub fn multiple(primes: &Row, x: Row, e: u32) -> Row
+    requires { ⌜ (0 < getD (now primes) 0 0) ⌝ }
+    ensures { λ r. ⌜ Lowest ((getD x 0 0 * e) % getD (now (primes .entry)) 0 0) r ⌝ }
+{
     let mut r = [0u32; GENERATORS];
-    let mut n: u32 = 0;
-    while n < e {
-        let s = product(primes, words, k, h, r);
-        r = s;
-        n += 1;
-    }
-    product(primes, words, k, r, z)
+    r[0] = remainder(x[0], e, primes[0]);
+    r
 }
 
 // x to the power e on level i.
-pub fn power(primes: &Row, words: &Words, i: usize, x: Row, e: u32) -> Row
-    requires { ⌜ Ready i (now primes) (now words) × Small i (now primes) x ⌝ }
+pub fn power(primes: &Row, words: &Words, reach: &Reaches, i: usize, x: Row, e: u32) -> Row
+    requires { ⌜ Ready i (now primes) (now words) × Quiet i (now words) (now reach) × Small i (now primes) x ⌝ }
     ensures { λ r. ⌜ Power i (now (primes .entry)) (now (words .entry)) x r e ⌝ }
 {
+    if e == 1 {
+        return x;
+    }
+    if top(i, x) == 1 {
+        return multiple(primes, x, e);
+    }
     let mut r = [0u32; GENERATORS];
     let mut n: u32 = 0;
     while n < e {
-        let s = product(primes, words, i, x, r);
+        let s = product(primes, words, reach, i, x, r);
         r = s;
         n += 1;
     }
     r
 }
 
-// x to the power e, times v, on level i.
-pub fn scaled(primes: &Row, words: &Words, i: usize, x: Row, e: u32, v: Row) -> Row
-    requires { ⌜ Ready i (now primes) (now words) × Small i (now primes) x × Small i (now primes) v ⌝ }
-    ensures { λ r. ⌜ Scaled i (now (primes .entry)) (now (words .entry)) x e v r ⌝ }
-{
-    if e == 0 {
-        return v;
-    }
-    let q = power(primes, words, i, x, e);
-    product(primes, words, i, q, v)
-}
-
 // x after b conjugations by generator i, on level i.
-pub fn turned(primes: &Row, words: &Words, i: usize, x: Row, b: u32) -> Row
-    requires { ⌜ Ready (suc i) (now primes) (now words) × Small i (now primes) x ⌝ }
+pub fn turned(primes: &Row, words: &Words, reach: &Reaches, i: usize, x: Row, b: u32) -> Row
+    requires { ⌜ Ready (suc i) (now primes) (now words) × Quiet (suc i) (now words) (now reach) × Small i (now primes) x ⌝ }
     ensures { λ r. ⌜ Turned i b (now (primes .entry)) (now (words .entry)) x r ⌝ }
 {
+    if reach[i] == 0 {
+        return x;
+    }
     let mut c = x;
     let mut n: u32 = 0;
     let mut left = b;
     while left > 0 {
-        let d = conjugate(primes, words, i, i, c);
+        let d = conjugate(primes, words, reach, i, i, c);
         n += 1;
         left = remaining(i, x, d, n, left - 1);
         c = d;
     }
     c
+}
+
+// x to the power e, times v, on level i.
+pub fn scaled(primes: &Row, words: &Words, reach: &Reaches, i: usize, x: Row, e: u32, v: Row) -> Row
+    requires { ⌜ Ready i (now primes) (now words) × Quiet i (now words) (now reach) × Small i (now primes) x × Small i (now primes) v ⌝ }
+    ensures { λ r. ⌜ Scaled i (now (primes .entry)) (now (words .entry)) x e v r ⌝ }
+{
+    if e == 0 {
+        return v;
+    }
+    let q = power(primes, words, reach, i, x, e);
+    product(primes, words, reach, i, q, v)
 }

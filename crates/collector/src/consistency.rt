@@ -2,14 +2,16 @@
 ghost use Prim.Native.Nat.{suc, _≤_, _<_};
 ghost use Rattle.definitions.specs.Lists.{allBelow};
 ghost use Rattle.definitions.specs.Consistency.{keepsPowers, keepsCommutators, fixesPower, powerIsInner, levelTest};
-ghost use Rattle.collector.specs.Rows.{Ready, Images, Value};
+ghost use Rattle.collector.specs.Rows.{Ready, Quiet, Images, Value};
 ghost use Rattle.collector.specs.Answers.{Answer, Decides, powerKept, commutatorKept, innerAt};
 use super::arithmetic::conjugate;
 use super::arithmetic::power;
 use super::arithmetic::product;
+use super::arithmetic::reaches;
 use super::arithmetic::scaled;
 use super::arithmetic::turned;
 use super::rows::GENERATORS;
+use super::rows::Reaches;
 use super::rows::Row;
 use super::rows::Words;
 use super::rows::generator;
@@ -20,54 +22,69 @@ use super::rows::word;
 pub type Forms = [[u32; GENERATORS]; GENERATORS];
 
 // The images of the generators below i under conjugation by generator i.
-pub fn images(primes: &Row, words: &Words, i: usize) -> Forms
-    requires { ⌜ Ready (suc i) (now primes) (now words) ⌝ }
+pub fn images(primes: &Row, words: &Words, reach: &Reaches, i: usize) -> Forms
+    requires { ⌜ Ready (suc i) (now primes) (now words) × Quiet (suc i) (now words) (now reach) ⌝ }
     ensures { λ r. ⌜ Images i (now (primes .entry)) (now (words .entry)) r i ⌝ }
 {
     let mut h = [[0u32; GENERATORS]; GENERATORS];
     for k in 0..i {
         let g = generator(k);
-        let c = conjugate(primes, words, i, i, g);
+        let c = conjugate(primes, words, reach, i, i, g);
         h[k] = c;
     }
     h
 }
 
 // The value over the images h of the first k exponents of x, on level i.
-pub fn value(primes: &Row, words: &Words, h: &Forms, i: usize, k: usize, x: Row) -> Row
-    requires { ⌜ Ready (suc i) (now primes) (now words) × Images i (now primes) (now words) (now h) i × (k ≤ i) ⌝ }
+pub fn value(
+    primes: &Row,
+    words: &Words,
+    reach: &Reaches,
+    h: &Forms,
+    i: usize,
+    k: usize,
+    x: Row,
+) -> Row
+    requires { ⌜ Ready (suc i) (now primes) (now words) × Quiet (suc i) (now words) (now reach) × Images i (now primes) (now words) (now h) i × (k ≤ i) ⌝ }
     ensures { λ r. ⌜ Value i (now (primes .entry)) (now (words .entry)) k x r ⌝ }
 {
     let mut v = [0u32; GENERATORS];
     for m in 0..k {
         let g = h[m];
         let e = x[m];
-        let s = scaled(primes, words, i, g, e, v);
+        let s = scaled(primes, words, reach, i, g, e, v);
         v = s;
     }
     v
 }
 
 // The images h keep the power relation of generator k.
-pub fn keeps_power(primes: &Row, words: &Words, h: &Forms, i: usize, k: usize) -> bool
-    requires { ⌜ Ready (suc i) (now primes) (now words) × Images i (now primes) (now words) (now h) i × (k < i) ⌝ }
+pub fn keeps_power(
+    primes: &Row,
+    words: &Words,
+    reach: &Reaches,
+    h: &Forms,
+    i: usize,
+    k: usize,
+) -> bool
+    requires { ⌜ Ready (suc i) (now primes) (now words) × Quiet (suc i) (now words) (now reach) × Images i (now primes) (now words) (now h) i × (k < i) ⌝ }
     ensures { λ r. ⌜ Answer (suc i) (now (primes .entry)) (now (words .entry)) (λ P. powerKept P i k) r ⌝ }
 {
     let g = h[k];
     let p = primes[k];
-    let l = power(primes, words, i, g, p);
+    let l = power(primes, words, reach, i, g, p);
     let u = word(words, k, k);
-    let v = value(primes, words, h, i, k, u);
+    let v = value(primes, words, reach, h, i, k, u);
     same(i, l, v)
 }
 
 // The images h keep the power relations of the generators below i.
-pub fn keeps_powers(primes: &Row, words: &Words, h: &Forms, i: usize) -> bool
-    requires { ⌜ Ready (suc i) (now primes) (now words) × Images i (now primes) (now words) (now h) i ⌝ }
+pub fn keeps_powers(primes: &Row, words: &Words, reach: &Reaches, h: &Forms, i: usize) -> bool
+    requires { ⌜ Ready (suc i) (now primes) (now words) × Quiet (suc i) (now words) (now reach) × Images i (now primes) (now words) (now h) i ⌝ }
     ensures { λ r. ⌜ Answer (suc i) (now (primes .entry)) (now (words .entry)) (λ P. keepsPowers P i) r ⌝ }
 {
     for k in 0..i {
-        if !keeps_power(primes, words, h, i, k) {
+        if !keeps_power(primes, words, reach, h, i, k) {
             return false;
         }
     }
@@ -78,31 +95,39 @@ pub fn keeps_powers(primes: &Row, words: &Words, h: &Forms, i: usize) -> bool
 pub fn keeps_commutator(
     primes: &Row,
     words: &Words,
+    reach: &Reaches,
     h: &Forms,
     i: usize,
     j: usize,
     k: usize,
 ) -> bool
-    requires { ⌜ Ready (suc i) (now primes) (now words) × Images i (now primes) (now words) (now h) i × (k < j) × (j < i) ⌝ }
+    requires { ⌜ Ready (suc i) (now primes) (now words) × Quiet (suc i) (now words) (now reach) × Images i (now primes) (now words) (now h) i × (k < j) × (j < i) ⌝ }
     ensures { λ r. ⌜ Answer (suc i) (now (primes .entry)) (now (words .entry)) (λ P. commutatorKept P i j k) r ⌝ }
 {
     let a = h[k];
     let b = h[j];
-    let l = product(primes, words, i, a, b);
+    let l = product(primes, words, reach, i, a, b);
     let w = word(words, j, k);
-    let v = value(primes, words, h, i, k + 1, w);
-    let s = product(primes, words, i, a, v);
-    let r = product(primes, words, i, b, s);
+    let v = value(primes, words, reach, h, i, k + 1, w);
+    let s = product(primes, words, reach, i, a, v);
+    let r = product(primes, words, reach, i, b, s);
     same(i, l, r)
 }
 
 // The images h keep the commutator relations of generator j with those below it.
-pub fn keeps_commutators_of(primes: &Row, words: &Words, h: &Forms, i: usize, j: usize) -> bool
-    requires { ⌜ Ready (suc i) (now primes) (now words) × Images i (now primes) (now words) (now h) i × (j < i) ⌝ }
+pub fn keeps_commutators_of(
+    primes: &Row,
+    words: &Words,
+    reach: &Reaches,
+    h: &Forms,
+    i: usize,
+    j: usize,
+) -> bool
+    requires { ⌜ Ready (suc i) (now primes) (now words) × Quiet (suc i) (now words) (now reach) × Images i (now primes) (now words) (now h) i × (j < i) ⌝ }
     ensures { λ r. ⌜ Answer (suc i) (now (primes .entry)) (now (words .entry)) (λ P. allBelow j (commutatorKept P i j)) r ⌝ }
 {
     for k in 0..j {
-        if !keeps_commutator(primes, words, h, i, j, k) {
+        if !keeps_commutator(primes, words, reach, h, i, j, k) {
             return false;
         }
     }
@@ -110,12 +135,12 @@ pub fn keeps_commutators_of(primes: &Row, words: &Words, h: &Forms, i: usize, j:
 }
 
 // The images h keep the commutator relations below i.
-pub fn keeps_commutators(primes: &Row, words: &Words, h: &Forms, i: usize) -> bool
-    requires { ⌜ Ready (suc i) (now primes) (now words) × Images i (now primes) (now words) (now h) i ⌝ }
+pub fn keeps_commutators(primes: &Row, words: &Words, reach: &Reaches, h: &Forms, i: usize) -> bool
+    requires { ⌜ Ready (suc i) (now primes) (now words) × Quiet (suc i) (now words) (now reach) × Images i (now primes) (now words) (now h) i ⌝ }
     ensures { λ r. ⌜ Answer (suc i) (now (primes .entry)) (now (words .entry)) (λ P. keepsCommutators P i) r ⌝ }
 {
     for j in 0..i {
-        if !keeps_commutators_of(primes, words, h, i, j) {
+        if !keeps_commutators_of(primes, words, reach, h, i, j) {
             return false;
         }
     }
@@ -123,36 +148,36 @@ pub fn keeps_commutators(primes: &Row, words: &Words, h: &Forms, i: usize) -> bo
 }
 
 // Conjugation by generator i fixes its power word.
-pub fn fixes_power(primes: &Row, words: &Words, i: usize) -> bool
-    requires { ⌜ Ready (suc i) (now primes) (now words) ⌝ }
+pub fn fixes_power(primes: &Row, words: &Words, reach: &Reaches, i: usize) -> bool
+    requires { ⌜ Ready (suc i) (now primes) (now words) × Quiet (suc i) (now words) (now reach) ⌝ }
     ensures { λ r. ⌜ Answer (suc i) (now (primes .entry)) (now (words .entry)) (λ P. fixesPower P i) r ⌝ }
 {
     let u = word(words, i, i);
-    let c = conjugate(primes, words, i, i, u);
+    let c = conjugate(primes, words, reach, i, i, u);
     same(i, c, u)
 }
 
 // As many conjugations by generator i as its prime are conjugation by its power word, at generator k.
-pub fn is_inner_at(primes: &Row, words: &Words, i: usize, k: usize) -> bool
-    requires { ⌜ Ready (suc i) (now primes) (now words) × (k < i) ⌝ }
+pub fn is_inner_at(primes: &Row, words: &Words, reach: &Reaches, i: usize, k: usize) -> bool
+    requires { ⌜ Ready (suc i) (now primes) (now words) × Quiet (suc i) (now words) (now reach) × (k < i) ⌝ }
     ensures { λ r. ⌜ Answer (suc i) (now (primes .entry)) (now (words .entry)) (λ P. innerAt P i k) r ⌝ }
 {
     let u = word(words, i, i);
     let g = generator(k);
     let p = primes[i];
-    let t = turned(primes, words, i, g, p);
-    let left = product(primes, words, i, u, t);
-    let right = product(primes, words, i, g, u);
+    let t = turned(primes, words, reach, i, g, p);
+    let left = product(primes, words, reach, i, u, t);
+    let right = product(primes, words, reach, i, g, u);
     same(i, left, right)
 }
 
 // The same at every generator below i.
-pub fn is_inner(primes: &Row, words: &Words, i: usize) -> bool
-    requires { ⌜ Ready (suc i) (now primes) (now words) ⌝ }
+pub fn is_inner(primes: &Row, words: &Words, reach: &Reaches, i: usize) -> bool
+    requires { ⌜ Ready (suc i) (now primes) (now words) × Quiet (suc i) (now words) (now reach) ⌝ }
     ensures { λ r. ⌜ Answer (suc i) (now (primes .entry)) (now (words .entry)) (λ P. powerIsInner P i) r ⌝ }
 {
     for k in 0..i {
-        if !is_inner_at(primes, words, i, k) {
+        if !is_inner_at(primes, words, reach, i, k) {
             return false;
         }
     }
@@ -160,21 +185,21 @@ pub fn is_inner(primes: &Row, words: &Words, i: usize) -> bool
 }
 
 // The known test for generator i.
-pub fn level_passes(primes: &Row, words: &Words, i: usize) -> bool
-    requires { ⌜ Ready (suc i) (now primes) (now words) ⌝ }
+pub fn level_passes(primes: &Row, words: &Words, reach: &Reaches, i: usize) -> bool
+    requires { ⌜ Ready (suc i) (now primes) (now words) × Quiet (suc i) (now words) (now reach) ⌝ }
     ensures { λ r. ⌜ Answer (suc i) (now (primes .entry)) (now (words .entry)) (λ P. levelTest P i) r ⌝ }
 {
-    let h = images(primes, words, i);
-    if !keeps_powers(primes, words, &h, i) {
+    let h = images(primes, words, reach, i);
+    if !keeps_powers(primes, words, reach, &h, i) {
         return false;
     }
-    if !keeps_commutators(primes, words, &h, i) {
+    if !keeps_commutators(primes, words, reach, &h, i) {
         return false;
     }
-    if !fixes_power(primes, words, i) {
+    if !fixes_power(primes, words, reach, i) {
         return false;
     }
-    is_inner(primes, words, i)
+    is_inner(primes, words, reach, i)
 }
 
 // Whether the presentation of n generators is consistent (15): the known test for each generator.
@@ -182,8 +207,9 @@ pub fn consistent(primes: &Row, words: &Words, n: usize) -> bool
     requires { ⌜ Ready n (now primes) (now words) ⌝ }
     ensures { λ r. ⌜ Decides n (now (primes .entry)) (now (words .entry)) r ⌝ }
 {
+    let reach = reaches(words, n);
     for i in 0..n {
-        if !level_passes(primes, words, i) {
+        if !level_passes(primes, words, &reach, i) {
             return false;
         }
     }

@@ -5,7 +5,7 @@ ghost use Prim.Native.Nat.{_≤_, _<_};
 ghost use lib.ListN.{getD};
 ghost use Rattle.definitions.specs.Presentation.{toNF, trivial, pairNumber};
 ghost use Rattle.definitions.specs.Consistency.{sameForm};
-ghost use Rattle.collector.specs.Rows.{Generator};
+ghost use Rattle.collector.specs.Rows.{Generator, Top, Stacked};
 
 // The ceiling of generators, and how many pairs they make.
 pub const GENERATORS: usize = 12;
@@ -16,6 +16,9 @@ pub const PAIRS: usize = 78;
 pub type Row = [u32; GENERATORS];
 
 pub type Words = [[u32; GENERATORS]; PAIRS];
+
+// For each generator, below which of the others those are that it does not commute with.
+pub type Reaches = [usize; GENERATORS];
 
 // The number of the pair (j, i), i ≤ j, in the order of the lines.
 pub fn pair(j: usize, i: usize) -> usize
@@ -66,4 +69,32 @@ pub fn empty(i: usize, x: Row) -> bool
     ensures { λ r. ⌜ r ≡ sameForm i (toNF i x) (trivial i) ⌝ }
 {
     same(i, x, [0; GENERATORS])
+}
+
+// One more than the highest of the first i exponents that is not 0; 0 where all are.
+pub fn top(i: usize, x: Row) -> usize
+    requires { ⌜ i ≤ 12 ⌝ }
+    ensures { λ r. ⌜ Top i x r ⌝ }
+{
+    let mut k = i;
+    while k > 0 {
+        if x[k - 1] != 0 {
+            return k;
+        }
+        k -= 1;
+    }
+    0
+}
+
+// The row of `low` below k, of s at k, and of `high` above k.
+pub fn stacked(k: usize, low: Row, high: Row, s: u32) -> Row
+    requires { ⌜ k < 12 ⌝ }
+    ensures { λ r. ⌜ Stacked k low high s r ⌝ }
+{
+    let mut r = high;
+    for q in 0..k {
+        r[q] = low[q];
+    }
+    r[k] = s;
+    r
 }

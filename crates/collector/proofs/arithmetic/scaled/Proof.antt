@@ -10,7 +10,7 @@ returns c =
     let z = c .before in
     let ps = now (z .args .primes) in
     let ws = now (z .args .words) in
-    scaled-zero (z .args .i) ps ws (z .args .x) (z .args .v) (z .args .e) (c .if1 .taken) (z .pre .2)
+    scaled-zero (z .args .i) ps ws (z .args .x) (z .args .v) (z .args .e) (c .if1 .taken) (z .pre .3)
 
 power-requires : tie.Need-power-requires
 power-requires c κs = search needs

@@ -1,4 +1,5 @@
 -- `consistency::consistent` meets its contract: the test passed for every generator so far.
+use borrow.Author.Needs.{needs}
 use mathlib.Core.Path.{_≡_, subst}
 use mathlib.Core.Bool.{true, false}
 use Prim.Native.Nat.{suc, _-_, _≤_}
@@ -8,36 +9,42 @@ use borrow.Author.Tests.{not-true, not-false}
 use Rattle.definitions.specs.Lists.{allBelow}
 use Rattle.definitions.specs.Consistency.{levelTest}
 use Rattle.collector.specs.Answers.{Answer}
+use Rattle.collector.proofs.Skips.{quiet-below}
 use Rattle.collector.proofs.Steps.{ready-below}
 use Rattle.collector.proofs.Answers.{answer-up, answer-none, answer-more, answer-fails}
 use Rattle.collector.proofs.Relations.{decides}
-use borrow.Author.Needs.{needs}
 use Rattle.collector.proofs.consistency.consistent.Statement.{statement}
 use Rattle.collector.proofs.consistency.consistent.Tie as tie
 
 abbrev Inv-loop : tie.InvT-loop
-Inv-loop primes words n i₀ i = (i ≤ n) × Answer n primes words (λ P. allBelow i (levelTest P)) true
+Inv-loop primes words n reach i₀ i = (i ≤ n) × Answer n primes words (λ P. allBelow i (levelTest P)) true
 
 abbrev μ-loop : tie.MeasureT-loop
-μ-loop primes words n i₀ i = n - i
+μ-loop primes words n reach i₀ i = n - i
+
+reaches-requires : tie.Need-reaches-requires Inv-loop μ-loop
+reaches-requires c κs = c .pre .few
 
 loop-holds : tie.Need-loop-holds Inv-loop μ-loop
 loop-holds c = (search needs, answer-none _ _ _ _)
 
 level-passes-requires : tie.Need-level-passes-requires Inv-loop μ-loop
 level-passes-requires c κs =
-    let z = c .before .before in
-    let ps = now (z .args .primes) in
-    let ws = now (z .args .words) in
-    ready-below (suc (c .before .loop .i)) (z .args .n) ps ws (search needs) (z .pre)
-
-returns : tie.Need-returns Inv-loop μ-loop
-returns c =
     let z = c .before .before .before .before in
     let ps = now (z .args .primes) in
     let ws = now (z .args .words) in
-    let l = c .before .before .before .loop in
-    decides (z .args .n) ps ws false (answer-fails (z .args .n) ps ws levelTest (l .i) (z .args .n) (c .before .level-passes .result) (search needs) (not-true _ (c .if1 .taken)) (answer-up (suc (l .i)) (z .args .n) ps ws (λ P. levelTest P (l .i)) (c .before .level-passes .result) (search needs) (c .before .level-passes .ensures)))
+    let n = z .args .n in
+    let i = c .before .before .loop .i in
+    (ready-below (suc i) n ps ws (search needs) (z .pre), quiet-below (suc i) n ws (c .before .before .before .reaches .result) (search needs) (c .before .before .before .reaches .ensures))
+
+returns : tie.Need-returns Inv-loop μ-loop
+returns c =
+    let z = c .before .before .before .before .before .before in
+    let ps = now (z .args .primes) in
+    let ws = now (z .args .words) in
+    let n = z .args .n in
+    let l = c .before .before .before .before .loop in
+    decides n ps ws false (answer-fails n ps ws levelTest (l .i) n (c .before .level-passes .result) (search needs) (not-true _ (c .if1 .taken)) (answer-up (suc (l .i)) n ps ws (λ P. levelTest P (l .i)) (c .before .level-passes .result) (search needs) (c .before .level-passes .ensures)))
 
 add-i : tie.Need-add-i Inv-loop μ-loop
 add-i c = search needs
@@ -47,20 +54,22 @@ loop-less c = search needs
 
 loop-again : tie.Need-loop-again Inv-loop μ-loop
 loop-again c =
-    let z = c .before .before .before .before in
+    let z = c .before .before .before .before .before .before in
     let ps = now (z .args .primes) in
     let ws = now (z .args .words) in
-    let l = c .before .before .before .loop in
-    (search needs, answer-more (z .args .n) ps ws levelTest (l .i) (c .before .level-passes .result) (not-false _ (c .if1 .left)) (l .inv .1) (answer-up (suc (l .i)) (z .args .n) ps ws (λ P. levelTest P (l .i)) (c .before .level-passes .result) (search needs) (c .before .level-passes .ensures)))
+    let n = z .args .n in
+    let l = c .before .before .before .before .loop in
+    (search needs, answer-more n ps ws levelTest (l .i) (c .before .level-passes .result) (not-false _ (c .if1 .left)) (l .inv .1) (answer-up (suc (l .i)) n ps ws (λ P. levelTest P (l .i)) (c .before .level-passes .result) (search needs) (c .before .level-passes .ensures)))
 
 returns-2 : tie.Need-returns-2 Inv-loop μ-loop
 returns-2 c =
-    let z = c .before .before in
+    let z = c .before .before .before in
     let ps = now (z .args .primes) in
     let ws = now (z .args .words) in
+    let n = z .args .n in
     let l = c .before .loop in
-    let e : l .i ≡ z .args .n = omega arith in
-    decides (z .args .n) ps ws true (subst (λ i. Answer (z .args .n) ps ws (λ P. allBelow i (levelTest P)) true) e (l .inv .1))
+    let e : l .i ≡ n = omega arith in
+    decides n ps ws true (subst (λ i. Answer n ps ws (λ P. allBelow i (levelTest P)) true) e (l .inv .1))
 
 pub consistent-spec : {M : Type 1} → statement M
 consistent-spec =
@@ -68,6 +77,7 @@ consistent-spec =
     (tie.spec
     Inv-loop
     μ-loop
+    reaches-requires
     loop-holds
     level-passes-requires
     returns

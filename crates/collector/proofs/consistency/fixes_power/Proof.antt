@@ -16,7 +16,7 @@ conjugate-requires c κs =
     let ps = now (z .args .primes) in
     let ws = now (z .args .words) in
     let i = z .args .i in
-    (z .pre, omega arith, word-small (suc i) ps ws i i i (c .word .result) (z .pre) (omega arith) (omega arith) (omega arith) (c .word .ensures))
+    (z .pre .0, z .pre .1, omega arith, word-small (suc i) ps ws i i i (c .word .result) (z .pre .0) (omega arith) (omega arith) (omega arith) (c .word .ensures))
 
 same-requires : tie.Need-same-requires
 same-requires c κs = search needs

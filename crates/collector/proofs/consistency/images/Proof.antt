@@ -12,10 +12,10 @@ use Rattle.collector.proofs.consistency.images.Statement.{statement}
 use Rattle.collector.proofs.consistency.images.Tie as tie
 
 abbrev Inv-loop : tie.InvT-loop
-Inv-loop primes words i h₀ k₀ h k = (k ≤ i) × (length h ≡ 12) × Images i primes words h k
+Inv-loop primes words reach i h₀ k₀ h k = (k ≤ i) × (length h ≡ 12) × Images i primes words h k
 
 abbrev μ-loop : tie.MeasureT-loop
-μ-loop primes words i h₀ k₀ h k = i - k
+μ-loop primes words reach i h₀ k₀ h k = i - k
 
 loop-holds : tie.Need-loop-holds Inv-loop μ-loop
 loop-holds c = (search needs, refl, images-none (c .args .i) (now (c .args .primes)) (now (c .args .words)) _)
@@ -29,7 +29,7 @@ conjugate-requires c κs =
     let ps = now (z .args .primes) in
     let ws = now (z .args .words) in
     let i = z .args .i in
-    (z .pre, omega arith, small-generator (c .before .before .loop .k) i ps ws (c .generator .result) (ready-below i (suc i) ps ws (omega arith) (z .pre)) (c .generator .ensures))
+    (z .pre .0, z .pre .1, omega arith, small-generator (c .before .before .loop .k) i ps ws (c .generator .result) (ready-below i (suc i) ps ws (omega arith) (z .pre .0)) (c .generator .ensures))
 
 mul-h : tie.Need-mul-h Inv-loop μ-loop
 mul-h c = search needs
@@ -51,7 +51,7 @@ loop-again c =
     let l = c .before .before .before .loop in (
       search needs,
       length-set (l .h) (l .k) (c .conjugate .result) ∙ l .inv .1,
-      images-more (z .args .i) ps ws (l .h) (l .k) (c .before .generator .result) (c .conjugate .result) (omega (arith, l .inv .1, z .pre .few)) (l .inv .2) (c .before .generator .ensures) (c .conjugate .ensures),
+      images-more (z .args .i) ps ws (l .h) (l .k) (c .before .generator .result) (c .conjugate .result) (omega (arith, l .inv .1, z .pre .0 .few)) (l .inv .2) (c .before .generator .ensures) (c .conjugate .ensures),
     )
 
 returns : tie.Need-returns Inv-loop μ-loop

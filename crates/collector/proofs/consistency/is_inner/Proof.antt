@@ -13,10 +13,10 @@ use Rattle.collector.proofs.consistency.is_inner.Statement.{statement}
 use Rattle.collector.proofs.consistency.is_inner.Tie as tie
 
 abbrev Inv-loop : tie.InvT-loop
-Inv-loop primes words i k₀ k = (k ≤ i) × Answer (suc i) primes words (λ P. allBelow k (innerAt P i)) true
+Inv-loop primes words reach i k₀ k = (k ≤ i) × Answer (suc i) primes words (λ P. allBelow k (innerAt P i)) true
 
 abbrev μ-loop : tie.MeasureT-loop
-μ-loop primes words i k₀ k = i - k
+μ-loop primes words reach i k₀ k = i - k
 
 loop-holds : tie.Need-loop-holds Inv-loop μ-loop
 loop-holds c = (search needs, answer-none _ _ _ _)

@@ -2,6 +2,7 @@
 use Prim.Native.Nat.{suc}
 use native.Mathlib.Omega.{arith}
 use denote.Ref.{now}
+use Rattle.collector.proofs.Skips.{quiet-below}
 use Rattle.collector.proofs.Steps.{ready-below, small-generator}
 use Rattle.collector.proofs.Answers.{word-small, inner-at}
 use borrow.Author.Needs.{needs}
@@ -26,7 +27,7 @@ turned-requires c κs =
     let ps = now (z .args .primes) in
     let ws = now (z .args .words) in
     let i = z .args .i in
-    (z .pre .0, small-generator (z .args .k) i ps ws (c .before .generator .result) (ready-below i (suc i) ps ws (omega arith) (z .pre .0)) (c .before .generator .ensures))
+    (z .pre .0, z .pre .1, small-generator (z .args .k) i ps ws (c .before .generator .result) (ready-below i (suc i) ps ws (omega arith) (z .pre .0)) (c .before .generator .ensures))
 
 product-requires : tie.Need-product-requires
 product-requires c κs =
@@ -34,7 +35,7 @@ product-requires c κs =
     let ps = now (z .args .primes) in
     let ws = now (z .args .words) in
     let i = z .args .i in
-    (ready-below i (suc i) ps ws (omega arith) (z .pre .0), word-small (suc i) ps ws i i i (c .before .before .before .word .result) (z .pre .0) (omega arith) (omega arith) (omega arith) (c .before .before .before .word .ensures), c .turned .ensures .small)
+    (ready-below i (suc i) ps ws (omega arith) (z .pre .0), quiet-below i (suc i) ws (now (z .args .reach)) (omega arith) (z .pre .1), word-small (suc i) ps ws i i i (c .before .before .before .word .result) (z .pre .0) (omega arith) (omega arith) (omega arith) (c .before .before .before .word .ensures), c .turned .ensures .small)
 
 product-requires-2 : tie.Need-product-requires-2
 product-requires-2 c κs =
@@ -43,7 +44,7 @@ product-requires-2 c κs =
     let ws = now (z .args .words) in
     let i = z .args .i in
     let r = ready-below i (suc i) ps ws (omega arith) (z .pre .0) in
-    (r, small-generator (z .args .k) i ps ws (c .before .before .before .generator .result) r (c .before .before .before .generator .ensures), word-small (suc i) ps ws i i i (c .before .before .before .before .word .result) (z .pre .0) (omega arith) (omega arith) (omega arith) (c .before .before .before .before .word .ensures))
+    (r, quiet-below i (suc i) ws (now (z .args .reach)) (omega arith) (z .pre .1), small-generator (z .args .k) i ps ws (c .before .before .before .generator .result) r (c .before .before .before .generator .ensures), word-small (suc i) ps ws i i i (c .before .before .before .before .word .result) (z .pre .0) (omega arith) (omega arith) (omega arith) (c .before .before .before .before .word .ensures))
 
 same-requires : tie.Need-same-requires
 same-requires c κs = search needs

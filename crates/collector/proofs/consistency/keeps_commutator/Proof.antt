@@ -2,6 +2,7 @@
 use Prim.Native.Nat.{suc}
 use native.Mathlib.Omega.{arith}
 use denote.Ref.{now}
+use Rattle.collector.proofs.Skips.{quiet-below}
 use Rattle.collector.proofs.Steps.{ready-below}
 use Rattle.collector.proofs.Answers.{commutator-kept}
 use borrow.Author.Needs.{needs}
@@ -27,7 +28,7 @@ product-requires c κs =
     let ws = now (z .args .words) in
     let i = z .args .i in
     let r = ready-below i (suc i) ps ws (omega arith) (z .pre .0) in
-    (r, z .pre .1 .small (z .args .k) (omega (arith, z .pre .2, z .pre .3)), z .pre .1 .small (z .args .j) (z .pre .3))
+    (r, quiet-below i (suc i) ws (now (z .args .reach)) (omega arith) (z .pre .1), z .pre .2 .small (z .args .k) (omega (arith, z .pre .3, z .pre .4)), z .pre .2 .small (z .args .j) (z .pre .4))
 
 word-requires : tie.Need-word-requires
 word-requires c κs = search needs
@@ -45,7 +46,7 @@ product-requires-2 c κs =
     let ws = now (z .args .words) in
     let i = z .args .i in
     let r = ready-below i (suc i) ps ws (omega arith) (z .pre .0) in
-    (r, z .pre .1 .small (z .args .k) (omega (arith, z .pre .2, z .pre .3)), c .value .ensures .small)
+    (r, quiet-below i (suc i) ws (now (z .args .reach)) (omega arith) (z .pre .1), z .pre .2 .small (z .args .k) (omega (arith, z .pre .3, z .pre .4)), c .value .ensures .small)
 
 product-requires-3 : tie.Need-product-requires-3
 product-requires-3 c κs =
@@ -54,7 +55,7 @@ product-requires-3 c κs =
     let ws = now (z .args .words) in
     let i = z .args .i in
     let r = ready-below i (suc i) ps ws (omega arith) (z .pre .0) in
-    (r, z .pre .1 .small (z .args .j) (z .pre .3), c .product2 .ensures .small)
+    (r, quiet-below i (suc i) ws (now (z .args .reach)) (omega arith) (z .pre .1), z .pre .2 .small (z .args .j) (z .pre .4), c .product2 .ensures .small)
 
 same-requires : tie.Need-same-requires
 same-requires c κs = search needs
@@ -64,8 +65,8 @@ returns c =
     let z = c .before .before .before .before .before .before .before .before in
     let ps = now (z .args .primes) in
     let ws = now (z .args .words) in
-    commutator-kept (z .args .i) ps ws (now (z .args .h)) (z .pre .1) (z .args .j) (z .args .k)
-    (c .before .before .before .before .before .product .result) (c .before .before .before .before .word .result) (c .before .before .before .value .result) (c .before .before .product2 .result) (c .before .product3 .result) (c .same .result) (z .pre .2) (z .pre .3)
+    commutator-kept (z .args .i) ps ws (now (z .args .h)) (z .pre .2) (z .args .j) (z .args .k)
+    (c .before .before .before .before .before .product .result) (c .before .before .before .before .word .result) (c .before .before .before .value .result) (c .before .before .product2 .result) (c .before .product3 .result) (c .same .result) (z .pre .3) (z .pre .4)
     (c .before .before .before .before .before .product .ensures) (c .before .before .before .before .word .ensures) (c .before .before .before .value .ensures) (c .before .before .product2 .ensures) (c .before .product3 .ensures) (c .same .ensures)
 
 pub keeps-commutator-spec : {M : Type 1} → statement M

@@ -13,10 +13,10 @@ use Rattle.collector.proofs.consistency.keeps_commutators.Statement.{st
 use Rattle.collector.proofs.consistency.keeps_commutators.Tie as tie
 
 abbrev Inv-loop : tie.InvT-loop
-Inv-loop primes words h i j₀ j = (j ≤ i) × Answer (suc i) primes words (λ P. allBelow j (λ j. allBelow j (commutatorKept P i j))) true
+Inv-loop primes words reach h i j₀ j = (j ≤ i) × Answer (suc i) primes words (λ P. allBelow j (λ j. allBelow j (commutatorKept P i j))) true
 
 abbrev μ-loop : tie.MeasureT-loop
-μ-loop primes words h i j₀ j = i - j
+μ-loop primes words reach h i j₀ j = i - j
 
 loop-holds : tie.Need-loop-holds Inv-loop μ-loop
 loop-holds c = (search needs, answer-none _ _ _ _)

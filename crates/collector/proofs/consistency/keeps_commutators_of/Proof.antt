@@ -13,10 +13,10 @@ use Rattle.collector.proofs.consistency.keeps_commutators_of.Statement.
 use Rattle.collector.proofs.consistency.keeps_commutators_of.Tie as tie
 
 abbrev Inv-loop : tie.InvT-loop
-Inv-loop primes words h i j k₀ k = (k ≤ j) × Answer (suc i) primes words (λ P. allBelow k (commutatorKept P i j)) true
+Inv-loop primes words reach h i j k₀ k = (k ≤ j) × Answer (suc i) primes words (λ P. allBelow k (commutatorKept P i j)) true
 
 abbrev μ-loop : tie.MeasureT-loop
-μ-loop primes words h i j k₀ k = j - k
+μ-loop primes words reach h i j k₀ k = j - k
 
 loop-holds : tie.Need-loop-holds Inv-loop μ-loop
 loop-holds c = (search needs, answer-none _ _ _ _)

@@ -2,6 +2,7 @@
 use Prim.Native.Nat.{suc}
 use native.Mathlib.Omega.{arith}
 use denote.Ref.{now}
+use Rattle.collector.proofs.Skips.{quiet-below}
 use Rattle.collector.proofs.Steps.{ready-below}
 use Rattle.collector.proofs.Answers.{power-kept}
 use borrow.Author.Needs.{needs}
@@ -26,7 +27,7 @@ power-requires c κs =
     let ps = now (z .args .primes) in
     let ws = now (z .args .words) in
     let i = z .args .i in
-    (ready-below i (suc i) ps ws (omega arith) (z .pre .0), z .pre .1 .small (z .args .k) (z .pre .2))
+    (ready-below i (suc i) ps ws (omega arith) (z .pre .0), quiet-below i (suc i) ws (now (z .args .reach)) (omega arith) (z .pre .1), z .pre .2 .small (z .args .k) (z .pre .3))
 
 word-requires : tie.Need-word-requires
 word-requires c κs = search needs
@@ -42,7 +43,7 @@ returns c =
     let z = c .before .before .before .before .before .before in
     let ps = now (z .args .primes) in
     let ws = now (z .args .words) in
-    power-kept (z .args .i) ps ws (now (z .args .h)) (z .pre .1) (z .args .k) (c .before .before .before .power .result) (c .before .before .word .result) (c .before .value .result) (c .same .result) (z .pre .2)
+    power-kept (z .args .i) ps ws (now (z .args .h)) (z .pre .2) (z .args .k) (c .before .before .before .power .result) (c .before .before .word .result) (c .before .value .result) (c .same .result) (z .pre .3)
     (c .before .before .before .power .ensures) (c .before .before .word .ensures) (c .before .value .ensures) (c .same .ensures)
 
 pub keeps-power-spec : {M : Type 1} → statement M

@@ -4,6 +4,7 @@ use Prim.Native.Nat.{suc, _-_, _≤_}
 use native.Mathlib.Omega.{arith}
 use denote.Ref.{now}
 use Rattle.collector.specs.Rows.{Value}
+use Rattle.collector.proofs.Skips.{quiet-below}
 use Rattle.collector.proofs.Steps.{ready-below}
 use Rattle.collector.proofs.Values.{value-none, value-more}
 use borrow.Author.Needs.{needs}
@@ -11,10 +12,10 @@ use Rattle.collector.proofs.consistency.value.Statement.{statement}
 use Rattle.collector.proofs.consistency.value.Tie as tie
 
 abbrev Inv-loop : tie.InvT-loop
-Inv-loop primes words h i k x v₀ m₀ v m = (m ≤ k) × Value i primes words m x v
+Inv-loop primes words reach h i k x v₀ m₀ v m = (m ≤ k) × Value i primes words m x v
 
 abbrev μ-loop : tie.MeasureT-loop
-μ-loop primes words h i k x v₀ m₀ v m = k - m
+μ-loop primes words reach h i k x v₀ m₀ v m = k - m
 
 loop-holds : tie.Need-loop-holds Inv-loop μ-loop
 loop-holds c =
@@ -40,7 +41,7 @@ scaled-requires c κs =
     let ws = now (z .args .words) in
     let i = z .args .i in
     let l = c .before .before .loop in
-    (ready-below i (suc i) ps ws (omega arith) (z .pre .0), z .pre .1 .small (l .m) (omega (arith, z .pre .2)), l .inv .1 .small)
+    (ready-below i (suc i) ps ws (omega arith) (z .pre .0), quiet-below i (suc i) ws (now (z .args .reach)) (omega arith) (z .pre .1), z .pre .2 .small (l .m) (omega (arith, z .pre .3)), l .inv .1 .small)
 
 add-m : tie.Need-add-m Inv-loop μ-loop
 add-m c = search needs
@@ -54,7 +55,7 @@ loop-again c =
     let ps = now (z .args .primes) in
     let ws = now (z .args .words) in
     let l = c .before .before .before .loop in
-    (search needs, value-more (z .args .i) ps ws (now (z .args .h)) (z .args .t6) (l .v) (c .scaled .result) (l .m) (omega (arith, z .pre .2)) (z .pre .1) (l .inv .1) (c .scaled .ensures))
+    (search needs, value-more (z .args .i) ps ws (now (z .args .h)) (z .args .t7) (l .v) (c .scaled .result) (l .m) (omega (arith, z .pre .3)) (z .pre .2) (l .inv .1) (c .scaled .ensures))
 
 returns : tie.Need-returns Inv-loop μ-loop
 returns c =
@@ -63,7 +64,7 @@ returns c =
     let ws = now (z .args .words) in
     let l = c .before .loop in
     let e : l .m ≡ z .args .k = omega arith in
-    subst (λ m. Value (z .args .i) ps ws m (z .args .t6) (l .v)) e (l .inv .1)
+    subst (λ m. Value (z .args .i) ps ws m (z .args .t7) (l .v)) e (l .inv .1)
 
 pub value-spec : {M : Type 1} → statement M
 value-spec =

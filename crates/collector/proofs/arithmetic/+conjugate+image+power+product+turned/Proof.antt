@@ -1,0 +1,911 @@
+-- `arithmetic::conjugate`, `image`, `power`, `product` and `turned` meet their contracts: the one proof of their cycle of
+-- calls. A product on level i turns forms of a level below i; turning and conjugation on level k take images, powers and
+-- products on levels up to k; a power is taken by products on its own level. The measures are four times the level, and
+-- up to three more.
+use borrow.Author.Needs.{needs}
+use mathlib.Core.Path.{_≡_, refl, sym, subst}
+use Prim.Native.Nat.{ℕ, suc, _+_, _*_, _-_, _≤_, _<_}
+use native.Mathlib.Omega.{arith}
+use lib.ListN.{length}
+use denote.Ref.{now}
+use Rattle.collector.specs.Rows.{Small, Top, Moved, Reach, Power}
+use Rattle.collector.proofs.Skips.{quiet-below, moved-reach}
+use Rattle.collector.proofs.Steps.{small-below, ready-below, Turning, turning-start, turning-more, turned-done, turned-fixed, product-none, product-low-at, product-high-at, powering-start, powering-more, power-once, power-lowest, conjugate-none, commutator-small, image-low, image-high, conjugate-moves-at, lower-small-at}
+use borrow.Fn.Kinds.{In}
+use borrow.Fn.PlainCycle.{Measures, is, falls, and}
+use Rattle.collector.proofs.arithmetic.conjugate.Reads as conjugate
+use Rattle.collector.proofs.arithmetic.conjugate.Kinds as conjugate-kinds
+use Rattle.collector.proofs.arithmetic.+conjugate+image+power+product+turned.Lts-conjugate as conjugate-lts
+use Rattle.collector.proofs.arithmetic.image.Reads as image
+use Rattle.collector.proofs.arithmetic.image.Kinds as image-kinds
+use Rattle.collector.proofs.arithmetic.+conjugate+image+power+product+turned.Lts-image as image-lts
+use Rattle.collector.proofs.arithmetic.power.Reads as power
+use Rattle.collector.proofs.arithmetic.power.Kinds as power-kinds
+use Rattle.collector.proofs.arithmetic.+conjugate+image+power+product+turned.Lts-power as power-lts
+use Rattle.collector.proofs.arithmetic.product.Reads as product
+use Rattle.collector.proofs.arithmetic.product.Kinds as product-kinds
+use Rattle.collector.proofs.arithmetic.+conjugate+image+power+product+turned.Lts-product as product-lts
+use Rattle.collector.proofs.arithmetic.turned.Reads as turned
+use Rattle.collector.proofs.arithmetic.turned.Kinds as turned-kinds
+use Rattle.collector.proofs.arithmetic.+conjugate+image+power+product+turned.Lts-turned as turned-lts
+use Rattle.collector.proofs.arithmetic.moved.Reads as moved-reads
+use Rattle.collector.proofs.arithmetic.multiple.Reads as multiple-reads
+use Rattle.collector.proofs.arithmetic.remaining.Reads as remaining-reads
+use Rattle.collector.proofs.rows.stacked.Reads as stacked-reads
+use Rattle.collector.proofs.rows.top.Reads as top-reads
+use Rattle.collector.proofs.rows.word.Reads as word-reads
+use Rattle.collector.proofs.arithmetic.+conjugate+image+power+product+turned.{statement}
+use Rattle.collector.proofs.arithmetic.+conjugate+image+power+product+turned.Tie.{close}
+
+abbrev μ-conjugate : Measures 3 conjugate-kinds.ps ℕ
+μ-conjugate κs a = 4 * a .1 .1 .1 .0 + 2
+
+abbrev μ-image : Measures 3 image-kinds.ps ℕ
+μ-image κs a = 4 * a .1 .1 .1 .1 .0 + 1
+
+abbrev μ-power : Measures 3 power-kinds.ps ℕ
+μ-power κs a = 4 * a .1 .1 .1 .0 + 1
+
+abbrev μ-product : Measures 3 product-kinds.ps ℕ
+μ-product κs a = 4 * a .1 .1 .1 .0
+
+abbrev μ-turned : Measures 3 turned-kinds.ps ℕ
+μ-turned κs a = 4 * a .1 .1 .1 .0 + 3
+
+abbrev conjugate-at : ℕ → In 3 conjugate-kinds.ps
+conjugate-at t = and 3 conjugate-kinds.ps (is 3 conjugate-kinds.ps μ-conjugate t) conjugate.Pre
+
+abbrev conjugate-below : ℕ → In 3 conjugate-kinds.ps
+conjugate-below t =
+    and 3 conjugate-kinds.ps (falls 3 conjugate-kinds.ps _<_ μ-conjugate t) conjugate.Pre
+
+abbrev image-at : ℕ → In 3 image-kinds.ps
+image-at t = and 3 image-kinds.ps (is 3 image-kinds.ps μ-image t) image.Pre
+
+abbrev image-below : ℕ → In 3 image-kinds.ps
+image-below t = and 3 image-kinds.ps (falls 3 image-kinds.ps _<_ μ-image t) image.Pre
+
+abbrev power-at : ℕ → In 3 power-kinds.ps
+power-at t = and 3 power-kinds.ps (is 3 power-kinds.ps μ-power t) power.Pre
+
+abbrev power-below : ℕ → In 3 power-kinds.ps
+power-below t = and 3 power-kinds.ps (falls 3 power-kinds.ps _<_ μ-power t) power.Pre
+
+abbrev product-at : ℕ → In 3 product-kinds.ps
+product-at t = and 3 product-kinds.ps (is 3 product-kinds.ps μ-product t) product.Pre
+
+abbrev product-below : ℕ → In 3 product-kinds.ps
+product-below t = and 3 product-kinds.ps (falls 3 product-kinds.ps _<_ μ-product t) product.Pre
+
+abbrev turned-at : ℕ → In 3 turned-kinds.ps
+turned-at t = and 3 turned-kinds.ps (is 3 turned-kinds.ps μ-turned t) turned.Pre
+
+abbrev turned-below : ℕ → In 3 turned-kinds.ps
+turned-below t = and 3 turned-kinds.ps (falls 3 turned-kinds.ps _<_ μ-turned t) turned.Pre
+
+-- what the calls of each ask and tell
+abbrev conjugate-claims : ℕ → conjugate-lts.Claims
+conjugate-claims t = (moved-reads.Asked, moved-reads.Learnt, conjugate-below t, conjugate.Post, image-below t, image.Post, power-below t, power.Post, product-below t, product.Post, stacked-reads.Asked, stacked-reads.Learnt)
+
+abbrev image-claims : ℕ → image-lts.Claims
+image-claims t = (word-reads.Asked, word-reads.Learnt, product-below t, product.Post)
+
+abbrev power-claims : ℕ → power-lts.Claims
+power-claims t = (top-reads.Asked, top-reads.Learnt, multiple-reads.Asked, multiple-reads.Learnt, product-below t, product.Post)
+
+abbrev product-claims : ℕ → product-lts.Claims
+product-claims t = (top-reads.Asked, top-reads.Learnt, turned-below t, turned.Post, product-below t, product.Post, stacked-reads.Asked, stacked-reads.Learnt, word-reads.Asked, word-reads.Learnt)
+
+abbrev turned-claims : ℕ → turned-lts.Claims
+turned-claims t = (conjugate-below t, conjugate.Post, remaining-reads.Asked, remaining-reads.Learnt)
+
+conjugate-moved-requires : (t : ℕ) → conjugate-lts.Need-moved-requires (conjugate-claims t) (conjugate-at t) conjugate.Post
+conjugate-moved-requires t c κs =
+    (c .pre .1 .2, omega (arith, c .pre .1 .0 .few), c .pre .1 .1 .at (c .args .j) (omega arith))
+
+conjugate-returns : (t : ℕ) → conjugate-lts.Need-returns (conjugate-claims t) (conjugate-at t) conjugate.Post
+conjugate-returns t c =
+    let z = c .before .before in
+    let ps = now (z .args .primes) in
+    let ws = now (z .args .words) in
+    let rc = now (z .args .reach) in
+    let k = z .args .k in
+    let j = z .args .j in
+    let x = z .args .t6 in
+    conjugate-none j ps ws x k (z .pre .1 .2) (subst (Moved ws k j x) (c .if1 .taken) (c .before .moved .ensures)) (z .pre .1 .3)
+
+conjugate-sub-l : (t : ℕ) → conjugate-lts.Need-sub-l (conjugate-claims t) (conjugate-at t) conjugate.Post
+conjugate-sub-l t c = search needs
+
+conjugate-conjugate-requires : (t : ℕ) → conjugate-lts.Need-conjugate-requires (conjugate-claims t) (conjugate-at t) conjugate.Post
+conjugate-conjugate-requires t c κs =
+    let z = c .before .before in
+    let ps = now (z .args .primes) in
+    let ws = now (z .args .words) in
+    let rc = now (z .args .reach) in
+    let k = z .args .k in
+    let j = z .args .j in
+    let x = z .args .t6 in
+    let m = c .before .moved in
+    let mk : m .result ≤ k = m .ensures .less in
+    let kj : k ≤ j = z .pre .1 .2 in
+    (omega (arith, z .pre .0, c .if1 .left), (z .pre .1 .0, z .pre .1 .1, omega arith, small-below (m .result - 1) k ps x (omega arith) (z .pre .1 .3)))
+
+conjugate-mul-z : (t : ℕ) → conjugate-lts.Need-mul-z (conjugate-claims t) (conjugate-at t) conjugate.Post
+conjugate-mul-z t c = search needs
+
+conjugate-array-write-z : (t : ℕ) → conjugate-lts.Need-array-write-z (conjugate-claims t) (conjugate-at t) conjugate.Post
+conjugate-array-write-z t c =
+    let z = c .before .before .before in
+    let ps = now (z .args .primes) in
+    let ws = now (z .args .words) in
+    let rc = now (z .args .reach) in
+    let k = z .args .k in
+    let j = z .args .j in
+    let x = z .args .t6 in
+    let m = c .before .before .moved in
+    let mk : m .result ≤ k = m .ensures .less in
+    let kj : k ≤ j = z .pre .1 .2 in
+    let few : suc j ≤ 12 = z .pre .1 .0 .few in
+    omega arith
+
+conjugate-image-requires : (t : ℕ) → conjugate-lts.Need-image-requires (conjugate-claims t) (conjugate-at t) conjugate.Post
+conjugate-image-requires t c κs =
+    let z = c .before .before .before in
+    let ps = now (z .args .primes) in
+    let ws = now (z .args .words) in
+    let rc = now (z .args .reach) in
+    let k = z .args .k in
+    let j = z .args .j in
+    let x = z .args .t6 in
+    let m = c .before .before .moved in
+    let mk : m .result ≤ k = m .ensures .less in
+    let kj : k ≤ j = z .pre .1 .2 in
+    (omega (arith, z .pre .0, c .before .if1 .left), (z .pre .1 .0, z .pre .1 .1, omega (arith, c .before .if1 .left)))
+
+conjugate-mul-power : (t : ℕ) → conjugate-lts.Need-mul-power (conjugate-claims t) (conjugate-at t) conjugate.Post
+conjugate-mul-power t c = search needs
+
+conjugate-array-read-power : (t : ℕ) → conjugate-lts.Need-array-read-power (conjugate-claims t) (conjugate-at t) conjugate.Post
+conjugate-array-read-power t c =
+    let z = c .before .before .before .before in
+    let ps = now (z .args .primes) in
+    let ws = now (z .args .words) in
+    let rc = now (z .args .reach) in
+    let k = z .args .k in
+    let j = z .args .j in
+    let x = z .args .t6 in
+    let m = c .before .before .before .moved in
+    let mk : m .result ≤ k = m .ensures .less in
+    let kj : k ≤ j = z .pre .1 .2 in
+    let few : suc j ≤ 12 = z .pre .1 .0 .few in
+    omega arith
+
+conjugate-power-requires : (t : ℕ) → conjugate-lts.Need-power-requires (conjugate-claims t) (conjugate-at t) conjugate.Post
+conjugate-power-requires t c κs =
+    let z = c .before .before .before .before in
+    let ps = now (z .args .primes) in
+    let ws = now (z .args .words) in
+    let rc = now (z .args .reach) in
+    let k = z .args .k in
+    let j = z .args .j in
+    let x = z .args .t6 in
+    let m = c .before .before .before .moved in
+    let mk : m .result ≤ k = m .ensures .less in
+    let kj : k ≤ j = z .pre .1 .2 in
+    let r = ready-below (m .result) (suc j) ps ws (omega arith) (z .pre .1 .0) in
+    let quiet = quiet-below (m .result) (suc j) ws rc (omega arith) (z .pre .1 .1) in
+    let level : suc (m .result - 1) ≡ m .result = omega (arith, c .before .before .if1 .left) in
+    (omega (arith, z .pre .0), (r, quiet, subst (λ n. Small n ps (c .image .result)) level (c .image .ensures .small)))
+
+conjugate-product-requires : (t : ℕ) → conjugate-lts.Need-product-requires (conjugate-claims t) (conjugate-at t) conjugate.Post
+conjugate-product-requires t c κs =
+    let z = c .before .before .before .before .before in
+    let ps = now (z .args .primes) in
+    let ws = now (z .args .words) in
+    let rc = now (z .args .reach) in
+    let k = z .args .k in
+    let j = z .args .j in
+    let x = z .args .t6 in
+    let m = c .before .before .before .before .moved in
+    let mk : m .result ≤ k = m .ensures .less in
+    let kj : k ≤ j = z .pre .1 .2 in
+    let r = ready-below (m .result) (suc j) ps ws (omega arith) (z .pre .1 .0) in
+    let quiet = quiet-below (m .result) (suc j) ws rc (omega arith) (z .pre .1 .1) in
+    let few : suc j ≤ 12 = z .pre .1 .0 .few in
+    let q = c .before .before .conjugate in
+    let pos : 0 < m .result = omega (arith, c .before .before .before .if1 .left) in
+    let long : length (q .result) ≡ 12 = search needs in
+    (omega (arith, z .pre .0), (r, quiet, c .power .ensures .small, lower-small-at k j (m .result) ps ws x (q .result) pos kj (omega arith) (m .ensures) (q .ensures) r))
+
+conjugate-mul-stacked : (t : ℕ) → conjugate-lts.Need-mul-stacked (conjugate-claims t) (conjugate-at t) conjugate.Post
+conjugate-mul-stacked t c = search needs
+
+conjugate-array-read-stacked : (t : ℕ) → conjugate-lts.Need-array-read-stacked (conjugate-claims t) (conjugate-at t) conjugate.Post
+conjugate-array-read-stacked t c =
+    let z = c .before .before .before .before .before .before in
+    let ps = now (z .args .primes) in
+    let ws = now (z .args .words) in
+    let rc = now (z .args .reach) in
+    let k = z .args .k in
+    let j = z .args .j in
+    let x = z .args .t6 in
+    let m = c .before .before .before .before .before .moved in
+    let mk : m .result ≤ k = m .ensures .less in
+    let kj : k ≤ j = z .pre .1 .2 in
+    let few : suc j ≤ 12 = z .pre .1 .0 .few in
+    omega arith
+
+conjugate-stacked-requires : (t : ℕ) → conjugate-lts.Need-stacked-requires (conjugate-claims t) (conjugate-at t) conjugate.Post
+conjugate-stacked-requires t c κs =
+    let z = c .before .before .before .before .before .before in
+    let ps = now (z .args .primes) in
+    let ws = now (z .args .words) in
+    let rc = now (z .args .reach) in
+    let k = z .args .k in
+    let j = z .args .j in
+    let x = z .args .t6 in
+    let m = c .before .before .before .before .before .moved in
+    let mk : m .result ≤ k = m .ensures .less in
+    let kj : k ≤ j = z .pre .1 .2 in
+    let few : suc j ≤ 12 = z .pre .1 .0 .few in
+    omega (arith, c .before .before .before .before .if1 .left)
+
+conjugate-returns-2 : (t : ℕ) → conjugate-lts.Need-returns-2 (conjugate-claims t) (conjugate-at t) conjugate.Post
+conjugate-returns-2 t c =
+    let z = c .before .before .before .before .before .before .before in
+    let ps = now (z .args .primes) in
+    let ws = now (z .args .words) in
+    let rc = now (z .args .reach) in
+    let k = z .args .k in
+    let j = z .args .j in
+    let x = z .args .t6 in
+    let m = c .before .before .before .before .before .before .moved in
+    let mk : m .result ≤ k = m .ensures .less in
+    let kj : k ≤ j = z .pre .1 .2 in
+    let few : suc j ≤ 12 = z .pre .1 .0 .few in
+    let q = c .before .before .before .before .conjugate in
+    let pos : 0 < m .result = omega (arith, c .before .before .before .before .before .if1 .left) in
+    let long : length (q .result) ≡ 12 = search needs in
+    conjugate-moves-at k j (m .result) ps ws x (q .result) pos kj (omega arith) (m .ensures) (q .ensures) (c .before .before .before .image .result) (c .before .before .power .result) (c .before .product .result) (c .stacked .result)
+    (z .pre .1 .3) (c .before .before .before .image .ensures) (c .before .before .power .ensures) (c .before .product .ensures) (c .stacked .ensures)
+
+image-word-requires : (t : ℕ) → image-lts.Need-word-requires (image-claims t) (image-at t) image.Post
+image-word-requires t c κs =
+    let z = c in
+    let ps = now (z .args .primes) in
+    let ws = now (z .args .words) in
+    let j = z .args .j in
+    let l = z .args .l in
+    let lj : l < j = z .pre .1 .2 in
+    (omega arith, omega (arith, z .pre .1 .0 .few))
+
+image-mul-s : (t : ℕ) → image-lts.Need-mul-s (image-claims t) (image-at t) image.Post
+image-mul-s t c = search needs
+
+image-array-read-s : (t : ℕ) → image-lts.Need-array-read-s (image-claims t) (image-at t) image.Post
+image-array-read-s t c =
+    let z = c .before in
+    let ps = now (z .args .primes) in
+    let ws = now (z .args .words) in
+    let j = z .args .j in
+    let l = z .args .l in
+    let lj : l < j = z .pre .1 .2 in
+    omega (arith, z .pre .1 .0 .few)
+
+image-add-s : (t : ℕ) → image-lts.Need-add-s (image-claims t) (image-at t) image.Post
+image-add-s t c =
+    let z = c .before in
+    let ps = now (z .args .primes) in
+    let ws = now (z .args .words) in
+    let j = z .args .j in
+    let l = z .args .l in
+    let lj : l < j = z .pre .1 .2 in
+    let w = c .word in
+    let few : suc j ≤ 12 = z .pre .1 .0 .few in
+    let long : length (w .result) ≡ 12 = search needs in
+    omega (arith, commutator-small j l ps ws (w .result) lj (z .pre .1 .0) (w .ensures) .below l (omega arith), z .pre .1 .0 .bounded l (omega arith))
+
+image-mul-p : (t : ℕ) → image-lts.Need-mul-p (image-claims t) (image-at t) image.Post
+image-mul-p t c = search needs
+
+image-element-copy-out-p : (t : ℕ) → image-lts.Need-element-copy-out-p (image-claims t) (image-at t) image.Post
+image-element-copy-out-p t c =
+    let z = c .before in
+    let ps = now (z .args .primes) in
+    let ws = now (z .args .words) in
+    let j = z .args .j in
+    let l = z .args .l in
+    let lj : l < j = z .pre .1 .2 in
+    omega (arith, z .pre .1 .0 .few)
+
+image-mul-h : (t : ℕ) → image-lts.Need-mul-h (image-claims t) (image-at t) image.Post
+image-mul-h t c = search needs
+
+image-array-write-h : (t : ℕ) → image-lts.Need-array-write-h (image-claims t) (image-at t) image.Post
+image-array-write-h t c =
+    let z = c .before .before .before in
+    let ps = now (z .args .primes) in
+    let ws = now (z .args .words) in
+    let j = z .args .j in
+    let l = z .args .l in
+    let lj : l < j = z .pre .1 .2 in
+    omega (arith, z .pre .1 .0 .few)
+
+image-returns : (t : ℕ) → image-lts.Need-returns (image-claims t) (image-at t) image.Post
+image-returns t c =
+    let z = c .before .before .before in
+    let ps = now (z .args .primes) in
+    let ws = now (z .args .words) in
+    let j = z .args .j in
+    let l = z .args .l in
+    let lj : l < j = z .pre .1 .2 in
+    let w = c .before .before .word in
+    let few : suc j ≤ 12 = z .pre .1 .0 .few in
+    let long : length (w .result) ≡ 12 = search needs in
+    image-low j l ps ws (w .result) lj (z .pre .1 .0) (w .ensures) (omega arith) (c .if1 .taken)
+
+image-word-requires-2 : (t : ℕ) → image-lts.Need-word-requires-2 (image-claims t) (image-at t) image.Post
+image-word-requires-2 t c κs =
+    let z = c .before .before .before in
+    let ps = now (z .args .primes) in
+    let ws = now (z .args .words) in
+    let j = z .args .j in
+    let l = z .args .l in
+    let lj : l < j = z .pre .1 .2 in
+    (omega arith, omega (arith, z .pre .1 .0 .few))
+
+image-product-requires : (t : ℕ) → image-lts.Need-product-requires (image-claims t) (image-at t) image.Post
+image-product-requires t c κs =
+    let z = c .before .before .before .before in
+    let ps = now (z .args .primes) in
+    let ws = now (z .args .words) in
+    let j = z .args .j in
+    let l = z .args .l in
+    let lj : l < j = z .pre .1 .2 in
+    let w = c .before .before .before .word in
+    let few : suc j ≤ 12 = z .pre .1 .0 .few in
+    let long : length (w .result) ≡ 12 = search needs in
+    let u = c .word2 in (
+      omega (arith, z .pre .0),
+      (
+        ready-below l (suc j) ps ws (omega arith) (z .pre .1 .0),
+        quiet-below l (suc j) ws (now (z .args .reach)) (omega arith) (z .pre .1 .1),
+        subst (Small l ps) (sym (u .ensures)) (small-below l (suc j) ps _ (omega arith) (z .pre .1 .0 .word l l (omega arith) (omega arith))),
+        small-below l (suc l) ps (w .result) (omega arith) (commutator-small j l ps ws (w .result) lj (z .pre .1 .0) (w .ensures)),
+      ),
+    )
+
+image-mul-v : (t : ℕ) → image-lts.Need-mul-v (image-claims t) (image-at t) image.Post
+image-mul-v t c = search needs
+
+image-array-write-v : (t : ℕ) → image-lts.Need-array-write-v (image-claims t) (image-at t) image.Post
+image-array-write-v t c =
+    let z = c .before .before .before .before .before in
+    let ps = now (z .args .primes) in
+    let ws = now (z .args .words) in
+    let j = z .args .j in
+    let l = z .args .l in
+    let lj : l < j = z .pre .1 .2 in
+    omega (arith, z .pre .1 .0 .few)
+
+image-returns-2 : (t : ℕ) → image-lts.Need-returns-2 (image-claims t) (image-at t) image.Post
+image-returns-2 t c =
+    let z = c .before .before .before .before .before in
+    let ps = now (z .args .primes) in
+    let ws = now (z .args .words) in
+    let j = z .args .j in
+    let l = z .args .l in
+    let lj : l < j = z .pre .1 .2 in
+    let w = c .before .before .before .before .word in
+    let few : suc j ≤ 12 = z .pre .1 .0 .few in
+    let long : length (w .result) ≡ 12 = search needs in
+    let u = c .before .word2 in
+    let v = c .product in
+    let longv : length (v .result) ≡ 12 = search needs in
+    image-high j l ps ws (w .result) lj (z .pre .1 .0) (w .ensures) (u .result) (v .result) (u .ensures) (v .ensures) (omega arith) (c .before .before .if1 .left)
+
+abbrev power-Inv-loop : power-lts.InvT-loop
+power-Inv-loop primes words reach i x e r₀ n₀ r n = (n ≤ e) × Power i primes words x r n
+
+abbrev power-μ-loop : power-lts.MeasureT-loop
+power-μ-loop primes words reach i x e r₀ n₀ r n = e - n
+
+power-returns : (t : ℕ) → power-lts.Need-returns (power-claims t) (power-at t) power.Post power-Inv-loop power-μ-loop
+power-returns t c =
+    let z = c .before in
+    let ps = now (z .args .primes) in
+    let ws = now (z .args .words) in
+    let i = z .args .i in
+    let x = z .args .x in
+    subst (Power i ps ws x x) (sym (c .if1 .taken)) (power-once i ps ws x (z .pre .1 .2))
+
+power-top-requires : (t : ℕ) → power-lts.Need-top-requires (power-claims t) (power-at t) power.Post power-Inv-loop power-μ-loop
+power-top-requires t c κs =
+    let z = c .before in
+    let ps = now (z .args .primes) in
+    let ws = now (z .args .words) in
+    let i = z .args .i in
+    let x = z .args .x in
+    z .pre .1 .0 .few
+
+power-multiple-requires : (t : ℕ) → power-lts.Need-multiple-requires (power-claims t) (power-at t) power.Post power-Inv-loop power-μ-loop
+power-multiple-requires t c κs =
+    let z = c .before .before .before in
+    let ps = now (z .args .primes) in
+    let ws = now (z .args .words) in
+    let i = z .args .i in
+    let x = z .args .x in
+    let t = c .before .top in
+    omega (arith, z .pre .1 .0 .two 0 (omega (arith, t .ensures .less, c .if2 .taken)))
+
+power-returns-2 : (t : ℕ) → power-lts.Need-returns-2 (power-claims t) (power-at t) power.Post power-Inv-loop power-μ-loop
+power-returns-2 t c =
+    let z = c .before .before .before .before in
+    let ps = now (z .args .primes) in
+    let ws = now (z .args .words) in
+    let i = z .args .i in
+    let x = z .args .x in
+    let t = c .before .before .top in
+    power-lowest i ps ws x (z .pre .1 .0) (z .pre .1 .2) (subst (Top i x) (c .before .if2 .taken) (t .ensures)) (z .args .e) (c .multiple .result) (c .multiple .ensures)
+
+power-loop-holds : (t : ℕ) → power-lts.Need-loop-holds (power-claims t) (power-at t) power.Post power-Inv-loop power-μ-loop
+power-loop-holds t c =
+    let z = c .before .before .before in
+    let ps = now (z .args .primes) in
+    let ws = now (z .args .words) in
+    let i = z .args .i in
+    let x = z .args .x in
+    (search needs, powering-start i ps ws x (z .pre .1 .0))
+
+power-product-requires : (t : ℕ) → power-lts.Need-product-requires (power-claims t) (power-at t) power.Post power-Inv-loop power-μ-loop
+power-product-requires t c κs =
+    let z = c .before .before .before .before .before in
+    let ps = now (z .args .primes) in
+    let ws = now (z .args .words) in
+    let i = z .args .i in
+    let x = z .args .x in
+    (omega (arith, z .pre .0), (z .pre .1 .0, z .pre .1 .1, z .pre .1 .2, c .before .loop .inv .1 .small))
+
+power-add-n : (t : ℕ) → power-lts.Need-add-n (power-claims t) (power-at t) power.Post power-Inv-loop power-μ-loop
+power-add-n t c = search needs
+
+power-loop-less : (t : ℕ) → power-lts.Need-loop-less (power-claims t) (power-at t) power.Post power-Inv-loop power-μ-loop
+power-loop-less t c = search needs
+
+power-loop-again : (t : ℕ) → power-lts.Need-loop-again (power-claims t) (power-at t) power.Post power-Inv-loop power-μ-loop
+power-loop-again t c =
+    let z = c .before .before .before .before .before .before in
+    let ps = now (z .args .primes) in
+    let ws = now (z .args .words) in
+    let i = z .args .i in
+    let x = z .args .x in
+    let l = c .before .before .loop in
+    (search needs, powering-more i ps ws x (l .r) (c .product .result) (l .n) (l .inv .1) (c .product .ensures))
+
+power-returns-3 : (t : ℕ) → power-lts.Need-returns-3 (power-claims t) (power-at t) power.Post power-Inv-loop power-μ-loop
+power-returns-3 t c =
+    let z = c .before .before .before .before .before in
+    let ps = now (z .args .primes) in
+    let ws = now (z .args .words) in
+    let i = z .args .i in
+    let x = z .args .x in
+    let l = c .before .loop in
+    let e : l .n ≡ z .args .e = omega arith in
+    subst (Power i ps ws x (l .r)) e (l .inv .1)
+
+product-top-requires : (t : ℕ) → product-lts.Need-top-requires (product-claims t) (product-at t) product.Post
+product-top-requires t c κs = c .pre .1 .0 .few
+
+product-returns : (t : ℕ) → product-lts.Need-returns (product-claims t) (product-at t) product.Post
+product-returns t c =
+    let z = c .before .before in
+    let ps = now (z .args .primes) in
+    let ws = now (z .args .words) in
+    let rc = now (z .args .reach) in
+    let i = z .args .i in
+    let x = z .args .t5 in
+    let y = z .args .t6 in
+    product-none i ps ws x y (subst (Top i y) (c .if1 .taken) (c .before .top .ensures)) (z .pre .1 .2)
+
+product-sub-k : (t : ℕ) → product-lts.Need-sub-k (product-claims t) (product-at t) product.Post
+product-sub-k t c = search needs
+
+product-mul-b : (t : ℕ) → product-lts.Need-mul-b (product-claims t) (product-at t) product.Post
+product-mul-b t c = search needs
+
+product-array-read-b : (t : ℕ) → product-lts.Need-array-read-b (product-claims t) (product-at t) product.Post
+product-array-read-b t c =
+    let z = c .before .before in
+    let ps = now (z .args .primes) in
+    let ws = now (z .args .words) in
+    let rc = now (z .args .reach) in
+    let i = z .args .i in
+    let x = z .args .t5 in
+    let y = z .args .t6 in
+    let m = c .before .top in
+    let mi : m .result ≤ i = m .ensures .less in
+    let few : i ≤ 12 = z .pre .1 .0 .few in
+    let pos : 0 < m .result = omega (arith, c .if1 .left) in
+    omega arith
+
+product-turned-requires : (t : ℕ) → product-lts.Need-turned-requires (product-claims t) (product-at t) product.Post
+product-turned-requires t c κs =
+    let z = c .before .before in
+    let ps = now (z .args .primes) in
+    let ws = now (z .args .words) in
+    let rc = now (z .args .reach) in
+    let i = z .args .i in
+    let x = z .args .t5 in
+    let y = z .args .t6 in
+    let m = c .before .top in
+    let mi : m .result ≤ i = m .ensures .less in
+    let few : i ≤ 12 = z .pre .1 .0 .few in
+    let pos : 0 < m .result = omega (arith, c .if1 .left) in (
+      omega (arith, z .pre .0),
+      (
+        ready-below (suc (m .result - 1)) i ps ws (omega arith) (z .pre .1 .0),
+        quiet-below (suc (m .result - 1)) i ws rc (omega arith) (z .pre .1 .1),
+        small-below (m .result - 1) i ps x (omega arith) (z .pre .1 .2),
+      ),
+    )
+
+product-product-requires : (t : ℕ) → product-lts.Need-product-requires (product-claims t) (product-at t) product.Post
+product-product-requires t c κs =
+    let z = c .before .before .before in
+    let ps = now (z .args .primes) in
+    let ws = now (z .args .words) in
+    let rc = now (z .args .reach) in
+    let i = z .args .i in
+    let x = z .args .t5 in
+    let y = z .args .t6 in
+    let m = c .before .before .top in
+    let mi : m .result ≤ i = m .ensures .less in
+    let few : i ≤ 12 = z .pre .1 .0 .few in
+    let pos : 0 < m .result = omega (arith, c .before .if1 .left) in (
+      omega (arith, z .pre .0),
+      (
+        ready-below (m .result - 1) i ps ws (omega arith) (z .pre .1 .0),
+        quiet-below (m .result - 1) i ws rc (omega arith) (z .pre .1 .1),
+        c .turned .ensures .small,
+        small-below (m .result - 1) i ps y (omega arith) (z .pre .1 .3),
+      ),
+    )
+
+product-mul-s : (t : ℕ) → product-lts.Need-mul-s (product-claims t) (product-at t) product.Post
+product-mul-s t c = search needs
+
+product-array-read-s : (t : ℕ) → product-lts.Need-array-read-s (product-claims t) (product-at t) product.Post
+product-array-read-s t c =
+    let z = c .before .before .before .before in
+    let ps = now (z .args .primes) in
+    let ws = now (z .args .words) in
+    let rc = now (z .args .reach) in
+    let i = z .args .i in
+    let x = z .args .t5 in
+    let y = z .args .t6 in
+    let m = c .before .before .before .top in
+    let mi : m .result ≤ i = m .ensures .less in
+    let few : i ≤ 12 = z .pre .1 .0 .few in
+    let pos : 0 < m .result = omega (arith, c .before .before .if1 .left) in
+    omega arith
+
+product-add-s : (t : ℕ) → product-lts.Need-add-s (product-claims t) (product-at t) product.Post
+product-add-s t c =
+    let z = c .before .before .before .before in
+    let ps = now (z .args .primes) in
+    let ws = now (z .args .words) in
+    let rc = now (z .args .reach) in
+    let i = z .args .i in
+    let x = z .args .t5 in
+    let y = z .args .t6 in
+    let m = c .before .before .before .top in
+    let mi : m .result ≤ i = m .ensures .less in
+    let few : i ≤ 12 = z .pre .1 .0 .few in
+    let pos : 0 < m .result = omega (arith, c .before .before .if1 .left) in
+    omega (arith, z .pre .1 .2 .below (m .result - 1) (omega arith), z .pre .1 .3 .below (m .result - 1) (omega arith), z .pre .1 .0 .bounded (m .result - 1) (omega arith))
+
+product-mul-p : (t : ℕ) → product-lts.Need-mul-p (product-claims t) (product-at t) product.Post
+product-mul-p t c = search needs
+
+product-element-copy-out-p : (t : ℕ) → product-lts.Need-element-copy-out-p (product-claims t) (product-at t) product.Post
+product-element-copy-out-p t c =
+    let z = c .before .before .before .before in
+    let ps = now (z .args .primes) in
+    let ws = now (z .args .words) in
+    let rc = now (z .args .reach) in
+    let i = z .args .i in
+    let x = z .args .t5 in
+    let y = z .args .t6 in
+    let m = c .before .before .before .top in
+    let mi : m .result ≤ i = m .ensures .less in
+    let few : i ≤ 12 = z .pre .1 .0 .few in
+    let pos : 0 < m .result = omega (arith, c .before .before .if1 .left) in
+    omega arith
+
+product-stacked-requires : (t : ℕ) → product-lts.Need-stacked-requires (product-claims t) (product-at t) product.Post
+product-stacked-requires t c κs =
+    let z = c .before .before .before .before .before .before in
+    let ps = now (z .args .primes) in
+    let ws = now (z .args .words) in
+    let rc = now (z .args .reach) in
+    let i = z .args .i in
+    let x = z .args .t5 in
+    let y = z .args .t6 in
+    let m = c .before .before .before .before .before .top in
+    let mi : m .result ≤ i = m .ensures .less in
+    let few : i ≤ 12 = z .pre .1 .0 .few in
+    let pos : 0 < m .result = omega (arith, c .before .before .before .before .if1 .left) in
+    omega arith
+
+product-returns-2 : (t : ℕ) → product-lts.Need-returns-2 (product-claims t) (product-at t) product.Post
+product-returns-2 t c =
+    let z = c .before .before .before .before .before .before .before in
+    let ps = now (z .args .primes) in
+    let ws = now (z .args .words) in
+    let rc = now (z .args .reach) in
+    let i = z .args .i in
+    let x = z .args .t5 in
+    let y = z .args .t6 in
+    let m = c .before .before .before .before .before .before .top in
+    let mi : m .result ≤ i = m .ensures .less in
+    let few : i ≤ 12 = z .pre .1 .0 .few in
+    let pos : 0 < m .result = omega (arith, c .before .before .before .before .before .if1 .left) in
+    let t = c .before .before .before .before .turned in
+    let q = c .before .before .before .product in
+    product-low-at i (m .result) ps ws x y (t .result) (q .result) pos (m .ensures) (z .pre .1 .2) (t .ensures) (q .ensures) (c .stacked .result) (c .stacked .ensures) (c .before .if2 .taken)
+
+product-word-requires : (t : ℕ) → product-lts.Need-word-requires (product-claims t) (product-at t) product.Post
+product-word-requires t c κs =
+    let z = c .before .before .before .before .before .before in
+    let ps = now (z .args .primes) in
+    let ws = now (z .args .words) in
+    let rc = now (z .args .reach) in
+    let i = z .args .i in
+    let x = z .args .t5 in
+    let y = z .args .t6 in
+    let m = c .before .before .before .before .before .top in
+    let mi : m .result ≤ i = m .ensures .less in
+    let few : i ≤ 12 = z .pre .1 .0 .few in
+    let pos : 0 < m .result = omega (arith, c .before .before .before .before .if1 .left) in
+    (omega arith, omega arith)
+
+product-product-requires-2 : (t : ℕ) → product-lts.Need-product-requires-2 (product-claims t) (product-at t) product.Post
+product-product-requires-2 t c κs =
+    let z = c .before .before .before .before .before .before .before in
+    let ps = now (z .args .primes) in
+    let ws = now (z .args .words) in
+    let rc = now (z .args .reach) in
+    let i = z .args .i in
+    let x = z .args .t5 in
+    let y = z .args .t6 in
+    let m = c .before .before .before .before .before .before .top in
+    let mi : m .result ≤ i = m .ensures .less in
+    let few : i ≤ 12 = z .pre .1 .0 .few in
+    let pos : 0 < m .result = omega (arith, c .before .before .before .before .before .if1 .left) in (
+      omega (arith, z .pre .0),
+      (
+        ready-below (m .result - 1) i ps ws (omega arith) (z .pre .1 .0),
+        quiet-below (m .result - 1) i ws rc (omega arith) (z .pre .1 .1),
+        subst (Small (m .result - 1) ps) (sym (c .word .ensures)) (small-below (m .result - 1) i ps _ (omega arith) (z .pre .1 .0 .word (m .result - 1) (m .result - 1) (omega arith) (omega arith))),
+        c .before .before .before .product .ensures .small,
+      ),
+    )
+
+product-stacked-requires-2 : (t : ℕ) → product-lts.Need-stacked-requires-2 (product-claims t) (product-at t) product.Post
+product-stacked-requires-2 t c κs =
+    let z = c .before .before .before .before .before .before .before .before in
+    let ps = now (z .args .primes) in
+    let ws = now (z .args .words) in
+    let rc = now (z .args .reach) in
+    let i = z .args .i in
+    let x = z .args .t5 in
+    let y = z .args .t6 in
+    let m = c .before .before .before .before .before .before .before .top in
+    let mi : m .result ≤ i = m .ensures .less in
+    let few : i ≤ 12 = z .pre .1 .0 .few in
+    let pos : 0 < m .result = omega (arith, c .before .before .before .before .before .before .if1 .left) in
+    omega arith
+
+product-returns-3 : (t : ℕ) → product-lts.Need-returns-3 (product-claims t) (product-at t) product.Post
+product-returns-3 t c =
+    let z = c .before .before .before .before .before .before .before .before .before in
+    let ps = now (z .args .primes) in
+    let ws = now (z .args .words) in
+    let rc = now (z .args .reach) in
+    let i = z .args .i in
+    let x = z .args .t5 in
+    let y = z .args .t6 in
+    let m = c .before .before .before .before .before .before .before .before .top in
+    let mi : m .result ≤ i = m .ensures .less in
+    let few : i ≤ 12 = z .pre .1 .0 .few in
+    let pos : 0 < m .result = omega (arith, c .before .before .before .before .before .before .before .if1 .left) in
+    let t = c .before .before .before .before .before .before .turned in
+    let q = c .before .before .before .before .before .product in
+    let u = c .before .before .word in
+    let v = c .before .product2 in
+    product-high-at i (m .result) ps ws x y (t .result) (q .result) pos (m .ensures) (z .pre .1 .2) (t .ensures) (q .ensures) (u .result) (v .result) (c .stacked2 .result) (u .ensures) (v .ensures) (c .stacked2 .ensures)
+    (c .before .before .before .if2 .left) (z .pre .1 .3)
+
+abbrev turned-Inv-loop : turned-lts.InvT-loop
+turned-Inv-loop primes words reach i x b c₀ n₀ left₀ c n left = Turning i b primes words x c n left
+
+abbrev turned-μ-loop : turned-lts.MeasureT-loop
+turned-μ-loop primes words reach i x b c₀ n₀ left₀ c n left = left
+
+turned-mul-if1 : (t : ℕ) → turned-lts.Need-mul-if1 (turned-claims t) (turned-at t) turned.Post turned-Inv-loop turned-μ-loop
+turned-mul-if1 t c = search needs
+
+turned-element-copy-out-if1 : (t : ℕ) → turned-lts.Need-element-copy-out-if1 (turned-claims t) (turned-at t) turned.Post turned-Inv-loop turned-μ-loop
+turned-element-copy-out-if1 t c = omega (arith, c .pre .1 .0 .few)
+
+turned-returns : (t : ℕ) → turned-lts.Need-returns (turned-claims t) (turned-at t) turned.Post turned-Inv-loop turned-μ-loop
+turned-returns t c =
+    let z = c .before .before in
+    let ps = now (z .args .primes) in
+    let ws = now (z .args .words) in
+    let rc = now (z .args .reach) in
+    let i = z .args .i in
+    let x = z .args .x in
+    turned-fixed i (z .args .b) ps ws x (conjugate-none i ps ws x i (omega arith) (moved-reach ws i i 0 x (omega arith) (omega arith) (subst (Reach ws i) (c .if1 .taken) (z .pre .1 .1 .at i (omega arith)))) (z .pre .1 .2))
+
+turned-loop-holds : (t : ℕ) → turned-lts.Need-loop-holds (turned-claims t) (turned-at t) turned.Post turned-Inv-loop turned-μ-loop
+turned-loop-holds t c =
+    let z = c .before .before in
+    let ps = now (z .args .primes) in
+    let ws = now (z .args .words) in
+    let rc = now (z .args .reach) in
+    let i = z .args .i in
+    let x = z .args .x in
+    turning-start i (z .args .b) ps ws x (z .pre .1 .2)
+
+turned-conjugate-requires : (t : ℕ) → turned-lts.Need-conjugate-requires (turned-claims t) (turned-at t) turned.Post turned-Inv-loop turned-μ-loop
+turned-conjugate-requires t c κs =
+    let z = c .before .before .before .before in
+    let ps = now (z .args .primes) in
+    let ws = now (z .args .words) in
+    let rc = now (z .args .reach) in
+    let i = z .args .i in
+    let x = z .args .x in
+    (omega (arith, z .pre .0), (z .pre .1 .0, z .pre .1 .1, omega arith, c .before .loop .inv .small))
+
+turned-add-n : (t : ℕ) → turned-lts.Need-add-n (turned-claims t) (turned-at t) turned.Post turned-Inv-loop turned-μ-loop
+turned-add-n t c =
+    let z = c .before .before .before .before .before in
+    let ps = now (z .args .primes) in
+    let ws = now (z .args .words) in
+    let rc = now (z .args .reach) in
+    let i = z .args .i in
+    let x = z .args .x in
+    omega (arith, c .before .before .loop .inv .total)
+
+turned-sub-remaining : (t : ℕ) → turned-lts.Need-sub-remaining (turned-claims t) (turned-at t) turned.Post turned-Inv-loop turned-μ-loop
+turned-sub-remaining t c = search needs
+
+turned-remaining-requires : (t : ℕ) → turned-lts.Need-remaining-requires (turned-claims t) (turned-at t) turned.Post turned-Inv-loop turned-μ-loop
+turned-remaining-requires t c κs =
+    let z = c .before .before .before .before .before in
+    let ps = now (z .args .primes) in
+    let ws = now (z .args .words) in
+    let rc = now (z .args .reach) in
+    let i = z .args .i in
+    let x = z .args .x in
+    (omega (arith, z .pre .1 .0 .few), omega arith)
+
+turned-loop-less : (t : ℕ) → turned-lts.Need-loop-less (turned-claims t) (turned-at t) turned.Post turned-Inv-loop turned-μ-loop
+turned-loop-less t c = search needs
+
+turned-loop-again : (t : ℕ) → turned-lts.Need-loop-again (turned-claims t) (turned-at t) turned.Post turned-Inv-loop turned-μ-loop
+turned-loop-again t c =
+    let z = c .before .before .before .before .before .before in
+    let ps = now (z .args .primes) in
+    let ws = now (z .args .words) in
+    let rc = now (z .args .reach) in
+    let i = z .args .i in
+    let x = z .args .x in
+    let l = c .before .before .before .loop in
+    turning-more i (z .args .b) ps ws x (l .c) (c .before .conjugate .result) (l .n) (l .left) (c .remaining .result) (search needs) (l .inv) (c .before .conjugate .ensures) (c .remaining .ensures)
+
+turned-returns-2 : (t : ℕ) → turned-lts.Need-returns-2 (turned-claims t) (turned-at t) turned.Post turned-Inv-loop turned-μ-loop
+turned-returns-2 t c =
+    let z = c .before .before .before .before in
+    let ps = now (z .args .primes) in
+    let ws = now (z .args .words) in
+    let rc = now (z .args .reach) in
+    let i = z .args .i in
+    let x = z .args .x in
+    let l = c .before .loop in
+    let over : l .left ≡ 0 = omega arith in
+    turned-done i (z .args .b) ps ws x (l .c) (l .n) (l .left) over (l .inv)
+
+pub +conjugate+image+power+product+turned-spec : {M : Type 1} → statement M
++conjugate+image+power+product+turned-spec =
+    close μ-conjugate μ-image μ-power μ-product μ-turned (λ t. conjugate-lts.spec (conjugate-claims t)
+    (conjugate-at t)
+    conjugate.Post
+    (conjugate-moved-requires t)
+    (conjugate-returns t)
+    (conjugate-sub-l t)
+    (conjugate-conjugate-requires t)
+    (conjugate-mul-z t)
+    (conjugate-array-write-z t)
+    (conjugate-image-requires t)
+    (conjugate-mul-power t)
+    (conjugate-array-read-power t)
+    (conjugate-power-requires t)
+    (conjugate-product-requires t)
+    (conjugate-mul-stacked t)
+    (conjugate-array-read-stacked t)
+    (conjugate-stacked-requires t)
+    (conjugate-returns-2 t))
+    (λ t. image-lts.spec
+    (word-reads.Asked, word-reads.Learnt, product-below t, product.Post)
+    (image-at t)
+    image.Post
+    (image-word-requires t)
+    (image-mul-s t)
+    (image-array-read-s t)
+    (image-add-s t)
+    (image-mul-p t)
+    (image-element-copy-out-p t)
+    (image-mul-h t)
+    (image-array-write-h t)
+    (image-returns t)
+    (image-word-requires-2 t)
+    (image-product-requires t)
+    (image-mul-v t)
+    (image-array-write-v t)
+    (image-returns-2 t))
+    (λ t. power-lts.spec (power-claims t)
+    (power-at t)
+    power.Post
+    power-Inv-loop
+    power-μ-loop
+    (power-returns t)
+    (power-top-requires t)
+    (power-multiple-requires t)
+    (power-returns-2 t)
+    (power-loop-holds t)
+    (power-product-requires t)
+    (power-add-n t)
+    (power-loop-less t)
+    (power-loop-again t)
+    (power-returns-3 t))
+    (λ t. product-lts.spec (product-claims t)
+    (product-at t)
+    product.Post
+    (product-top-requires t)
+    (product-returns t)
+    (product-sub-k t)
+    (product-mul-b t)
+    (product-array-read-b t)
+    (product-turned-requires t)
+    (product-product-requires t)
+    (product-mul-s t)
+    (product-array-read-s t)
+    (product-add-s t)
+    (product-mul-p t)
+    (product-element-copy-out-p t)
+    (product-stacked-requires t)
+    (product-returns-2 t)
+    (product-word-requires t)
+    (product-product-requires-2 t)
+    (product-stacked-requires-2 t)
+    (product-returns-3 t))
+    λ t. turned-lts.spec
+    (conjugate-below t, conjugate.Post, remaining-reads.Asked, remaining-reads.Learnt)
+    (turned-at t)
+    turned.Post
+    turned-Inv-loop
+    turned-μ-loop
+    (turned-mul-if1 t)
+    (turned-element-copy-out-if1 t)
+    (turned-returns t)
+    (turned-loop-holds t)
+    (turned-conjugate-requires t)
+    (turned-add-n t)
+    (turned-sub-remaining t)
+    (turned-remaining-requires t)
+    (turned-loop-less t)
+    (turned-loop-again t)
+    (turned-returns-2 t)
