@@ -103,7 +103,7 @@ pub fn survey_level(
     shifts: &mut [u32],
     f: Frame,
 ) -> u32
-    requires { ⌜ Sound f (now low) (now rows) × (4096 ≤ length (now first)) × (4096 ≤ length (now leaders)) × (4096 ≤ length (now places)) × (4096 ≤ length (now numbers)) × (4096 ≤ length (now shifts)) ⌝ }
+    requires { ⌜ Sound f (now low) (now rows) × (f .reps ≤ length (now first)) × (f .reps ≤ length (now leaders)) × (f .reps ≤ length (now places)) × (f .reps ≤ length (now numbers)) × (f .reps ≤ length (now shifts)) ⌝ }
     ensures { λ x. ⌜ (x ≡ numberIn f (now (low .entry)) (f .reps)) × Surveyed f (now (low .entry)) (now (rows .entry)) (now (first .exit)) (now (leaders .exit)) (now (places .exit)) (now (numbers .exit)) (now (shifts .exit)) ⌝ }
 {
     survey::find_lines(low, first, f);
@@ -121,12 +121,108 @@ pub struct Written {
     pub reps: u32,
 }
 
-// Appends the level above the one that the frame shows.
-pub fn next_level(words: &mut [u32], rows: &[[u32; 12]; 78], f: Frame) -> Written
-    requires { ⌜ Sound f (take (8 * f .end) (now words)) (now rows) × (8 * f .end + length (levelWords (f .gens) (suc (f .top)) (levelBy (sourceIn f (take (8 * f .end) (now words)) (now rows)))) ≤ length (now words)) ⌝ }
+// Appends the level above the one that the frame shows, with arrays as long as its numbers of representations and of blocks.
+pub fn level_in(
+    words: &mut [u32],
+    rows: &[[u32; 12]; 78],
+    first: &mut [u32],
+    leaders: &mut [u32],
+    places: &mut [u32],
+    numbers: &mut [u32],
+    shifts: &mut [u32],
+    orbit: &mut [u32],
+    c: &mut [u32],
+    f: Frame,
+) -> Written
+    requires { ⌜ Sound f (take (8 * f .end) (now words)) (now rows) × (8 * f .end + length (levelWords (f .gens) (suc (f .top)) (levelBy (sourceIn f (take (8 * f .end) (now words)) (now rows)))) ≤ length (now words)) × (f .reps ≤ length (now first)) × (f .reps ≤ length (now leaders)) × (f .reps ≤ length (now places)) × (f .reps ≤ length (now numbers)) × (f .reps ≤ length (now shifts)) × (f .p ≤ length (now orbit)) × (f .p ≤ length (now c)) ⌝ }
     ensures { λ t. ⌜ Wrote (now (words .entry)) (8 * f .end) (levelWords (f .gens) (suc (f .top)) (levelBy (sourceIn f (take (8 * f .end) (now (words .entry))) (now (rows .entry))))) (now (words .exit)) (8 * t .end) × (t .reps ≡ numberIn f (take (8 * f .end) (now (words .entry))) (f .reps)) ⌝ }
 {
     let n = 8 * f.end;
+    let reps = survey_level(
+        &words[..n],
+        rows,
+        first,
+        leaders,
+        places,
+        numbers,
+        shifts,
+        f,
+    );
+    let end = append_turns(
+        words,
+        first,
+        rows,
+        leaders,
+        places,
+        numbers,
+        shifts,
+        orbit,
+        c,
+        f,
+    );
+    Written {
+        end: end,
+        reps: reps,
+    }
+}
+
+// The same with arrays of 32 words.
+pub fn small_level(words: &mut [u32], rows: &[[u32; 12]; 78], f: Frame) -> Written
+    requires { ⌜ Sound f (take (8 * f .end) (now words)) (now rows) × (8 * f .end + length (levelWords (f .gens) (suc (f .top)) (levelBy (sourceIn f (take (8 * f .end) (now words)) (now rows)))) ≤ length (now words)) × (f .reps ≤ 32) × (f .p ≤ 32) ⌝ }
+    ensures { λ t. ⌜ Wrote (now (words .entry)) (8 * f .end) (levelWords (f .gens) (suc (f .top)) (levelBy (sourceIn f (take (8 * f .end) (now (words .entry))) (now (rows .entry))))) (now (words .exit)) (8 * t .end) × (t .reps ≡ numberIn f (take (8 * f .end) (now (words .entry))) (f .reps)) ⌝ }
+{
+    let mut first = [0u32; 32];
+    let mut leaders = [0u32; 32];
+    let mut places = [0u32; 32];
+    let mut numbers = [0u32; 32];
+    let mut shifts = [0u32; 32];
+    let mut orbit = [0u32; 32];
+    let mut c = [0u32; 32];
+    level_in(
+        words,
+        rows,
+        &mut first,
+        &mut leaders,
+        &mut places,
+        &mut numbers,
+        &mut shifts,
+        &mut orbit,
+        &mut c,
+        f,
+    )
+}
+
+// The same with arrays of 512 words.
+pub fn middle_level(words: &mut [u32], rows: &[[u32; 12]; 78], f: Frame) -> Written
+    requires { ⌜ Sound f (take (8 * f .end) (now words)) (now rows) × (8 * f .end + length (levelWords (f .gens) (suc (f .top)) (levelBy (sourceIn f (take (8 * f .end) (now words)) (now rows)))) ≤ length (now words)) × (f .reps ≤ 512) × (f .p ≤ 512) ⌝ }
+    ensures { λ t. ⌜ Wrote (now (words .entry)) (8 * f .end) (levelWords (f .gens) (suc (f .top)) (levelBy (sourceIn f (take (8 * f .end) (now (words .entry))) (now (rows .entry))))) (now (words .exit)) (8 * t .end) × (t .reps ≡ numberIn f (take (8 * f .end) (now (words .entry))) (f .reps)) ⌝ }
+{
+    let mut first = [0u32; 512];
+    let mut leaders = [0u32; 512];
+    let mut places = [0u32; 512];
+    let mut numbers = [0u32; 512];
+    let mut shifts = [0u32; 512];
+    let mut orbit = [0u32; 512];
+    let mut c = [0u32; 512];
+    level_in(
+        words,
+        rows,
+        &mut first,
+        &mut leaders,
+        &mut places,
+        &mut numbers,
+        &mut shifts,
+        &mut orbit,
+        &mut c,
+        f,
+    )
+}
+
+// The same with arrays of 4096 words, which suffice for every level.
+pub fn large_level(words: &mut [u32], rows: &[[u32; 12]; 78], f: Frame) -> Written
+    requires { ⌜ Sound f (take (8 * f .end) (now words)) (now rows) × (8 * f .end + length (levelWords (f .gens) (suc (f .top)) (levelBy (sourceIn f (take (8 * f .end) (now words)) (now rows)))) ≤ length (now words)) ⌝ }
+    ensures { λ t. ⌜ Wrote (now (words .entry)) (8 * f .end) (levelWords (f .gens) (suc (f .top)) (levelBy (sourceIn f (take (8 * f .end) (now (words .entry))) (now (rows .entry))))) (now (words .exit)) (8 * t .end) × (t .reps ≡ numberIn f (take (8 * f .end) (now (words .entry))) (f .reps)) ⌝ }
+{
     let mut first = [0u32; 4096];
     let mut leaders = [0u32; 4096];
     let mut places = [0u32; 4096];
@@ -134,30 +230,34 @@ pub fn next_level(words: &mut [u32], rows: &[[u32; 12]; 78], f: Frame) -> Writte
     let mut shifts = [0u32; 4096];
     let mut orbit = [0u32; 4096];
     let mut c = [0u32; 4096];
-    let reps = survey_level(
-        &words[..n],
+    level_in(
+        words,
         rows,
         &mut first,
         &mut leaders,
         &mut places,
         &mut numbers,
         &mut shifts,
-        f,
-    );
-    let end = append_turns(
-        words,
-        &first,
-        rows,
-        &leaders,
-        &places,
-        &numbers,
-        &shifts,
         &mut orbit,
         &mut c,
         f,
-    );
-    Written {
-        end: end,
-        reps: reps,
+    )
+}
+
+// The same with arrays that the call makes, no longer than they have to be.
+pub fn next_level(words: &mut [u32], rows: &[[u32; 12]; 78], f: Frame) -> Written
+    requires { ⌜ Sound f (take (8 * f .end) (now words)) (now rows) × (8 * f .end + length (levelWords (f .gens) (suc (f .top)) (levelBy (sourceIn f (take (8 * f .end) (now words)) (now rows)))) ≤ length (now words)) ⌝ }
+    ensures { λ t. ⌜ Wrote (now (words .entry)) (8 * f .end) (levelWords (f .gens) (suc (f .top)) (levelBy (sourceIn f (take (8 * f .end) (now (words .entry))) (now (rows .entry))))) (now (words .exit)) (8 * t .end) × (t .reps ≡ numberIn f (take (8 * f .end) (now (words .entry))) (f .reps)) ⌝ }
+{
+    if f.reps <= 32 {
+        if f.p <= 32 {
+            return small_level(words, rows, f);
+        }
     }
+    if f.reps <= 512 {
+        if f.p <= 512 {
+            return middle_level(words, rows, f);
+        }
+    }
+    large_level(words, rows, f)
 }

@@ -6,6 +6,7 @@
 --   step-positive              m / p is not 0
 --   factor-below, product-fits, landing-small, start-fits, factor-small      bounds
 --   matrix-lines, reference-is the lines of a generator of an extension, and their reference
+--   origin-below, origin-factor, reference-ready     what is known of constants and references where extensions are written
 --   landing-is                 the number that an intertwiner's exponents tell
 use mathlib.Core.Path.{_≡_, refl, ap, ap₂, sym, _∙_, subst}
 use mathlib.Core.List.{List, [], _∷_}
@@ -14,7 +15,7 @@ use native.Mathlib.Omega.{arith}
 use native.Mathlib.Nat.{zero-add, mod-lt, div-le-self, div-lt-iff-lt-mul, mul-comm, mul-le-mul-left, mul-le-mul-right}
 use lib.ListN.{length, getD, set}
 use lib.Seq.{getD-set-same, getD-set-other}
-use lib.Dec.{leb}
+use lib.Dec.{eqb, leb}
 use borrow.Author.Tests.{le-leb}
 use native.Mathlib.Decide.{decLt, ℕ-discrete}
 use mathlib.Core.Bool.{cond}
@@ -32,7 +33,8 @@ use Rattle.lines.proofs.Laws.{col-matrixIn}
 use Rattle.survey.specs.declared.Frame.{Frame}
 use Rattle.survey.specs.Below.{degOf, matrixOf, sourceIn, targetOf, closingIn, Stands}
 use Rattle.survey.proofs.Counting.{number-fits}
-use Rattle.extend.specs.Extending.{conjugatedIn, factorOf, referenceOf, Ready, matrixWords}
+use Rattle.extend.specs.Extending.{conjugatedIn, factorOf, referenceOf, Ready, Extends, matrixWords}
+use Rattle.extend.specs.declared.Origin.{Origin}
 
 module _ (f : Frame) (W : List ℕ) (rows : List (List ℕ)) where
   around-rows : (r k : ℕ) → around (sourceIn f W rows) r k ≡ around (sourceIn f W []) r k
@@ -125,10 +127,10 @@ pub factor-small : (p d x : ℕ) → 1 < p → p * d ≤ x → d ≤ x
 factor-small p d x h l = let a : 1 * d ≤ p * d = mul-le-mul-right d (omega arith) in omega (arith, a)
 
 -- the reference that was read is that of the formulas
-pub reference-is : (f : Frame) (W : List ℕ) (rows : List (List ℕ)) (first shifts to by : List ℕ) (r : ℕ) → Ready f W rows first shifts to by r → (g k x : ℕ) → g < f .gens
+pub reference-is : (f : Frame) (W : List ℕ) (rows : List (List ℕ)) (to by : List ℕ) (r : ℕ) → Ready f W rows to by r → (g k x : ℕ) → g < f .gens
     → referenceOf f rows to by r g k ≡ extensionAt (sourceIn f W rows) r k .ref g x
 unfolding referenceOf extensionAt toNF
-reference-is f W rows first shifts to by r R g k x l = go (decLt (f .top) g)
+reference-is f W rows to by r R g k x l = go (decLt (f .top) g)
   where
     S : Source
     S = sourceIn f W rows
@@ -142,6 +144,29 @@ reference-is f W rows first shifts to by r R g k x l = go (decLt (f .top) g)
     go (no h) =
         let e = le-leb g (f .top) (omega arith) in
         cond-true (leb g (f .top)) r _ e ∙ sym (cond-true (leb g (f .top)) r _ e)
+
+-- ---- Where extensions are written
+
+module _ (f : Frame) (W : List ℕ) (rows : List (List ℕ)) (r : ℕ) (o : Origin) (k : ℕ) (E : Extends f W rows r o) where
+  pub origin-below : Stands f W → k < f .p → o .root + k * o .step < f .m
+  origin-below S l = subst (λ x. x < f .m) (sym (ap₂ (λ a b. a + k * b) (E .root-is) (E .step-is))) (factor-below (shift (sourceIn f W rows) r) (f .p) (f .m) k (S .whole) (shift-below f W rows (S .modulus .0) r) l)
+
+  pub origin-factor : (g : ℕ) → cond (eqb g (f .top)) (o .root + k * o .step) 0 ≡ factorOf f (shift (sourceIn f W rows) r) g k
+  unfolding factorOf
+  origin-factor g = ap₂ (λ a b. cond (eqb g (f .top)) (a + k * b) 0) (E .root-is) (E .step-is)
+
+-- what `reference` asks
+pub reference-ready : (f : Frame) (W : List ℕ) (rows : List (List ℕ)) (to by : List ℕ) (r g k : ℕ) → Ready f W rows to by r → g < f .gens → k < f .p
+    → ((f .gens ≤ 12) × (f .top < f .gens) × (g < f .gens) × (f .gens ≤ length to) × (f .gens ≤ length by) × (0 < f .p) × (f .p ≤ 16384) × (k < f .p))
+    × ((f .top < g) → (getD to g 0 ≤ 268435456) × (getD by g 0 ≤ 16384) × (getD (getD rows (pairNumber g (f .top)) []) (f .top) 0 < f .p))
+reference-ready f W rows to by r g k R l h = (
+  (R .stands .gens .1, R .stands .gens .0, l, R .long .0, R .long .1, omega (arith, R .stands .prime .0), omega (arith, R .stands .prime .1), h),
+  λ above. (
+    subst (λ x. x ≤ 268435456) (sym (R .to-is g above l)) (start-fits f W rows (R .stands) _ (omega (arith, R .stands .target r (R .listed) g (omega (arith, above)) l .0))),
+    subst (λ x. x ≤ 16384) (sym (R .by-is g above l)) (landing-small f W rows (R .stands .modulus .0) (R .stands .modulus .1) g r),
+    R .words .below g above l,
+  ),
+)
 
 -- ---- Lengths
 

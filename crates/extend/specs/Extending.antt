@@ -1,7 +1,7 @@
 -- What an extension is made with.
 --
 --   factorOf, referenceOf      the constant and the reference of a generator
---   Ready                      what is known where extensions are written
+--   Ready, Extends             what is known where extensions are written: of the targets, and of what is copied
 --   matrixWords, extensionsWords      the words of one generator, and of all extensions
 --   conjugatedIn               column 0 of a representation moved by the generators of a word, the one on top scaled
 use mathlib.Core.List.{List, []}
@@ -17,7 +17,8 @@ use Rattle.definitions.specs.Monomial.{entry, act}
 use Rattle.definitions.specs.Table.{lineOf, repWords}
 use Rattle.formulas.specs.Formulas.{walk, plus, shift, start, landing, extensionAt}
 use Rattle.survey.specs.declared.Frame.{Frame}
-use Rattle.survey.specs.Below.{degOf, targetOf, sourceIn, Stands, Rows, Array, Lines}
+use Rattle.survey.specs.Below.{firstOf, degOf, targetOf, sourceIn, Stands, Rows}
+use Rattle.extend.specs.declared.Origin.{Origin}
 
 unfoldable pub conjugatedIn : Frame → List ℕ → List ℕ → ℕ → ℕ → Entry
 conjugatedIn f W w r c =
@@ -33,15 +34,20 @@ referenceOf f rows to by r g k =
     cond (leb g (f .top)) r (getD to g 0 + (getD by g 0 + k * suc (getD (getD rows (pairNumber g (f .top)) []) (f .top) 0)) % f .p)
 
 -- what is known where the extensions of r are written
-pub record Ready (f : Frame) (W : List ℕ) (rows : List (List ℕ)) (first shifts to by : List ℕ) (r : ℕ) : Type 0 where
+pub record Ready (f : Frame) (W : List ℕ) (rows : List (List ℕ)) (to by : List ℕ) (r : ℕ) : Type 0 where
   pub stands : Stands f W
-  pub lines : Lines f W first
   pub words : Rows f W rows
-  pub shifts-are : Array f W shifts (shift (sourceIn f W rows))
   pub listed : r < f .reps
   pub long : (f .gens ≤ length to) × (f .gens ≤ length by)
   pub to-is : (j : ℕ) → f .top < j → j < f .gens → getD to j 0 ≡ start (sourceIn f W rows) (targetOf f W j r)
   pub by-is : (j : ℕ) → f .top < j → j < f .gens → getD by j 0 ≡ landing (sourceIn f W rows) j r
+
+-- what the extensions of r are copied from
+pub record Extends (f : Frame) (W : List ℕ) (rows : List (List ℕ)) (r : ℕ) (o : Origin) : Type 0 where
+  pub line-is : o .line ≡ firstOf f W r
+  pub deg-is : o .deg ≡ degOf f W r
+  pub root-is : o .root ≡ shift (sourceIn f W rows) r / f .p
+  pub step-is : o .step ≡ f .m / f .p
 
 -- the words of generator g in extension k of r, numbered rep
 unfoldable pub matrixWords : (f : Frame) → List ℕ → List (List ℕ) → (rep r k g : ℕ) → List ℕ

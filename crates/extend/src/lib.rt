@@ -1,8 +1,10 @@
 // The extensions of a representation that the generator on top fixes, as lines behind the level below.
 ghost use mathlib.Core.Path.{_≡_};
 ghost use mathlib.Core.List.{[]};
+ghost use mathlib.Core.Bool.{cond};
 ghost use Prim.Native.Nat.{ℕ, suc, _+_, _*_, _/_, _≤_, _<_};
 ghost use lib.ListN.{length, getD, take};
+ghost use lib.Dec.{eqb};
 ghost use Rattle.definitions.specs.Lists.{iter, blocks};
 ghost use Rattle.definitions.specs.Monomial.{entry, act};
 ghost use Rattle.definitions.specs.Table.{repWords};
@@ -10,8 +12,8 @@ ghost use Rattle.definitions.specs.Presentation.{toNF, pairNumber};
 ghost use Rattle.formulas.specs.Formulas.{walk, plus, landing, shift, start, extensionAt};
 ghost use Rattle.text.specs.Writing.{Wrote};
 ghost use Rattle.lines.specs.Lines.{Below};
-ghost use Rattle.survey.specs.Below.{degOf, targetOf, sourceIn, Stands, Rows, Array, Lines};
-ghost use Rattle.extend.specs.Extending.{conjugatedIn, factorOf, referenceOf, Ready, matrixWords, extensionsWords};
+ghost use Rattle.survey.specs.Below.{firstOf, degOf, targetOf, sourceIn, Stands, Rows, Array, Lines};
+ghost use Rattle.extend.specs.Extending.{conjugatedIn, referenceOf, Ready, Extends, matrixWords, extensionsWords};
 use collector::rows;
 use definitions::Entry;
 use lines::Head;
@@ -115,14 +117,35 @@ pub fn landing(
     lines::sub_mod(y.exp, e, f.m) / (f.m / f.p)
 }
 
+// What the extensions of a representation are copied from: its first line, its degree, the constant of extension 0, and
+// what each extension adds to it.
+pub struct Origin {
+    pub line: usize,
+    pub deg: u32,
+    pub root: u32,
+    pub step: u32,
+}
+
+// This of representation r.
+pub fn find_origin(low: &[u32], first: &[u32], shifts: &[u32], f: Frame, r: u32) -> Origin
+    requires { ⌜ Stands f (now low) × Lines f (now low) (now first) × (r < f .reps) × (r < length (now shifts)) × (getD (now shifts) r 0 < f .m) ⌝ }
+    ensures { λ o. ⌜ (o .line ≡ firstOf f (now (low .entry)) r) × (o .deg ≡ degOf f (now (low .entry)) r) × (o .root ≡ getD (now (shifts .entry)) r 0 / f .p) × (o .step ≡ f .m / f .p) ⌝ }
+{
+    Origin {
+        line: lines::up(survey::element(first, r)),
+        deg: survey::degree(low, first, f, r),
+        root: root(shifts, f, r),
+        step: f.m / f.p,
+    }
+}
+
 // The constant of generator g in extension k.
-pub fn factor(shifts: &[u32], f: Frame, r: u32, g: u32, k: u32) -> u32
-    requires { ⌜ (r < length (now shifts)) × (getD (now shifts) r 0 < f .m) × (k < f .p) × (f .m ≡ f .p * (f .m / f .p)) × (f .m ≤ 16384) ⌝ }
-    ensures { λ c. ⌜ (c ≡ factorOf f (getD (now (shifts .entry)) r 0) g k) × (c < f .m) ⌝ }
+pub fn factor(f: Frame, o: Origin, g: u32, k: u32) -> u32
+    requires { ⌜ (f .m ≤ 16384) × (o .root + k * o .step < f .m) ⌝ }
+    ensures { λ c. ⌜ (c ≡ cond (eqb g (f .top)) (o .root + k * o .step) 0) × (c < f .m) ⌝ }
 {
     if g == f.top {
-        let s = survey::element(shifts, r);
-        return s / f.p + k * (f.m / f.p);
+        return o.root + k * o.step;
     }
     0
 }
@@ -154,26 +177,24 @@ pub fn reference(
 // Appends generator g of extension k of r, numbered rep, behind the level below. Returns the next line's number.
 pub fn append_matrix(
     words: &mut [u32],
-    first: &[u32],
     rows: &[[u32; 12]; 78],
-    shifts: &[u32],
     to: &[u32],
     by: &[u32],
     f: Frame,
+    o: Origin,
     at: usize,
     rep: u32,
     r: u32,
     k: u32,
     g: u32,
 ) -> usize
-    requires { ⌜ Ready f (take (8 * f .end) (now words)) (now rows) (now first) (now shifts) (now to) (now by) r × (k < f .p) × (g < f .gens) × (f .end ≤ at) × (8 * at + 8 * degOf f (take (8 * f .end) (now words)) r ≤ length (now words)) ⌝ }
+    requires { ⌜ Ready f (take (8 * f .end) (now words)) (now rows) (now to) (now by) r × Extends f (take (8 * f .end) (now words)) (now rows) r o × (k < f .p) × (g < f .gens) × (f .end ≤ at) × (8 * at + 8 * degOf f (take (8 * f .end) (now words)) r ≤ length (now words)) ⌝ }
     ensures { λ x. ⌜ Wrote (now (words .entry)) (8 * at) (matrixWords f (take (8 * f .end) (now (words .entry))) (now (rows .entry)) rep r k g) (now (words .exit)) (8 * x) ⌝ }
 {
-    let n = 8 * f.end;
-    let src = survey::matrix_line(&words[..n], first, f, g, r);
-    let d = survey::degree(&words[..n], first, f, r);
-    let c = factor(shifts, f, r, g, k);
+    let c = factor(f, o, g, k);
     let x = reference(rows, to, by, f, r, g, k);
+    let d = o.deg;
+    let src = survey::line_of(o.line, g, d);
     let h = Head {
         level: f.top + 1,
         rep: rep,
@@ -184,29 +205,104 @@ pub fn append_matrix(
     lines::append_block(words, f.end, at, h, 0, 0, src, d, c, f.m)
 }
 
-// Appends extension k of r, numbered rep.
-pub fn append_extension(
+// The same for a representation of degree 1.
+pub fn append_single(
     words: &mut [u32],
-    first: &[u32],
     rows: &[[u32; 12]; 78],
-    shifts: &[u32],
     to: &[u32],
     by: &[u32],
     f: Frame,
+    o: Origin,
+    at: usize,
+    rep: u32,
+    r: u32,
+    k: u32,
+    g: u32,
+) -> usize
+    requires { ⌜ Ready f (take (8 * f .end) (now words)) (now rows) (now to) (now by) r × Extends f (take (8 * f .end) (now words)) (now rows) r o × (k < f .p) × (g < f .gens) × (f .end ≤ at) × (8 * at + 8 * degOf f (take (8 * f .end) (now words)) r ≤ length (now words)) × (degOf f (take (8 * f .end) (now words)) r ≡ 1) ⌝ }
+    ensures { λ x. ⌜ Wrote (now (words .entry)) (8 * at) (matrixWords f (take (8 * f .end) (now (words .entry))) (now (rows .entry)) rep r k g) (now (words .exit)) (8 * x) ⌝ }
+{
+    let c = factor(f, o, g, k);
+    let x = reference(rows, to, by, f, r, g, k);
+    let src = survey::line_of(o.line, g, 1);
+    let h = Head {
+        level: f.top + 1,
+        rep: rep,
+        deg: 1,
+        generator: g + 1,
+        refn: x,
+    };
+    lines::append_line(words, f.end, at, h, 0, 0, src, c, f.m)
+}
+
+// Appends the generators of extension k of r, numbered rep.
+pub fn append_matrices(
+    words: &mut [u32],
+    rows: &[[u32; 12]; 78],
+    to: &[u32],
+    by: &[u32],
+    f: Frame,
+    o: Origin,
     at: usize,
     rep: u32,
     r: u32,
     k: u32,
 ) -> usize
-    requires { ⌜ Ready f (take (8 * f .end) (now words)) (now rows) (now first) (now shifts) (now to) (now by) r × (k < f .p) × (f .end ≤ at) × (8 * at + 8 * (f .gens * degOf f (take (8 * f .end) (now words)) r) ≤ length (now words)) ⌝ }
+    requires { ⌜ Ready f (take (8 * f .end) (now words)) (now rows) (now to) (now by) r × Extends f (take (8 * f .end) (now words)) (now rows) r o × (k < f .p) × (f .end ≤ at) × (8 * at + 8 * (f .gens * degOf f (take (8 * f .end) (now words)) r) ≤ length (now words)) ⌝ }
     ensures { λ x. ⌜ Wrote (now (words .entry)) (8 * at) (repWords (f .gens) (suc (f .top)) rep (extensionAt (sourceIn f (take (8 * f .end) (now (words .entry))) (now (rows .entry))) r k)) (now (words .exit)) (8 * x) ⌝ }
 {
     let mut pos = at;
     let gens = f.gens;
     for g in 0..gens {
-        pos = append_matrix(words, first, rows, shifts, to, by, f, pos, rep, r, k, g);
+        pos = append_matrix(words, rows, to, by, f, o, pos, rep, r, k, g);
     }
     pos
+}
+
+// The same for a representation of degree 1.
+pub fn append_singles(
+    words: &mut [u32],
+    rows: &[[u32; 12]; 78],
+    to: &[u32],
+    by: &[u32],
+    f: Frame,
+    o: Origin,
+    at: usize,
+    rep: u32,
+    r: u32,
+    k: u32,
+) -> usize
+    requires { ⌜ Ready f (take (8 * f .end) (now words)) (now rows) (now to) (now by) r × Extends f (take (8 * f .end) (now words)) (now rows) r o × (k < f .p) × (f .end ≤ at) × (8 * at + 8 * (f .gens * degOf f (take (8 * f .end) (now words)) r) ≤ length (now words)) × (degOf f (take (8 * f .end) (now words)) r ≡ 1) ⌝ }
+    ensures { λ x. ⌜ Wrote (now (words .entry)) (8 * at) (repWords (f .gens) (suc (f .top)) rep (extensionAt (sourceIn f (take (8 * f .end) (now (words .entry))) (now (rows .entry))) r k)) (now (words .exit)) (8 * x) ⌝ }
+{
+    let mut pos = at;
+    let gens = f.gens;
+    for g in 0..gens {
+        pos = append_single(words, rows, to, by, f, o, pos, rep, r, k, g);
+    }
+    pos
+}
+
+// Appends extension k of r, numbered rep.
+pub fn append_extension(
+    words: &mut [u32],
+    rows: &[[u32; 12]; 78],
+    to: &[u32],
+    by: &[u32],
+    f: Frame,
+    o: Origin,
+    at: usize,
+    rep: u32,
+    r: u32,
+    k: u32,
+) -> usize
+    requires { ⌜ Ready f (take (8 * f .end) (now words)) (now rows) (now to) (now by) r × Extends f (take (8 * f .end) (now words)) (now rows) r o × (k < f .p) × (f .end ≤ at) × (8 * at + 8 * (f .gens * degOf f (take (8 * f .end) (now words)) r) ≤ length (now words)) ⌝ }
+    ensures { λ x. ⌜ Wrote (now (words .entry)) (8 * at) (repWords (f .gens) (suc (f .top)) rep (extensionAt (sourceIn f (take (8 * f .end) (now (words .entry))) (now (rows .entry))) r k)) (now (words .exit)) (8 * x) ⌝ }
+{
+    if o.deg == 1 {
+        return append_singles(words, rows, to, by, f, o, at, rep, r, k);
+    }
+    append_matrices(words, rows, to, by, f, o, at, rep, r, k)
 }
 
 // Fills, for each generator above the one on top, the number of the first extension of the target of r, and the number
@@ -223,7 +319,7 @@ pub fn find_targets(
     r: u32,
 )
     requires { ⌜ Stands f (now low) × Lines f (now low) (now first) × Rows f (now low) (now rows) × Array f (now low) (now numbers) (start (sourceIn f (now low) (now rows))) × Array f (now low) (now shifts) (shift (sourceIn f (now low) (now rows))) × (r < f .reps) × (f .gens ≤ length (now to)) × (f .gens ≤ length (now by)) ⌝ }
-    ensures { λ _. ⌜ Ready f (now (low .entry)) (now (rows .entry)) (now (first .entry)) (now (shifts .entry)) (now (to .exit)) (now (by .exit)) r ⌝ }
+    ensures { λ _. ⌜ Ready f (now (low .entry)) (now (rows .entry)) (now (to .exit)) (now (by .exit)) r ⌝ }
 {
     let lo = f.top + 1;
     let gens = f.gens;
@@ -239,23 +335,22 @@ pub fn find_targets(
 // Appends the extensions of r, numbered from rep.
 pub fn append_each(
     words: &mut [u32],
-    first: &[u32],
     rows: &[[u32; 12]; 78],
-    shifts: &[u32],
     to: &[u32],
     by: &[u32],
     f: Frame,
+    o: Origin,
     at: usize,
     rep: u32,
     r: u32,
 ) -> usize
-    requires { ⌜ Ready f (take (8 * f .end) (now words)) (now rows) (now first) (now shifts) (now to) (now by) r × (rep ≤ 268435456) × (f .end ≤ at) × (8 * at + f .p * (8 * (f .gens * degOf f (take (8 * f .end) (now words)) r)) ≤ length (now words)) ⌝ }
+    requires { ⌜ Ready f (take (8 * f .end) (now words)) (now rows) (now to) (now by) r × Extends f (take (8 * f .end) (now words)) (now rows) r o × (rep ≤ 268435456) × (f .end ≤ at) × (8 * at + f .p * (8 * (f .gens * degOf f (take (8 * f .end) (now words)) r)) ≤ length (now words)) ⌝ }
     ensures { λ x. ⌜ Wrote (now (words .entry)) (8 * at) (extensionsWords f (take (8 * f .end) (now (words .entry))) (now (rows .entry)) rep r) (now (words .exit)) (8 * x) ⌝ }
 {
     let mut pos = at;
     let p = f.p;
     for k in 0..p {
-        pos = append_extension(words, first, rows, shifts, to, by, f, pos, rep + k, r, k);
+        pos = append_extension(words, rows, to, by, f, o, pos, rep + k, r, k);
     }
     pos
 }
@@ -288,6 +383,7 @@ pub fn append_extensions(
         f,
         r,
     );
+    let o = find_origin(&words[..n], first, shifts, f, r);
     let rep = survey::element(numbers, r);
-    append_each(words, first, rows, shifts, &to, &by, f, at, rep, r)
+    append_each(words, rows, &to, &by, f, o, at, rep, r)
 }

@@ -6,6 +6,7 @@
 --   iter-next                  one more turn behind the others
 --   walk-zero, walk-suc        the clauses of `walk`
 --   headLine-eight             eight words
+--   block-single               a matrix of degree 1 is one line
 use mathlib.Core.Path.{_≡_, refl, ap, ap₂, sym, _∙_, subst}
 use Prim.Native.Nat.{ℕ, zero, suc, _+_, _-_, _*_, _%_, _<_, _≤_}
 use native.Mathlib.Nat.{mod-eq-of-lt, mod-eq-sub-mod, mod-self}
@@ -15,16 +16,16 @@ use mathlib.Core.List.{List, [], _∷_, _++_, map}
 use lib.ListN.{getD, length, set}
 use lib.Seq.{sets-eq}
 use Rattle.definitions.specs.declared.Entry.{Entry}
-use Rattle.definitions.specs.Lists.{upto, iter}
+use Rattle.definitions.specs.Lists.{upto, iter, blocks}
 use Rattle.definitions.specs.Presentation.{toNF}
 use Rattle.definitions.specs.Monomial.{Matrix, entry, less, col, act}
 use Rattle.definitions.specs.Table.{wordAt}
 use Rattle.numbers.proofs.Lists.{iter-suc, iter-add, iter-zero}
-use Rattle.numbers.proofs.Blocks.{getD-table}
+use Rattle.numbers.proofs.Blocks.{getD-table, blocks-zero, blocks-suc}
 use Rattle.formulas.specs.Formulas.{walk}
 use Rattle.text.specs.Writing.{put, Wrote}
 use Rattle.lines.specs.declared.Head.{Head}
-use Rattle.lines.specs.Lines.{entryIn, matrixIn, Below, Holds, headLine}
+use Rattle.lines.specs.Lines.{entryIn, matrixIn, Below, Holds, headLine, blockLines}
 
 -- ---- Sums modulo m
 
@@ -90,3 +91,19 @@ put-eight w i a b c d e f g h l =
     let e6 : i + 6 ≡ suc (suc (suc (suc (suc (suc i))))) = omega arith in
     let e7 : i + 7 ≡ suc (suc (suc (suc (suc (suc (suc i)))))) = omega arith in
     rw (e1, e2, e3, e4, e5, e6, e7) (sets-eq (a ∷ b ∷ c ∷ d ∷ e ∷ f ∷ g ∷ h ∷ []) w i l)
+
+pub block-single : (m : ℕ) (h : Head) (co ro c : ℕ) (W : List ℕ) (src e : ℕ) → Holds m W src 1 → e ≡ (wordAt W src 7 + c) % m → headLine h co (entry ro e) ≡ blockLines m h co ro c 1 W src
+unfolding blockLines
+block-single m h co ro c W src e H q = sym (blocks-suc 0 F ∙ ap (λ t. t ++ F 0) (blocks-zero F) ∙ (λ o. headLine h (column o) (entry (row o) (exponent o))))
+  where
+    F : ℕ → List ℕ
+    F k = headLine h (co + k) (entry (ro + entryIn W (src + k) .row) ((entryIn W (src + k) .exp + c) % m))
+
+    column : co + 0 ≡ co
+    column = omega arith
+
+    row : ro + entryIn W (src + 0) .row ≡ ro
+    row = omega (arith, H .valid 0 (omega arith) .row)
+
+    exponent : (entryIn W (src + 0) .exp + c) % m ≡ e
+    exponent = let s : src + 0 ≡ src = omega arith in ap (λ t. (wordAt W t 7 + c) % m) s ∙ sym q

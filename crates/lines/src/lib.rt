@@ -177,3 +177,28 @@ pub fn append_block(
     }
     pos
 }
+
+// The same for a matrix of degree 1.
+pub fn append_line(
+    words: &mut [u32],
+    low: usize,
+    at: usize,
+    h: Head,
+    co: u32,
+    ro: u32,
+    src: usize,
+    c: u32,
+    m: u32,
+) -> usize
+    requires { ⌜ (c < m) × (low ≤ at) × (8 * at + 8 ≤ length (now words)) ⌝ }
+    requires { ⌜ Holds m (take (8 * low) (now words)) src 1 ⌝ }
+    ensures { λ r. ⌜ Wrote (now (words .entry)) (8 * at) (blockLines m h co ro c 1 (take (8 * low) (now (words .entry))) src) (now (words .exit)) (8 * r) ⌝ }
+{
+    let n = 8 * low;
+    let e = word_at(&words[..n], src, 7);
+    let x = Entry {
+        row: ro,
+        exp: add_mod(e, c, m),
+    };
+    put_line(words, at, h, co, x)
+}

@@ -47,6 +47,14 @@ pub fn matrix_line(low: &[u32], first: &[u32], f: Frame, g: u32, r: u32) -> usiz
     s + lines::up(g) * lines::up(d)
 }
 
+// The line at which generator g begins, of a representation of degree d that begins at line s.
+pub fn line_of(s: usize, g: u32, d: u32) -> usize
+    requires { ⌜ s + g * d ≤ 1000000000 ⌝ }
+    ensures { λ x. ⌜ x ≡ s + g * d ⌝ }
+{
+    s + lines::up(g) * lines::up(d)
+}
+
 // Where the intertwiner of generator j leads representation r.
 pub fn target(low: &[u32], first: &[u32], f: Frame, j: u32, r: u32) -> u32
     requires { ⌜ Stands f (now low) × Lines f (now low) (now first) × (r < f .reps) × (f .top ≤ j) × (j < f .gens) ⌝ }

@@ -18,24 +18,24 @@ use Rattle.extend.proofs.append_each.Statement.{statement}
 use Rattle.extend.proofs.append_each.Tie as tie
 
 abbrev Inv-loop : tie.InvT-loop
-Inv-loop words₀ first rows shifts to by f at rep r pos₀ p k₀ words pos k = (k ≤ p) × (p ≡ f .p) × Going (f .end) (λ j. repWords (f .gens) (suc (f .top)) (rep + j) (extensionAt (sourceIn f (take (8 * f .end) words₀) rows) r j)) words₀ at k words pos
+Inv-loop words₀ rows to by f o at rep r pos₀ p k₀ words pos k = (k ≤ p) × (p ≡ f .p) × Going (f .end) (λ j. repWords (f .gens) (suc (f .top)) (rep + j) (extensionAt (sourceIn f (take (8 * f .end) words₀) rows) r j)) words₀ at k words pos
 
 abbrev μ-loop : tie.MeasureT-loop
-μ-loop words₀ first rows shifts to by f at rep r pos₀ p k₀ words pos k = p - k
+μ-loop words₀ rows to by f o at rep r pos₀ p k₀ words pos k = p - k
 
 loop-holds : tie.Need-loop-holds Inv-loop μ-loop
-loop-holds c = let z = c .before .before .before .before .before in (search needs, search needs, going-none (z .pre .2) (omega (arith, z .pre .3)))
+loop-holds c = let z = c .before .before .before in (search needs, search needs, going-none (z .pre .3) (omega (arith, z .pre .4)))
 
 add-append-extension : tie.Need-add-append-extension Inv-loop μ-loop
-add-append-extension c = let z = c .before .before .before .before .before .before .before .before in omega (arith, z .pre .1, z .pre .0 .stands .prime .1)
+add-append-extension c = let z = c .before .before .before .before .before .before in omega (arith, z .pre .2, z .pre .0 .stands .prime .1)
 
 append-extension-requires : tie.Need-append-extension-requires Inv-loop μ-loop
-append-extension-requires c κs = let z = c .before .before .before .before .before .before .before .before in
+append-extension-requires c κs = let z = c .before .before .before .before .before .before in
     let l = c .before .before .loop in
     let G = l .inv .2 in
     let less-than : l .k < z .args .f .p = search needs in
-    let room : 8 * l .pos + 8 * (z .args .f .gens * degOf (z .args .f) (take (8 * z .args .f .end) (now (z .args .words))) (z .args .r)) ≤ length (l .words) = omega (arith, going-room (z .args .f .p) G less-than (omega (arith, extensions-length (z .args .f) (take (8 * z .args .f .end) (now (z .args .words))) (now (z .args .rows)) (z .args .rep) (z .args .r), z .pre .3)), rep-length (z .args .f) (take (8 * z .args .f .end) (now (z .args .words))) (now (z .args .rows)) (z .args .rep + l .k) (z .args .r) (l .k)) in
-    rw (G .below) (z .pre .0, less-than, G .from, room)
+    let room : 8 * l .pos + 8 * (z .args .f .gens * degOf (z .args .f) (take (8 * z .args .f .end) (now (z .args .words))) (z .args .r)) ≤ length (l .words) = omega (arith, going-room (z .args .f .p) G less-than (omega (arith, extensions-length (z .args .f) (take (8 * z .args .f .end) (now (z .args .words))) (now (z .args .rows)) (z .args .rep) (z .args .r), z .pre .4)), rep-length (z .args .f) (take (8 * z .args .f .end) (now (z .args .words))) (now (z .args .rows)) (z .args .rep + l .k) (z .args .r) (l .k)) in
+    rw (G .below) (z .pre .0, z .pre .1, less-than, G .from, room)
 
 add-k : tie.Need-add-k Inv-loop μ-loop
 add-k c = search needs
@@ -52,7 +52,7 @@ same-length c = c .before .loop .inv .2 .len
 
 returns : tie.Need-returns Inv-loop μ-loop
 unfolding extensionsWords
-returns c = let z = c .before .before .before .before .before .before .before in
+returns c = let z = c .before .before .before .before .before in
     let l = c .before .loop in
     let e : l .k ≡ z .args .f .p = omega arith in
     wrote-as (l .inv .2 .wrote) (ap (λ n. blocks n (λ j. repWords (z .args .f .gens) (suc (z .args .f .top)) (z .args .rep + j) (extensionAt (sourceIn (z .args .f) (take (8 * z .args .f .end) (now (z .args .words))) (now (z .args .rows))) (z .args .r) j))) e)

@@ -1,13 +1,13 @@
--- `append_extensions` finds the targets once, and appends.
-use mathlib.Core.Path.{_≡_, refl, sym, ap, ap₂, _∙_, subst}
-use Prim.Native.Nat.{ℕ, suc, _+_, _*_, _-_, _≤_, _<_}
+-- `append_extensions` finds the targets and what is copied once, and appends.
+use mathlib.Core.Path.{_≡_, sym, ap, _∙_, subst}
+use Prim.Native.Nat.{_*_, _/_, _≤_, _<_}
 use native.Mathlib.Omega.{arith}
-use lib.ListN.{length, getD, take}
+use lib.ListN.{take}
 use lib.Seq.{length-take-le}
 use denote.Ref.{now}
 use Rattle.text.proofs.Writing.{wrote-as}
 use Rattle.extend.specs.Extending.{extensionsWords}
-use Rattle.extend.proofs.Laws.{start-fits}
+use Rattle.extend.proofs.Laws.{shift-below, start-fits}
 use borrow.Author.Needs.{needs}
 use Rattle.extend.proofs.append_extensions.Statement.{statement}
 use Rattle.extend.proofs.append_extensions.Tie as tie
@@ -30,6 +30,16 @@ slice-aggregate-find-targets-3 c = search needs
 find-targets-requires : tie.Need-find-targets-requires
 find-targets-requires c κs = search needs
 
+slice-reshare-prefix-find-origin : tie.Need-slice-reshare-prefix-find-origin
+slice-reshare-prefix-find-origin c = search needs
+
+slice-aggregate-find-origin : tie.Need-slice-aggregate-find-origin
+slice-aggregate-find-origin c = let z = c .before .before .before .before .before .before .before .before .before .before .before .before in sym (length-take-le _ (now (z .args .words)) (omega (arith, z .pre .6, z .pre .7)))
+
+find-origin-requires : tie.Need-find-origin-requires
+find-origin-requires c κs = let z = c .before .before .before .before .before .before .before .before .before .before .before .before in
+    (z .pre .0, z .pre .1, z .pre .5, omega (arith, z .pre .4 .long, z .pre .5), subst (λ x. x < z .args .f .m) (sym (z .pre .4 .at (z .args .r) (z .pre .5))) (shift-below (z .args .f) (take (8 * z .args .f .end) (now (z .args .words))) (now (z .args .rows)) (z .pre .0 .modulus .0) (z .args .r)))
+
 element-requires : tie.Need-element-requires
 element-requires c κs = search needs
 
@@ -40,15 +50,16 @@ slice-aggregate-append-each-2 : tie.Need-slice-aggregate-append-each-2
 slice-aggregate-append-each-2 c = search needs
 
 append-each-requires : tie.Need-append-each-requires
-append-each-requires c κs = let z = c .before .before .before .before .before .before .before .before .before .before .before .before .before .before .before in
+append-each-requires c κs = let z = c .before .before .before .before .before .before .before .before .before .before .before .before .before .before .before .before .before in
     let e = c .before .before .before .element .ensures ∙ z .pre .3 .at (z .args .r) (z .pre .5) in
-    (c .before .before .before .before .before .before .find-targets .ensures, subst (λ x. x ≤ 268435456) (sym e) (start-fits (z .args .f) (take (8 * z .args .f .end) (now (z .args .words))) (now (z .args .rows)) (z .pre .0) (z .args .r) (omega (arith, z .pre .5))), z .pre .6, z .pre .7)
+    let o = c .before .before .before .before .find-origin .ensures in
+    (c .before .before .before .before .before .before .before .before .find-targets .ensures, record { line-is = o .0; deg-is = o .1; root-is = o .2 ∙ ap (λ x. x / z .args .f .p) (z .pre .4 .at (z .args .r) (z .pre .5)); step-is = o .3 }, subst (λ x. x ≤ 268435456) (sym e) (start-fits (z .args .f) (take (8 * z .args .f .end) (now (z .args .words))) (now (z .args .rows)) (z .pre .0) (z .args .r) (omega (arith, z .pre .5))), z .pre .6, z .pre .7)
 
 same-length : tie.Need-same-length
 same-length c = search needs
 
 returns : tie.Need-returns
-returns c = let z = c .before .before .before .before .before .before .before .before .before .before .before .before .before .before .before .before .before .before in
+returns c = let z = c .before .before .before .before .before .before .before .before .before .before .before .before .before .before .before .before .before .before .before .before in
     let e = c .before .before .before .before .before .before .element .ensures ∙ z .pre .3 .at (z .args .r) (z .pre .5) in
     wrote-as (c .before .before .append-each .ensures) (ap (λ x. extensionsWords (z .args .f) (take (8 * z .args .f .end) (now (z .args .words))) (now (z .args .rows)) x (z .args .r)) e)
 
@@ -62,6 +73,9 @@ append-extensions-spec =
     slice-aggregate-find-targets-2
     slice-aggregate-find-targets-3
     find-targets-requires
+    slice-reshare-prefix-find-origin
+    slice-aggregate-find-origin
+    find-origin-requires
     element-requires
     slice-aggregate-append-each
     slice-aggregate-append-each-2

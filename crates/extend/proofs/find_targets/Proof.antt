@@ -79,9 +79,7 @@ returns c = let z = c .before .before .before .before .before .before .before .b
     let e : l .j ≡ z .args .f .gens = omega (arith, l .inv .2, l .inv .3) in
     record {
       stands = z .pre .0;
-      lines = z .pre .1;
       words = z .pre .2;
-      shifts-are = z .pre .4;
       listed = z .pre .5;
       long = (omega (arith, l .inv .4, z .pre .6), omega (arith, l .inv .5, z .pre .7));
       to-is = λ j a b. l .inv .6 j a (omega (arith, e));
