@@ -1,6 +1,6 @@
 -- What a finished build leaves passes the check.
 --
---   Unrefused             none of 11 to 15 applies to a text
+--   Unrefused, unrefused  none of 11 to 15 applies to a text
 --   passes                the table of what it says passes the judgement
 --   passes-check          the check of their table answers 0
 --   built-checks          a finished build leaves words whose check answers 0
@@ -38,7 +38,7 @@ pub record Unrefused (t : Bytes) : Type 0 where
   pub used : ¬ says t (λ R. misused R ≡ true)
   pub consistent : ¬ says t (λ R. ¬ Consistent (presentation R))
 
-unrefused : (t : Bytes) (rest : List (ℕ × Type 0)) → First (presentationRefusals t ++ rest) 0 → Unrefused t
+pub unrefused : (t : Bytes) (rest : List (ℕ × Type 0)) → First (presentationRefusals t ++ rest) 0 → Unrefused t
 unrefused t rest h =
     let (a, h₁) = none-of 11 (λ e. omega arith) h in
     let (b, h₂) = none-of 12 (λ e. omega arith) h₁ in

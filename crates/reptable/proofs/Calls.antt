@@ -5,9 +5,9 @@
 --   written             a finished build, and what writing its words answered
 --   table-text          so the bytes that are answered with 0 are the text of the table of the steps
 use mathlib.Core.Path.{_≡_, refl, ap, ap₂, _∙_, subst}
-use mathlib.Core.Logic.{_⊎_, inl, inr}
-use mathlib.Core.List.{List}
-use Prim.Native.Nat.{ℕ, _*_, _≤_}
+use mathlib.Core.Logic.{inl, inr}
+use mathlib.Core.List.{List, [], _∷_}
+use Prim.Native.Nat.{ℕ, _*_, _≤_, _<_}
 use native.Mathlib.Nat.{div-add-mod'}
 use native.Mathlib.Omega.{arith}
 use native.Mathlib.Decide.{ℕ-discrete}
@@ -16,11 +16,11 @@ use lib.Seq.{take-append-seam}
 use Rattle.io.specs.Counts.{Counts}
 use Rattle.io.proofs.Counting.{counts}
 use Rattle.definitions.specs.Text.{Bytes}
-use Rattle.definitions.specs.Presentation.{lineWords, presentation}
+use Rattle.definitions.specs.Presentation.{lineWords, buildWords, presentation}
 use Rattle.definitions.specs.Table.{lineCount, tableText}
 use Rattle.definitions.specs.Steps.{tableOf}
 use Rattle.definitions.specs.Answers.{First, says, buildRefusals, over, Build, WriteTable}
-use Rattle.clifford.proofs.Calls.{Unrefused, left-behind}
+use Rattle.clifford.proofs.Calls.{unrefused, left-behind}
 use Rattle.reptable.specs.Tabulated.{lent, Tabulated}
 
 -- what is written over a buffer is no longer than the buffer after it
@@ -47,19 +47,6 @@ refused {t} {answer = answer} {count} have out l ne B =
 
 -- ---- A finished build
 
--- a condition of another number does not apply to the answer 0
-passed : {Q X : Type 0} (k : ℕ) → ¬ (0 ≡ k) → (Q × (0 ≡ k)) ⊎ ((¬ Q) × X) → (¬ Q) × X
-passed k ne (inl p) = absurd (ne (p .1))
-passed k ne (inr p) = p
-
-unrefused : (t : Bytes) (have : ℕ) → First (buildRefusals t have) 0 → Unrefused t
-unrefused t have f =
-    let (a, g) = passed 11 (λ e. omega arith) f in
-    let (b, h) = passed 12 (λ e. omega arith) g in
-    let (c, i) = passed 13 (λ e. omega arith) h in
-    let (d, j) = passed 14 (λ e. omega arith) i in
-    record { in-form = a; prime = b; small = c; used = d; consistent = passed 15 (λ e. omega arith) j .0 }
-
 -- what write_table leaves: a finished one the text at the start of the bytes
 module _ {T : List ℕ} {out after : Bytes} {answer count : ℕ} (W : WriteTable T out answer count after) where
   text-is : answer ≡ 0 → take count after ≡ tableText T
@@ -77,7 +64,7 @@ unfolding lineWords
 written {t} {before} {after} {status} {lines} {answer} {count} {out} {text} l z B W =
     let (R, s, (k, w)) = B .leaves .finished z in
     let f : First (buildRefusals t lent) 0 = subst (First (buildRefusals t lent)) z (subst (λ h. First (buildRefusals t h) status) l (B .answered)) in
-    let q : take (8 * lines) after ≡ tableOf (presentation R) = ap₂ (λ (n : ℕ) (v : List ℕ). take (8 * n) v) k w ∙ left-behind t (unrefused t lent f) R s before in
+    let q : take (8 * lines) after ≡ tableOf (presentation R) = ap₂ (λ (n : ℕ) (v : List ℕ). take (8 * n) v) k w ∙ left-behind t (unrefused t ((16, says t (λ Q. lent < buildWords (presentation Q))) ∷ []) f) R s before in
     let X : WriteTable (tableOf (presentation R)) out answer count text = subst (λ T. WriteTable T out answer count text) q W in
     (inr (f, (R, s, record { answered = X .answered; text = text-is X })), counts count text (text-within X (ℕ-discrete answer 0)))
 

@@ -11,131 +11,6 @@ use chieftables::counted::Counted;
 ghost use Prim.Native.Nat.{_<_, _≤_};
 ghost use lib.ListN.{length};
 
-// The first position from `start` on where the byte stands, or the end.
-fn find(s: &[u8], start: usize, byte: u8) -> usize
-    requires { ⌜ start ≤ length (now s) ⌝ }
-    ensures { λ r. ⌜ (start ≤ r) × (r ≤ length (now (s .entry))) ⌝ }
-{
-    let mut at = start;
-    while at < s.len() {
-        if s[at] == byte {
-            return at;
-        }
-        at += 1;
-    }
-    at
-}
-
-// The position behind a position, or the end.
-fn behind(s: &[u8], at: usize) -> usize
-    requires { ⌜ at ≤ length (now s) ⌝ }
-    ensures { λ r. ⌜ (at ≤ r) × (r ≤ length (now (s .entry))) ⌝ }
-{
-    if at < s.len() {
-        return at + 1;
-    }
-    at
-}
-
-// A word with one more decimal digit.
-fn grown(word: u32, digit: u8) -> u32 {
-    (((word as u64) * 10 + (digit as u64) % 16) % 4294967296) as u32
-}
-
-fn is_digit(b: u8) -> bool {
-    if b < 48 {
-        return false;
-    }
-    b <= 57
-}
-
-// Adds a digit to word k, or ends it; the number of the word to go on with.
-fn parse_byte(words: &mut [u32], k: usize, b: u8) -> usize
-    requires { ⌜ k < length (now words) ⌝ }
-    ensures { λ r. ⌜ r ≤ length (now (words .entry)) ⌝ }
-{
-    if is_digit(b) {
-        words[k] = grown(words[k], b);
-        return k;
-    }
-    k + 1
-}
-
-// Reads decimal words, each with a byte behind it, into words that are zeros, until these are full.
-fn parse(s: &[u8], words: &mut [u32]) {
-    let mut k: usize = 0;
-    let mut i: usize = 0;
-    while i < s.len() {
-        if k == words.len() {
-            return;
-        }
-        k = parse_byte(words, k, s[i]);
-        i += 1;
-    }
-}
-
-// The number, or how many words there are if that is less.
-fn words_lent(a: u32, words: &[u32]) -> usize
-    ensures { λ r. ⌜ r ≤ length (now (words .entry)) ⌝ }
-{
-    let n = a as usize;
-    if n < words.len() {
-        return n;
-    }
-    words.len()
-}
-
-// The same of bytes.
-fn bytes_lent(a: u32, bytes: &[u8]) -> usize
-    ensures { λ r. ⌜ r ≤ length (now (bytes .entry)) ⌝ }
-{
-    let n = a as usize;
-    if n < bytes.len() {
-        return n;
-    }
-    bytes.len()
-}
-
-// A sum, with one more number.
-fn mix(sum: u32, more: u32) -> u32 {
-    (((sum as u64) * 31 + (more as u64)) % 4294967291) as u32
-}
-
-fn up(b: u8) -> u32 {
-    b as u32
-}
-
-fn mix_words(words: &[u32]) -> u32 {
-    let mut sum: u32 = 0;
-    let mut i: usize = 0;
-    while i < words.len() {
-        sum = mix(sum, words[i]);
-        i += 1;
-    }
-    sum
-}
-
-fn mix_bytes(bytes: &[u8]) -> u32 {
-    let mut sum: u32 = 0;
-    let mut i: usize = 0;
-    while i < bytes.len() {
-        sum = mix(sum, up(bytes[i]));
-        i += 1;
-    }
-    sum
-}
-
-fn print(number: u64) {
-    io::print_decimal(1, number);
-    io::write_all(1, b" ");
-}
-
-fn report(answer: u32, count: usize, sum: u32) {
-    print(answer as u64);
-    print(count as u64);
-    print(sum as u64);
-}
-
 // Whether the first bytes are those of a text, and as many.
 fn is_text(bytes: &[u8], count: usize, text: &[u8]) -> bool {
     if count != text.len() {
@@ -154,12 +29,12 @@ fn report_same(same: bool) {
 
 // The calls, with the first words or bytes of a buffer lent.
 fn read_first(text: &[u8], words: &mut [u32], have: u32) -> Counted {
-    let n = words_lent(have, words);
+    let n = cases::words_lent(have, words);
     chieftables::read_table::read_table(text, &mut words[..n])
 }
 
 fn write_first(words: &[u32], out: &mut [u8], room: u32) -> Counted {
-    let n = bytes_lent(room, out);
+    let n = cases::bytes_lent(room, out);
     chieftables::write_table::write_table(words, &mut out[..n])
 }
 
@@ -168,7 +43,7 @@ fn write(words: &[u32], room: u32, text: &[u8]) -> bool {
     let mut out = [7u8; 4096];
     let a = write_first(words, &mut out, room);
     let count = a.count;
-    report(a.answer, count, mix_bytes(&out));
+    cases::report(a.answer, count, cases::mix_bytes(&out));
     is_text(&out, count, text)
 }
 
@@ -184,7 +59,7 @@ fn read_case(text: &[u8], have: u32, room: u32) {
     let a = read_first(text, &mut words, have);
     let answer = a.answer;
     let count = a.count;
-    report(answer, count, mix_words(&words));
+    cases::report(answer, count, cases::mix_words(&words));
     if answer == 0 {
         write_back(&words, count, room, text);
     }
@@ -192,14 +67,14 @@ fn read_case(text: &[u8], have: u32, room: u32) {
 
 fn write_case(text: &[u8], have: u32, room: u32) {
     let mut words = [0u32; 512];
-    parse(text, &mut words);
-    let n = words_lent(have, &words);
+    cases::parse(text, &mut words);
+    let n = cases::words_lent(have, &words);
     write(&words[..n], room, text);
 }
 
 fn answer(line: &[u8], text: &[u8]) {
     let mut numbers = [0u32; 3];
-    parse(line, &mut numbers);
+    cases::parse(line, &mut numbers);
     let have = numbers[1];
     let room = numbers[2];
     if numbers[0] == 0 {
@@ -212,26 +87,26 @@ fn answer(line: &[u8], text: &[u8]) {
 }
 
 // The case from `at` on; the position behind it.
-fn answer_at(cases: &[u8], at: usize) -> usize
-    requires { ⌜ at < length (now cases) ⌝ }
-    ensures { λ r. ⌜ (at < r) × (r ≤ length (now (cases .entry))) ⌝ }
+fn answer_at(input: &[u8], at: usize) -> usize
+    requires { ⌜ at < length (now input) ⌝ }
+    ensures { λ r. ⌜ (at < r) × (r ≤ length (now (input .entry))) ⌝ }
 {
-    let line = find(cases, at + 1, 10);
-    let text = behind(cases, line);
-    let end = find(cases, text, 12);
-    answer(&cases[at..text], &cases[text..end]);
-    behind(cases, end)
+    let c = cases::case_at(input, at);
+    let text = c.text;
+    let end = c.end;
+    answer(&input[at..text], &input[text..end]);
+    c.next
 }
 
-fn answer_all(cases: &[u8]) {
+fn answer_all(input: &[u8]) {
     let mut at: usize = 0;
-    while at < cases.len() {
-        at = answer_at(cases, at);
+    while at < input.len() {
+        at = answer_at(input, at);
     }
 }
 
 fn main() {
-    let mut cases = io::large_buffer();
-    let n = io::read_full(0, &mut cases);
-    answer_all(&cases[..n]);
+    let mut input = io::large_buffer();
+    let n = io::read_full(0, &mut input);
+    answer_all(&input[..n]);
 }

@@ -1,24 +1,24 @@
--- `mix_bytes` is safe and ends.
+-- `mix_words` is safe and ends.
 use Prim.Native.Nat.{_-_, _≤_}
 use lib.ListN.{length}
 use borrow.Author.Needs.{needs}
-use Rattle.text_cases.proofs.mix_bytes.Statement.{statement}
-use Rattle.text_cases.proofs.mix_bytes.Tie as tie
+use Rattle.cases.proofs.mix_words.Statement.{statement}
+use Rattle.cases.proofs.mix_words.Tie as tie
 
 abbrev Inv-loop : tie.InvT-loop
-Inv-loop bytes sum₀ i₀ sum i = i ≤ length bytes
+Inv-loop words sum₀ i₀ sum i = i ≤ length words
 
 abbrev μ-loop : tie.MeasureT-loop
-μ-loop bytes sum₀ i₀ sum i = length bytes - i
+μ-loop words sum₀ i₀ sum i = length words - i
 
 loop-holds : tie.Need-loop-holds Inv-loop μ-loop
 loop-holds c = search needs
 
-shared-slice-read-up : tie.Need-shared-slice-read-up Inv-loop μ-loop
-shared-slice-read-up c = search needs
+mul-mix : tie.Need-mul-mix Inv-loop μ-loop
+mul-mix c = search needs
 
-up-requires : tie.Need-up-requires Inv-loop μ-loop
-up-requires c κs = search needs
+shared-slice-read-mix : tie.Need-shared-slice-read-mix Inv-loop μ-loop
+shared-slice-read-mix c = search needs
 
 mix-requires : tie.Need-mix-requires Inv-loop μ-loop
 mix-requires c κs = search needs
@@ -35,15 +35,15 @@ loop-again c = search needs
 returns : tie.Need-returns Inv-loop μ-loop
 returns c = search needs
 
-pub mix-bytes-spec : {M : Type 1} → statement M
-mix-bytes-spec =
+pub mix-words-spec : {M : Type 1} → statement M
+mix-words-spec =
     tie.close
     (tie.spec
     Inv-loop
     μ-loop
     loop-holds
-    shared-slice-read-up
-    up-requires
+    mul-mix
+    shared-slice-read-mix
     mix-requires
     add-i
     loop-less
