@@ -8,6 +8,7 @@
 --   Top, Stacked                  the highest exponent that is not 0; a row of two with an exponent between
 --   Quiet m words reach           from reach j on, generator j commutes with the generators below it
 --   Moved                         where conjugation begins to change a row
+--   Central m words rise          below rise c, generator c commutes with every generator
 --   Product, Image, Conjugate     what product and conjugation return
 --   Remaining                     how many turns are left, once a period is known
 --   Power, Scaled, Turned         powers, a power times a form, and conjugates turn after turn
@@ -69,6 +70,18 @@ pub record Reach (words : List (List ℕ)) (j r : ℕ) : Type 0 where
 
 pub record Quiet (m : ℕ) (words : List (List ℕ)) (reach : List ℕ) : Type 0 where
   pub at : (j : ℕ) → j < m → Reach words j (getD reach j 0)
+
+-- generator c commutes with every generator up to i
+pub record Commutes (words : List (List ℕ)) (c i : ℕ) : Type 0 where
+  pub below : (l : ℕ) → l < c → keeps words c l 1 ≡ true
+  pub above : (j : ℕ) → c < j → j ≤ i → keeps words j c 1 ≡ true
+
+-- and with every one below r
+pub record Rise (words : List (List ℕ)) (c r : ℕ) : Type 0 where
+  pub at : (i : ℕ) → i < r → Commutes words c i
+
+pub record Central (m : ℕ) (words : List (List ℕ)) (rise : List ℕ) : Type 0 where
+  pub at : (c : ℕ) → c < m → Rise words c (getD rise c 0)
 
 pub record Product (i : ℕ) (primes : List ℕ) (words : List (List ℕ)) (x y r : List ℕ) : Type 0 where
   pub small : Small i primes r

@@ -2,7 +2,7 @@
 ghost use mathlib.Core.Path.{_≡_};
 ghost use Prim.Native.Nat.{suc, _*_, _%_, _≤_, _<_};
 ghost use lib.ListN.{getD};
-ghost use Rattle.collector.specs.Rows.{Small, Ready, keeps, Lowest, Moved, Reach, Quiet, Product, Image, Conjugate, Remaining, Power, Scaled, Turned};
+ghost use Rattle.collector.specs.Rows.{Small, Ready, keeps, Lowest, Moved, Reach, Quiet, Rise, Central, Product, Image, Conjugate, Remaining, Power, Scaled, Turned};
 use super::rows::GENERATORS;
 use super::rows::Reaches;
 use super::rows::Row;
@@ -77,6 +77,38 @@ pub fn reaches(words: &Words, n: usize) -> Reaches
     for j in 0..n {
         let m = reached(words, j);
         r[j] = m;
+    }
+    r
+}
+
+// Generator c commutes with every generator below the answer.
+pub fn risen(words: &Words, reach: &Reaches, n: usize, c: usize) -> usize
+    requires { ⌜ (c < n) × (n ≤ 12) × Reach (now words) c (getD (now reach) c 0) ⌝ }
+    ensures { λ r. ⌜ Rise (now (words .entry)) c r ⌝ }
+{
+    if reach[c] != 0 {
+        return 0;
+    }
+    let mut j = c + 1;
+    while j < n {
+        let w = word(words, j, c);
+        if !empty(c + 1, w) {
+            return j;
+        }
+        j += 1;
+    }
+    n
+}
+
+// The same for each of the first n generators.
+pub fn rises(words: &Words, reach: &Reaches, n: usize) -> Reaches
+    requires { ⌜ (n ≤ 12) × Quiet n (now words) (now reach) ⌝ }
+    ensures { λ r. ⌜ Central n (now (words .entry)) r ⌝ }
+{
+    let mut r = [0usize; GENERATORS];
+    for c in 0..n {
+        let m = risen(words, reach, n, c);
+        r[c] = m;
     }
     r
 }
