@@ -9,7 +9,8 @@
 --   keeps-empty                   an exponent 1 is kept only where the word is empty
 --   rise-none, rise-first, rise-more       the scan for the generators that a generator commutes with
 --   central-none, central-more, central-below    the table of these, one more; for fewer generators
---   Mixed, mixed-none, mixed-more, mixed-stacked    a row of two, one exponent more; the exponent between
+--   mixed-none, mixed-more, mixed-stacked    a row of two, one exponent more; the exponent between
+--   kept-all, kept-then, mixed-kept, kept-stacked    what is left of a row: all; after two steps; after a copy; with a store
 --   lowest-row                    the row of an exponent of the lowest generator
 use mathlib.Core.Path.{_≡_, refl, sym, _∙_, ap, subst}
 use mathlib.Core.Bool.{true, _||_}
@@ -19,14 +20,14 @@ use native.Mathlib.Numerals.{add-one}
 use native.Mathlib.Omega.{arith}
 use native.Mathlib.Decide.{decLt, ℕ-discrete}
 use lib.Dec.{eqb}
-use lib.ListN.{length, getD, set, replicate, length-replicate}
+use lib.ListN.{length, getD, set, replicate, length-set, length-replicate}
 use lib.Seq.{getD-set-same, getD-set-other}
 use borrow.Author.Tests.{ne-eqb}
 use Rattle.definitions.specs.Presentation.{toNF, trivial, pairNumber}
 use Rattle.definitions.specs.Consistency.{sameForm}
 use Rattle.numbers.proofs.Bools.{or-right}
 use Rattle.numbers.proofs.Lists.{below-suc}
-use Rattle.collector.specs.Rows.{Top, Stacked, keeps, Moved, Reach, Quiet, Rise, Central, Lowest}
+use Rattle.collector.specs.Rows.{Top, Stacked, Mixed, Kept, keeps, Moved, Reach, Quiet, Rise, Central, Lowest}
 use Rattle.collector.proofs.Laws.{zeros}
 
 pub scan-more : (Q : ℕ → Type 0) (k i : ℕ) → 0 < k → Q (k - 1) → ((q : ℕ) → k ≤ q → q < i → Q q) → (q : ℕ) → k - 1 ≤ q → q < i → Q q
@@ -127,16 +128,12 @@ central-below m n ws rise l t = record { at = λ c a. t .at c (omega arith) }
 
 -- ---- A row of two
 
--- low below q, high from q on
-pub record Mixed (low high : List ℕ) (q : ℕ) (r : List ℕ) : Type 0 where
-  pub below : (m : ℕ) → m < q → getD r m 0 ≡ getD low m 0
-  pub above : (m : ℕ) → q ≤ m → getD r m 0 ≡ getD high m 0
-
 pub mixed-none : (low high : List ℕ) → Mixed low high 0 high
-mixed-none low high = record { below = λ m l. absurd (omega arith); above = λ m l. refl }
+mixed-none low high = record { long = refl; below = λ m l. absurd (omega arith); above = λ m l. refl }
 
 pub mixed-more : (low high : List ℕ) (q : ℕ) (r : List ℕ) → q < length r → Mixed low high q r → Mixed low high (q + 1) (set r q (getD low q 0))
 mixed-more low high q r l t = subst (λ n. Mixed low high n (set r q (getD low q 0))) (sym (add-one q)) (record {
+  long = length-set r q (getD low q 0) ∙ t .long;
   below = below-suc q (λ m. getD (set r q (getD low q 0)) m 0 ≡ getD low m 0) (λ m a. getD-set-other r q m _ 0 (omega arith) ∙ t .below m a) (getD-set-same r q _ 0 l);
   above = λ m a. getD-set-other r q m _ 0 (omega arith) ∙ t .above m (omega arith);
 })
@@ -147,6 +144,26 @@ mixed-stacked low high k s r l t = record {
   at = getD-set-same r k s 0 l;
   above = λ m a. getD-set-other r k m s 0 (omega arith) ∙ t .above m (omega arith);
 }
+
+pub kept-all : (i : ℕ) (x : List ℕ) → Kept i x x
+kept-all i x = record { long = refl; above = λ m a. refl }
+
+pub kept-then : (k i : ℕ) (x y z : List ℕ) → k ≤ i → Kept k x y → Kept k y z → Kept i x z
+kept-then k i x y z l a b = record { long = b .long ∙ a .long; above = λ m h. b .above m (omega arith) ∙ a .above m (omega arith) }
+
+pub mixed-kept : (low x : List ℕ) (k : ℕ) (r : List ℕ) → Mixed low x k r → Kept k x r
+mixed-kept low x k r t = record { long = t .long; above = t .above }
+
+-- a store at k into what is left of x from k on
+pub kept-stacked : (k s : ℕ) (x y : List ℕ) → k < length y → Kept k x y → Stacked k y x s (set y k s)
+kept-stacked k s x y l t = record {
+  below = λ m a. getD-set-other y k m s 0 (omega arith);
+  at = getD-set-same y k s 0 l;
+  above = λ m a. getD-set-other y k m s 0 (omega arith) ∙ t .above m (omega arith);
+}
+
+pub stored-kept : (k i s : ℕ) (x y : List ℕ) → k < i → Kept k x y → Kept i x (set y k s)
+stored-kept k i s x y l t = record { long = length-set y k s ∙ t .long; above = λ m a. getD-set-other y k m s 0 (omega arith) ∙ t .above m (omega arith) }
 
 pub lowest-row : (a : ℕ) → Lowest a (set (replicate 12 0) 0 a)
 lowest-row a = record { at = getD-set-same (replicate 12 0) 0 a 0 (omega (arith, length-replicate {A = ℕ} 12 0)); rest = λ m l. getD-set-other (replicate 12 0) 0 m a 0 (omega arith) ∙ zeros m }

@@ -3,8 +3,10 @@
 --   small-below, ready-below, reads-below      what holds of m generators holds of fewer
 --   Turning, turning-start, turning-more       conjugates, turn after turn
 --   turned-done, turned-fixed                  when no turn is left; where conjugation fixes the form
+--   turned-same, product-same, product-left    rows that agree; a trivial left factor
 --   product-up, product-none                   the exponents above those of the right factor stay; where it has none
 --   product-low, product-high                  no carry; a carry
+--   multiply-top, multiply-low, multiply-high  the same in place of the left factor
 --   powering-start, powering-more, power-once  powers, one after another; the first
 --   power-lowest                               powers of a form of the lowest generator alone
 --   conjugate-up, conjugate-none               exponents that stay; where all stay
@@ -30,11 +32,11 @@ use Rattle.numbers.proofs.Lists.{below-suc, iter-zero, iter-suc, iter-add, iter
 use Rattle.group.specs.Context.{Context}
 use Rattle.group.proofs.Values.{power-zero, power-suc}
 use Rattle.group.proofs.Clauses.{mulStep-below, mulStep-over, mul-suc, conj-suc, sameForm-eq}
-use Rattle.group.proofs.Units.{mul-trivial-right, mul-top-below, mul-top-over, conj-empty, conj-zero}
+use Rattle.group.proofs.Units.{mul-trivial-left, mul-trivial-right, mul-top-below, mul-top-over, conj-empty, conj-zero}
 use Rattle.group.proofs.Rows.{toNF-suc, toNF-ext, toNF-set-top, toNF-trivial, toNF-valid}
-use Rattle.collector.specs.Rows.{Small, Ready, Reads, Generator, Lowest, Top, Stacked, keeps, Moved, Product, Image, Conjugate, Remaining, Power, Turned}
+use Rattle.collector.specs.Rows.{Small, Ready, Reads, Generator, Lowest, Top, Stacked, Kept, keeps, Moved, Product, Image, Conjugate, Remaining, Power, Turned}
 use Rattle.collector.proofs.Laws.{zeros}
-use Rattle.collector.proofs.Skips.{climb, lowest-row}
+use Rattle.collector.proofs.Skips.{climb, kept-then, kept-stacked, stored-kept, lowest-row}
 
 -- ---- Fewer generators
 
@@ -108,6 +110,24 @@ module _ (k b : ℕ) (ps : List ℕ) (ws : List (List ℕ)) (x : List ℕ) where
   pub turned-fixed : Conjugate k k ps ws x x → Turned k b ps ws x x
   turned-fixed q = record { small = q .small; is = λ C R. sym (iter-fix (conj (C .P) k k) (toNF k x) (sym (q .is C R)) b) }
 
+-- ---- Rows that agree
+
+small-same : (k : ℕ) (ps x r : List ℕ) → ((m : ℕ) → m < k → getD r m 0 ≡ getD x m 0) → Small k ps x → Small k ps r
+small-same k ps x r e s = record { below = λ m l. subst (λ v. v < getD ps m 0) (sym (e m l)) (s .below m l) }
+
+pub turned-same : (k b : ℕ) (ps : List ℕ) (ws : List (List ℕ)) (x c r : List ℕ) → ((m : ℕ) → m < k → getD r m 0 ≡ getD c m 0) → Turned k b ps ws x c → Turned k b ps ws x r
+turned-same k b ps ws x c r e t = record { small = small-same k ps c r e (t .small); is = λ C R. toNF-ext k r c e ∙ t .is C R }
+
+pub product-same : (k : ℕ) (ps : List ℕ) (ws : List (List ℕ)) (x y z r : List ℕ) → ((m : ℕ) → m < k → getD r m 0 ≡ getD z m 0) → Product k ps ws x y z → Product k ps ws x y r
+product-same k ps ws x y z r e t = record { small = small-same k ps z r e (t .small); is = λ C R. toNF-ext k r z e ∙ t .is C R }
+
+-- no exponent in x
+pub product-left : (i : ℕ) (ps : List ℕ) (ws : List (List ℕ)) (x y : List ℕ) → Top i x 0 → Small i ps y → Product i ps ws x y y
+product-left i ps ws x y t s = record {
+  small = s;
+  is = λ C R. sym (ap (λ m. mul (C .P) i m (toNF i y)) (toNF-trivial i x (λ k l. t .rest k (omega arith) l)) ∙ mul-trivial-left C i (toNF i y) (small-valid C i i ps ws y R (omega arith) s));
+}
+
 -- the form of a row of two
 stacked-is : (k : ℕ) (low high : List ℕ) (s : ℕ) (r : List ℕ) → Stacked k low high s r → toNF (suc k) r ≡ (s, toNF k low)
 stacked-is k low high s r t = toNF-suc k r ∙ ap₂ (λ a b. (a, b)) (t .at) (toNF-ext k r low (t .below))
@@ -179,6 +199,45 @@ module _ (i m : ℕ) (ps : List ℕ) (ws : List (List ℕ)) (x y c z : List ℕ)
       → Stacked (m - 1) v x (getD x (m - 1) 0 + getD y (m - 1) 0 - getD ps (m - 1) 0) r → getD ps (m - 1) 0 ≤ getD x (m - 1) 0 + getD y (m - 1) 0 → Small i ps y → Product i ps ws x y r
   product-high-at u v r ue qv st h sy = raised v r _ st (product-high (m - 1) _ ps ws x y c z refl t q u v r ue qv st h
       (omega (arith, over .less, sx .below (m - 1) (omega (arith, over .less)), sy .below (m - 1) (omega (arith, over .less)))))
+
+-- the same in place of x: x₁ is x with its lower part turned, x₂ with the lower part multiplied
+module _ (i m : ℕ) (ps : List ℕ) (ws : List (List ℕ)) (x y x₁ x₂ : List ℕ) (pos : 0 < m) (over : Top i y m) (sx : Small i ps x) (long : m ≤ length x)
+    (t : Turned (m - 1) (getD y (m - 1) 0) ps ws x x₁) (kt : Kept (m - 1) x x₁) (q : Product (m - 1) ps ws x₁ y x₂) (kq : Kept (m - 1) x₁ x₂) where
+  kept : Kept (m - 1) x x₂
+  kept = kept-then (m - 1) (m - 1) x x₁ x₂ (omega arith) kt kq
+
+  pub multiply-top : getD x₂ (m - 1) 0 ≡ getD x (m - 1) 0
+  multiply-top = kept .above (m - 1) (omega arith)
+
+  pub multiply-low : getD x₂ (m - 1) 0 + getD y (m - 1) 0 < getD ps (m - 1) 0
+      → Product i ps ws x y (set x₂ (m - 1) (getD x₂ (m - 1) 0 + getD y (m - 1) 0)) × Kept i x (set x₂ (m - 1) (getD x₂ (m - 1) 0 + getD y (m - 1) 0))
+  multiply-low h = (
+    product-low-at i m ps ws x y x₁ x₂ pos over sx t q r (subst (λ a. Stacked (m - 1) x₂ x (a + getD y (m - 1) 0) r) multiply-top (kept-stacked (m - 1) s x x₂ (omega (arith, kept .long)) kept)) (omega (arith, multiply-top)),
+    stored-kept (m - 1) i s x x₂ (omega (arith, over .less)) kept,
+  )
+    where
+      s : ℕ
+      s = getD x₂ (m - 1) 0 + getD y (m - 1) 0
+
+      r : List ℕ
+      r = set x₂ (m - 1) s
+
+  pub multiply-high : (v : List ℕ) → Product (m - 1) ps ws (getD ws (pairNumber (m - 1) (m - 1)) []) x₂ v → Kept (m - 1) x₂ v → getD ps (m - 1) 0 ≤ getD x₂ (m - 1) 0 + getD y (m - 1) 0 → Small i ps y
+      → Product i ps ws x y (set v (m - 1) (getD x₂ (m - 1) 0 + getD y (m - 1) 0 - getD ps (m - 1) 0)) × Kept i x (set v (m - 1) (getD x₂ (m - 1) 0 + getD y (m - 1) 0 - getD ps (m - 1) 0))
+  multiply-high v qv kv h sy = (
+    product-high-at i m ps ws x y x₁ x₂ pos over sx t q _ v r refl qv
+        (subst (λ a. Stacked (m - 1) v x (a + getD y (m - 1) 0 - getD ps (m - 1) 0) r) multiply-top (kept-stacked (m - 1) s x v (omega (arith, kept′ .long)) kept′)) (omega (arith, multiply-top)) sy,
+    stored-kept (m - 1) i s x v (omega (arith, over .less)) kept′,
+  )
+    where
+      kept′ : Kept (m - 1) x v
+      kept′ = kept-then (m - 1) (m - 1) x x₂ v (omega arith) kept kv
+
+      s : ℕ
+      s = getD x₂ (m - 1) 0 + getD y (m - 1) 0 - getD ps (m - 1) 0
+
+      r : List ℕ
+      r = set v (m - 1) s
 
 -- ---- Powers
 

@@ -5,7 +5,8 @@
 --   Reads C m primes words        they are those of the presentation of C
 --   Generator k r                 r is the row of generator k
 --   Lowest a r                    r has exponent a of the lowest generator, and no other
---   Top, Stacked                  the highest exponent that is not 0; a row of two with an exponent between
+--   Top, Stacked, Mixed, Kept     the highest exponent that is not 0; rows of two, with an exponent between and without;
+--                                 exponents that are left
 --   Quiet m words reach           from reach j on, generator j commutes with the generators below it
 --   Moved                         where conjugation begins to change a row
 --   Central m words rise          below rise c, generator c commutes with every generator
@@ -17,7 +18,7 @@ use mathlib.Core.Path.{_≡_}
 use mathlib.Core.Bool.{Bool, true, _||_, cond}
 use mathlib.Core.List.{List, []}
 use Prim.Native.Nat.{ℕ, suc, _≤_, _<_}
-use lib.ListN.{getD}
+use lib.ListN.{length, getD}
 use lib.Dec.{eqb}
 use Rattle.definitions.specs.Lists.{iter}
 use Rattle.definitions.specs.Presentation.{NF, toNF, trivial, power, value, pairNumber}
@@ -54,6 +55,17 @@ pub record Stacked (k : ℕ) (low high : List ℕ) (s : ℕ) (r : List ℕ) : Ty
   pub below : (m : ℕ) → m < k → getD r m 0 ≡ getD low m 0
   pub at : getD r k 0 ≡ s
   pub above : (m : ℕ) → k < m → getD r m 0 ≡ getD high m 0
+
+-- low below q, high from q on
+pub record Mixed (low high : List ℕ) (q : ℕ) (r : List ℕ) : Type 0 where
+  pub long : length r ≡ length high
+  pub below : (m : ℕ) → m < q → getD r m 0 ≡ getD low m 0
+  pub above : (m : ℕ) → q ≤ m → getD r m 0 ≡ getD high m 0
+
+-- the exponents of x from i on are still those of r
+pub record Kept (i : ℕ) (x r : List ℕ) : Type 0 where
+  pub long : length r ≡ length x
+  pub above : (m : ℕ) → i ≤ m → getD r m 0 ≡ getD x m 0
 
 -- conjugation by generator j keeps an exponent e of generator l: e is 0, or the word of the two is empty
 abbrev pub keeps : (words : List (List ℕ)) (j l e : ℕ) → Bool

@@ -1,12 +1,15 @@
 // Product and conjugation of normal forms, level by level, with powers and repeated conjugation.
 ghost use mathlib.Core.Path.{_≡_};
 ghost use Prim.Native.Nat.{suc, _*_, _%_, _≤_, _<_};
-ghost use lib.ListN.{getD};
-ghost use Rattle.collector.specs.Rows.{Small, Ready, keeps, Lowest, Moved, Reach, Quiet, Rise, Central, Product, Image, Conjugate, Remaining, Power, Scaled, Turned};
+ghost use mathlib.Core.List.{[]};
+ghost use lib.ListN.{length, getD};
+ghost use Rattle.definitions.specs.Presentation.{pairNumber};
+ghost use Rattle.collector.specs.Rows.{Small, Ready, Kept, keeps, Lowest, Moved, Reach, Quiet, Rise, Central, Product, Image, Conjugate, Remaining, Power, Scaled, Turned};
 use super::rows::GENERATORS;
 use super::rows::Reaches;
 use super::rows::Row;
 use super::rows::Words;
+use super::rows::copied;
 use super::rows::empty;
 use super::rows::same;
 use super::rows::stacked;
@@ -129,27 +132,62 @@ pub fn moved(words: &Words, reach: &Reaches, k: usize, j: usize, x: Row) -> usiz
     0
 }
 
-// The product of x and y on level i. The conjugates that it needs are of the level below the highest exponent of y.
+// The first k exponents of x after b conjugations by generator k.
+pub fn turn(primes: &Row, words: &Words, reach: &Reaches, k: usize, x: &mut Row, b: u32)
+    requires { ⌜ Ready (suc k) (now primes) (now words) × Quiet (suc k) (now words) (now reach) × Small k (now primes) (now x) × (length (now x) ≡ 12) ⌝ }
+    ensures { λ r. ⌜ Turned k b (now (primes .entry)) (now (words .entry)) (now (x .entry)) (now (x .exit)) × Kept k (now (x .entry)) (now (x .exit)) ⌝ }
+{
+    if reach[k] == 0 {
+        return;
+    }
+    let c = turned(primes, words, reach, k, *x, b);
+    copied(k, c, x);
+}
+
+// The power word of generator k, times the first k exponents of x.
+pub fn carry(primes: &Row, words: &Words, reach: &Reaches, k: usize, x: &mut Row)
+    requires { ⌜ Ready (suc k) (now primes) (now words) × Quiet k (now words) (now reach) × Small k (now primes) (now x) × (length (now x) ≡ 12) ⌝ }
+    ensures { λ r. ⌜ Product k (now (primes .entry)) (now (words .entry)) (getD (now (words .entry)) (pairNumber k k) []) (now (x .entry)) (now (x .exit)) × Kept k (now (x .entry)) (now (x .exit)) ⌝ }
+{
+    let u = word(words, k, k);
+    if top(k, u) == 0 {
+        return;
+    }
+    let v = product(primes, words, reach, k, u, *x);
+    copied(k, v, x);
+}
+
+// x times y on level i. The conjugates that this needs are of the level below the highest exponent of y.
+pub fn multiply(primes: &Row, words: &Words, reach: &Reaches, i: usize, x: &mut Row, y: &Row)
+    requires { ⌜ Ready i (now primes) (now words) × Quiet i (now words) (now reach) × Small i (now primes) (now x) × Small i (now primes) (now y) × (length (now x) ≡ 12) ⌝ }
+    ensures { λ r. ⌜ Product i (now (primes .entry)) (now (words .entry)) (now (x .entry)) (now (y .entry)) (now (x .exit)) × Kept i (now (x .entry)) (now (x .exit)) ⌝ }
+{
+    let m = top(i, *y);
+    if m == 0 {
+        return;
+    }
+    let k = m - 1;
+    let b = y[k];
+    turn(primes, words, reach, k, x, b);
+    multiply(primes, words, reach, k, x, y);
+    let s = x[k] + b;
+    let p = primes[k];
+    if s < p {
+        x[k] = s;
+        return;
+    }
+    carry(primes, words, reach, k, x);
+    x[k] = s - p;
+}
+
+// The product of x and y on level i.
 pub fn product(primes: &Row, words: &Words, reach: &Reaches, i: usize, x: Row, y: Row) -> Row
     requires { ⌜ Ready i (now primes) (now words) × Quiet i (now words) (now reach) × Small i (now primes) x × Small i (now primes) y ⌝ }
     ensures { λ r. ⌜ Product i (now (primes .entry)) (now (words .entry)) x y r ⌝ }
 {
-    let m = top(i, y);
-    if m == 0 {
-        return x;
-    }
-    let k = m - 1;
-    let b = y[k];
-    let c = turned(primes, words, reach, k, x, b);
-    let z = product(primes, words, reach, k, c, y);
-    let s = x[k] + b;
-    let p = primes[k];
-    if s < p {
-        return stacked(k, z, x, s);
-    }
-    let u = word(words, k, k);
-    let v = product(primes, words, reach, k, u, z);
-    stacked(k, v, x, s - p)
+    let mut r = x;
+    multiply(primes, words, reach, i, &mut r, &y);
+    r
 }
 
 // The conjugate of generator l by generator j.
