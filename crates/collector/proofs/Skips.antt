@@ -11,7 +11,7 @@
 --   central-none, central-more, central-below    the table of these, one more; for fewer generators
 --   mixed-none, mixed-more, mixed-stacked    a row of two, one exponent more; the exponent between
 --   kept-all, kept-then, mixed-kept, kept-stacked    what is left of a row: all; after two steps; after a copy; with a store
---   lowest-row                    the row of an exponent of the lowest generator
+--   single-row                    the row of an exponent of one generator
 use mathlib.Core.Path.{_≡_, refl, sym, _∙_, ap, subst}
 use mathlib.Core.Bool.{true, _||_}
 use mathlib.Core.List.{List, []}
@@ -27,7 +27,7 @@ use Rattle.definitions.specs.Presentation.{toNF, trivial, pairNumber}
 use Rattle.definitions.specs.Consistency.{sameForm}
 use Rattle.numbers.proofs.Bools.{or-right}
 use Rattle.numbers.proofs.Lists.{below-suc}
-use Rattle.collector.specs.Rows.{Top, Stacked, Mixed, Kept, keeps, Moved, Reach, Quiet, Rise, Central, Lowest}
+use Rattle.collector.specs.Rows.{Top, Stacked, Mixed, Kept, keeps, Moved, Reach, Quiet, Rise, Central, Single}
 use Rattle.collector.proofs.Laws.{zeros}
 
 pub scan-more : (Q : ℕ → Type 0) (k i : ℕ) → 0 < k → Q (k - 1) → ((q : ℕ) → k ≤ q → q < i → Q q) → (q : ℕ) → k - 1 ≤ q → q < i → Q q
@@ -165,5 +165,5 @@ kept-stacked k s x y l t = record {
 pub stored-kept : (k i s : ℕ) (x y : List ℕ) → k < i → Kept k x y → Kept i x (set y k s)
 stored-kept k i s x y l t = record { long = length-set y k s ∙ t .long; above = λ m a. getD-set-other y k m s 0 (omega arith) ∙ t .above m (omega arith) }
 
-pub lowest-row : (a : ℕ) → Lowest a (set (replicate 12 0) 0 a)
-lowest-row a = record { at = getD-set-same (replicate 12 0) 0 a 0 (omega (arith, length-replicate {A = ℕ} 12 0)); rest = λ m l. getD-set-other (replicate 12 0) 0 m a 0 (omega arith) ∙ zeros m }
+pub single-row : (k a : ℕ) → k < 12 → Single k a (set (replicate 12 0) k a)
+single-row k a l = record { at = getD-set-same (replicate 12 0) k a 0 (omega (arith, length-replicate {A = ℕ} 12 0)); rest = λ m q. getD-set-other (replicate 12 0) k m a 0 q ∙ zeros m }

@@ -4,7 +4,8 @@
 --   Ready m primes words          primes and words of the first m generators are in range
 --   Reads C m primes words        they are those of the presentation of C
 --   Generator k r                 r is the row of generator k
---   Lowest a r                    r has exponent a of the lowest generator, and no other
+--   Single k a r                  r has exponent a of generator k, and no other
+--   Alone words m x r             where r is true, x has no exponent below m - 1, and nor has the power word of generator m - 1
 --   Top, Stacked, Mixed, Kept     the highest exponent that is not 0; rows of two, with an exponent between and without;
 --                                 exponents that are left
 --   Quiet m words reach           from reach j on, generator j commutes with the generators below it
@@ -15,9 +16,10 @@
 --   Power, Scaled, Turned         powers, a power times a form, and conjugates turn after turn
 --   Images, Value                 the images of the generators under conjugation by the next; values over them
 use mathlib.Core.Path.{_≡_}
+use mathlib.Core.Logic.{_≢_}
 use mathlib.Core.Bool.{Bool, true, _||_, cond}
 use mathlib.Core.List.{List, []}
-use Prim.Native.Nat.{ℕ, suc, _≤_, _<_}
+use Prim.Native.Nat.{ℕ, suc, _-_, _≤_, _<_}
 use lib.ListN.{length, getD}
 use lib.Dec.{eqb}
 use Rattle.definitions.specs.Lists.{iter}
@@ -42,14 +44,17 @@ pub record Reads (C : Context) (m : ℕ) (primes : List ℕ) (words : List (List
 pub record Generator (k : ℕ) (r : List ℕ) : Type 0 where
   pub at : (m : ℕ) → getD r m 0 ≡ cond (eqb m k) 1 0
 
-pub record Lowest (a : ℕ) (r : List ℕ) : Type 0 where
-  pub at : getD r 0 0 ≡ a
-  pub rest : (m : ℕ) → 0 < m → getD r m 0 ≡ 0
+pub record Single (k a : ℕ) (r : List ℕ) : Type 0 where
+  pub at : getD r k 0 ≡ a
+  pub rest : (m : ℕ) → m ≢ k → getD r m 0 ≡ 0
 
 -- no exponent of x from r up to i
 pub record Top (i : ℕ) (x : List ℕ) (r : ℕ) : Type 0 where
   pub less : r ≤ i
   pub rest : (k : ℕ) → r ≤ k → k < i → getD x k 0 ≡ 0
+
+pub record Alone (words : List (List ℕ)) (m : ℕ) (x : List ℕ) (r : Bool) : Type 0 where
+  pub is : r ≡ true → (0 < m) × Top (m - 1) x 0 × Top (m - 1) (getD words (pairNumber (m - 1) (m - 1)) []) 0
 
 pub record Stacked (k : ℕ) (low high : List ℕ) (s : ℕ) (r : List ℕ) : Type 0 where
   pub below : (m : ℕ) → m < k → getD r m 0 ≡ getD low m 0

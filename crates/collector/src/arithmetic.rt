@@ -4,7 +4,7 @@ ghost use Prim.Native.Nat.{suc, _*_, _%_, _≤_, _<_};
 ghost use mathlib.Core.List.{[]};
 ghost use lib.ListN.{length, getD};
 ghost use Rattle.definitions.specs.Presentation.{pairNumber};
-ghost use Rattle.collector.specs.Rows.{Small, Ready, Kept, keeps, Lowest, Moved, Reach, Quiet, Rise, Central, Product, Image, Conjugate, Remaining, Power, Scaled, Turned};
+ghost use Rattle.collector.specs.Rows.{Small, Ready, Kept, keeps, Single, Alone, Moved, Reach, Quiet, Rise, Central, Product, Image, Conjugate, Remaining, Power, Scaled, Turned};
 use super::rows::GENERATORS;
 use super::rows::Reaches;
 use super::rows::Row;
@@ -226,13 +226,28 @@ pub fn conjugate(primes: &Row, words: &Words, reach: &Reaches, k: usize, j: usiz
     stacked(l, s, x, s[l])
 }
 
-// The exponent of the lowest generator in x, e times, below its prime.
-pub fn multiple(primes: &Row, x: Row, e: u32) -> Row
-    requires { ⌜ (0 < getD (now primes) 0 0) ⌝ }
-    ensures { λ r. ⌜ Lowest ((getD x 0 0 * e) % getD (now (primes .entry)) 0 0) r ⌝ }
+// Whether x has an exponent of generator m - 1 and none below, and the power word of that generator is empty.
+pub fn alone(words: &Words, m: usize, x: Row) -> bool
+    requires { ⌜ m ≤ 12 ⌝ }
+    ensures { λ r. ⌜ Alone (now (words .entry)) m x r ⌝ }
+{
+    if m == 0 {
+        return false;
+    }
+    if top(m - 1, x) != 0 {
+        return false;
+    }
+    let u = word(words, m - 1, m - 1);
+    top(m - 1, u) == 0
+}
+
+// The exponent of generator k in x, e times, below its prime.
+pub fn multiple(primes: &Row, k: usize, x: Row, e: u32) -> Row
+    requires { ⌜ (k < 12) × (0 < getD (now primes) k 0) ⌝ }
+    ensures { λ r. ⌜ Single k ((getD x k 0 * e) % getD (now (primes .entry)) k 0) r ⌝ }
 {
     let mut r = [0u32; GENERATORS];
-    r[0] = remainder(x[0], e, primes[0]);
+    r[k] = remainder(x[k], e, primes[k]);
     r
 }
 
@@ -244,8 +259,9 @@ pub fn power(primes: &Row, words: &Words, reach: &Reaches, i: usize, x: Row, e: 
     if e == 1 {
         return x;
     }
-    if top(i, x) == 1 {
-        return multiple(primes, x, e);
+    let m = top(i, x);
+    if alone(words, m, x) {
+        return multiple(primes, m - 1, x, e);
     }
     let mut r = [0u32; GENERATORS];
     let mut n: u32 = 0;

@@ -10,7 +10,7 @@ use lib.ListN.{length}
 use denote.Ref.{now}
 use Rattle.collector.specs.Rows.{Small, Top, Moved, Reach, Product, Power}
 use Rattle.collector.proofs.Skips.{quiet-below, moved-reach, kept-all, mixed-kept}
-use Rattle.collector.proofs.Steps.{small-below, ready-below, Turning, turning-start, turning-more, turned-done, turned-fixed, turned-same, product-same, product-left, product-none, multiply-top, multiply-low, multiply-high, powering-start, powering-more, power-once, power-lowest, conjugate-none, commutator-small, image-low, image-high, conjugate-moves-at, lower-small-at}
+use Rattle.collector.proofs.Steps.{small-below, ready-below, Turning, turning-start, turning-more, turned-done, turned-fixed, turned-same, product-same, product-left, product-none, multiply-top, multiply-low, multiply-high, powering-start, powering-more, power-once, power-single, conjugate-none, commutator-small, image-low, image-high, conjugate-moves-at, lower-small-at}
 use borrow.Fn.Kinds.{In}
 use borrow.Fn.PlainCycle.{Measures, is, falls, and}
 use Rattle.collector.proofs.arithmetic.carry.Reads as carry
@@ -37,6 +37,7 @@ use Rattle.collector.proofs.arithmetic.+carry+conjugate+image+multiply+
 use Rattle.collector.proofs.arithmetic.turned.Reads as turned
 use Rattle.collector.proofs.arithmetic.turned.Kinds as turned-kinds
 use Rattle.collector.proofs.arithmetic.+carry+conjugate+image+multiply+power+product+turn+turned.Lts-turned as turned-lts
+use Rattle.collector.proofs.arithmetic.alone.Reads as alone-reads
 use Rattle.collector.proofs.arithmetic.moved.Reads as moved-reads
 use Rattle.collector.proofs.arithmetic.multiple.Reads as multiple-reads
 use Rattle.collector.proofs.arithmetic.remaining.Reads as remaining-reads
@@ -139,7 +140,7 @@ abbrev multiply-claims : ℕ → multiply-lts.Claims
 multiply-claims t = (top-reads.Asked, top-reads.Learnt, turn-below t, turn.Post, multiply-below t, multiply.Post, carry-below t, carry.Post)
 
 abbrev power-claims : ℕ → power-lts.Claims
-power-claims t = (top-reads.Asked, top-reads.Learnt, multiple-reads.Asked, multiple-reads.Learnt, product-below t, product.Post)
+power-claims t = (top-reads.Asked, top-reads.Learnt, alone-reads.Asked, alone-reads.Learnt, multiple-reads.Asked, multiple-reads.Learnt, product-below t, product.Post)
 
 abbrev product-claims : ℕ → product-lts.Claims
 product-claims t = (multiply-below t, multiply.Post)
@@ -773,10 +774,10 @@ multiply-returns-3 t c =
     (c .before .before .if2 .left) (z .pre .1 .3)
 
 abbrev power-Inv-loop : power-lts.InvT-loop
-power-Inv-loop primes words reach i x e r₀ n₀ r n = (n ≤ e) × Power i primes words x r n
+power-Inv-loop primes words reach i x e m r₀ n₀ r n = (n ≤ e) × Power i primes words x r n
 
 abbrev power-μ-loop : power-lts.MeasureT-loop
-power-μ-loop primes words reach i x e r₀ n₀ r n = e - n
+power-μ-loop primes words reach i x e m r₀ n₀ r n = e - n
 
 power-returns : (t : ℕ) → power-lts.Need-returns (power-claims t) (power-at t) power.Post power-Inv-loop power-μ-loop
 power-returns t c =
@@ -796,29 +797,49 @@ power-top-requires t c κs =
     let x = z .args .x in
     z .pre .1 .0 .few
 
-power-multiple-requires : (t : ℕ) → power-lts.Need-multiple-requires (power-claims t) (power-at t) power.Post power-Inv-loop power-μ-loop
-power-multiple-requires t c κs =
-    let z = c .before .before .before in
+power-alone-requires : (t : ℕ) → power-lts.Need-alone-requires (power-claims t) (power-at t) power.Post power-Inv-loop power-μ-loop
+power-alone-requires t c κs =
+    let z = c .before .before in
     let ps = now (z .args .primes) in
     let ws = now (z .args .words) in
     let i = z .args .i in
     let x = z .args .x in
-    let t = c .before .top in
-    omega (arith, z .pre .1 .0 .two 0 (omega (arith, t .ensures .less, c .if2 .taken)))
+    omega (arith, c .top .ensures .less, z .pre .1 .0 .few)
 
-power-returns-2 : (t : ℕ) → power-lts.Need-returns-2 (power-claims t) (power-at t) power.Post power-Inv-loop power-μ-loop
-power-returns-2 t c =
+power-sub-multiple : (t : ℕ) → power-lts.Need-sub-multiple (power-claims t) (power-at t) power.Post power-Inv-loop power-μ-loop
+power-sub-multiple t c =
+    let z = c .before .before .before .before in
+    let ps = now (z .args .primes) in
+    let ws = now (z .args .words) in
+    let i = z .args .i in
+    let x = z .args .x in
+    omega (arith, c .before .alone .ensures .is (c .if2 .taken) .0)
+
+power-multiple-requires : (t : ℕ) → power-lts.Need-multiple-requires (power-claims t) (power-at t) power.Post power-Inv-loop power-μ-loop
+power-multiple-requires t c κs =
     let z = c .before .before .before .before in
     let ps = now (z .args .primes) in
     let ws = now (z .args .words) in
     let i = z .args .i in
     let x = z .args .x in
     let t = c .before .before .top in
-    power-lowest i ps ws x (z .pre .1 .0) (z .pre .1 .2) (subst (Top i x) (c .before .if2 .taken) (t .ensures)) (z .args .e) (c .multiple .result) (c .multiple .ensures)
+    let pos = c .before .alone .ensures .is (c .if2 .taken) .0 in
+    let few : t .result ≤ i = t .ensures .less in
+    (omega (arith, z .pre .1 .0 .few), omega (arith, z .pre .1 .0 .two (t .result - 1) (omega arith)))
+
+power-returns-2 : (t : ℕ) → power-lts.Need-returns-2 (power-claims t) (power-at t) power.Post power-Inv-loop power-μ-loop
+power-returns-2 t c =
+    let z = c .before .before .before .before .before in
+    let ps = now (z .args .primes) in
+    let ws = now (z .args .words) in
+    let i = z .args .i in
+    let x = z .args .x in
+    let t = c .before .before .before .top in
+    power-single i (t .result) ps ws x (z .pre .1 .0) (z .pre .1 .2) (t .ensures) (c .before .before .alone .ensures .is (c .before .if2 .taken)) (z .args .e) (c .multiple .result) (c .multiple .ensures)
 
 power-loop-holds : (t : ℕ) → power-lts.Need-loop-holds (power-claims t) (power-at t) power.Post power-Inv-loop power-μ-loop
 power-loop-holds t c =
-    let z = c .before .before .before in
+    let z = c .before .before .before .before in
     let ps = now (z .args .primes) in
     let ws = now (z .args .words) in
     let i = z .args .i in
@@ -827,7 +848,7 @@ power-loop-holds t c =
 
 power-product-requires : (t : ℕ) → power-lts.Need-product-requires (power-claims t) (power-at t) power.Post power-Inv-loop power-μ-loop
 power-product-requires t c κs =
-    let z = c .before .before .before .before .before in
+    let z = c .before .before .before .before .before .before in
     let ps = now (z .args .primes) in
     let ws = now (z .args .words) in
     let i = z .args .i in
@@ -842,7 +863,7 @@ power-loop-less t c = search needs
 
 power-loop-again : (t : ℕ) → power-lts.Need-loop-again (power-claims t) (power-at t) power.Post power-Inv-loop power-μ-loop
 power-loop-again t c =
-    let z = c .before .before .before .before .before .before in
+    let z = c .before .before .before .before .before .before .before in
     let ps = now (z .args .primes) in
     let ws = now (z .args .words) in
     let i = z .args .i in
@@ -852,7 +873,7 @@ power-loop-again t c =
 
 power-returns-3 : (t : ℕ) → power-lts.Need-returns-3 (power-claims t) (power-at t) power.Post power-Inv-loop power-μ-loop
 power-returns-3 t c =
-    let z = c .before .before .before .before .before in
+    let z = c .before .before .before .before .before .before in
     let ps = now (z .args .primes) in
     let ws = now (z .args .words) in
     let i = z .args .i in
@@ -1091,6 +1112,8 @@ pub +carry+conjugate+image+multiply+power+product+turn+turned-spec : {M : Type 1
     power-μ-loop
     (power-returns t)
     (power-top-requires t)
+    (power-alone-requires t)
+    (power-sub-multiple t)
     (power-multiple-requires t)
     (power-returns-2 t)
     (power-loop-holds t)
