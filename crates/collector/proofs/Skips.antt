@@ -6,23 +6,28 @@
 --   reach-none, reach-more        the scan for the generators that a generator does not commute with
 --   quiet-none, quiet-more, quiet-below    the table of these, one more; for fewer generators
 --   moved-reach, moved-all, moved-more     the scan for the exponents that a conjugation changes
---   Mixed, mixed-none, mixed-more, mixed-stacked    a row of two, one exponent more; the exponent between
---   lowest-row                    the row of an exponent of the lowest generator
+--   keeps-empty                   an exponent 1 is kept only where the word is empty
+--   rise-none, rise-first, rise-more       the scan for the generators that a generator commutes with
+--   central-none, central-more, central-below    the table of these, one more; for fewer generators
+--   mixed-none, mixed-more, mixed-stacked    a row of two, one exponent more; the exponent between
+--   kept-all, kept-then, mixed-kept, kept-stacked    what is left of a row: all; after two steps; after a copy; with a store
+--   single-row                    the row of an exponent of one generator
 use mathlib.Core.Path.{_≡_, refl, sym, _∙_, ap, subst}
-use mathlib.Core.Bool.{true}
+use mathlib.Core.Bool.{true, _||_}
 use mathlib.Core.List.{List, []}
 use Prim.Native.Nat.{ℕ, zero, suc, _+_, _-_, _≤_, _<_}
 use native.Mathlib.Numerals.{add-one}
 use native.Mathlib.Omega.{arith}
 use native.Mathlib.Decide.{decLt, ℕ-discrete}
 use lib.Dec.{eqb}
-use lib.ListN.{length, getD, set, replicate, length-replicate}
+use lib.ListN.{length, getD, set, replicate, length-set, length-replicate}
 use lib.Seq.{getD-set-same, getD-set-other}
+use borrow.Author.Tests.{ne-eqb}
 use Rattle.definitions.specs.Presentation.{toNF, trivial, pairNumber}
 use Rattle.definitions.specs.Consistency.{sameForm}
 use Rattle.numbers.proofs.Bools.{or-right}
 use Rattle.numbers.proofs.Lists.{below-suc}
-use Rattle.collector.specs.Rows.{Top, Stacked, keeps, Moved, Reach, Quiet, Lowest}
+use Rattle.collector.specs.Rows.{Top, Stacked, Mixed, Kept, keeps, Moved, Reach, Quiet, Rise, Central, Single}
 use Rattle.collector.proofs.Laws.{zeros}
 
 pub scan-more : (Q : ℕ → Type 0) (k i : ℕ) → 0 < k → Q (k - 1) → ((q : ℕ) → k ≤ q → q < i → Q q) → (q : ℕ) → k - 1 ≤ q → q < i → Q q
@@ -84,18 +89,51 @@ module _ (ws : List (List ℕ)) (reach : List ℕ) where
 pub quiet-below : (m n : ℕ) (ws : List (List ℕ)) (reach : List ℕ) → m ≤ n → Quiet n ws reach → Quiet m ws reach
 quiet-below m n ws reach l t = record { at = λ j a. t .at j (omega arith) }
 
+-- ---- Generators that commute
+
+-- an exponent 1 is kept only where the word is empty
+pub keeps-empty : (ws : List (List ℕ)) (j l : ℕ) → keeps ws j l 1 ≡ true → sameForm (suc l) (toNF (suc l) (getD ws (pairNumber j l) [])) (trivial (suc l)) ≡ true
+keeps-empty ws j l h = sym (ap (λ t. t || sameForm (suc l) (toNF (suc l) (getD ws (pairNumber j l) [])) (trivial (suc l))) (ne-eqb 1 0 (λ e. omega arith))) ∙ h
+
+module _ (ws : List (List ℕ)) (c : ℕ) where
+  pub rise-none : Rise ws c 0
+  rise-none = record { at = λ i l. absurd (omega arith) }
+
+  pub rise-first : Reach ws c 0 → Rise ws c (c + 1)
+  rise-first t = record { at = λ i l. record { below = λ k a. t .rest k 1 (omega arith) a; above = λ j a b. absurd (omega arith) } }
+
+  pub rise-more : (j : ℕ) (w : List ℕ) → c < j → w ≡ getD ws (pairNumber j c) [] → sameForm (c + 1) (toNF (c + 1) w) (trivial (c + 1)) ≡ true → Rise ws c j → Rise ws c (j + 1)
+  rise-more j w l we q t = record { at = λ i a. record { below = t .at c l .below; above = λ k b d. go k b (omega arith) (decLt k j) } }
+    where
+      here : keeps ws j c 1 ≡ true
+      here = or-right (eqb 1 0) _ (subst (λ v. sameForm (suc c) (toNF (suc c) v) (trivial (suc c)) ≡ true) we (subst (λ n. sameForm n (toNF n w) (trivial n) ≡ true) (add-one c) q))
+
+      go : (k : ℕ) → c < k → k ≤ j → Dec (k < j) → keeps ws k c 1 ≡ true
+      go k b d (yes h) = t .at k h .above k b (omega arith)
+      go k b d (no h) = let e : j ≡ k = omega arith in subst (λ m. keeps ws m c 1 ≡ true) e here
+
+module _ (ws : List (List ℕ)) (rise : List ℕ) where
+  pub central-none : Central 0 ws rise
+  central-none = record { at = λ c l. absurd (omega arith) }
+
+  pub central-more : (c r : ℕ) → c < length rise → Central c ws rise → Rise ws c r → Central (c + 1) ws (set rise c r)
+  central-more c r l t q = subst (λ n. Central n ws (set rise c r)) (sym (add-one c)) (record {
+    at = below-suc c (λ k. Rise ws k (getD (set rise c r) k 0))
+        (λ k a. subst (Rise ws k) (sym (getD-set-other rise c k r 0 (omega arith))) (t .at k a))
+        (subst (Rise ws c) (sym (getD-set-same rise c r 0 l)) q);
+  })
+
+pub central-below : (m n : ℕ) (ws : List (List ℕ)) (rise : List ℕ) → m ≤ n → Central n ws rise → Central m ws rise
+central-below m n ws rise l t = record { at = λ c a. t .at c (omega arith) }
+
 -- ---- A row of two
 
--- low below q, high from q on
-pub record Mixed (low high : List ℕ) (q : ℕ) (r : List ℕ) : Type 0 where
-  pub below : (m : ℕ) → m < q → getD r m 0 ≡ getD low m 0
-  pub above : (m : ℕ) → q ≤ m → getD r m 0 ≡ getD high m 0
-
 pub mixed-none : (low high : List ℕ) → Mixed low high 0 high
-mixed-none low high = record { below = λ m l. absurd (omega arith); above = λ m l. refl }
+mixed-none low high = record { long = refl; below = λ m l. absurd (omega arith); above = λ m l. refl }
 
 pub mixed-more : (low high : List ℕ) (q : ℕ) (r : List ℕ) → q < length r → Mixed low high q r → Mixed low high (q + 1) (set r q (getD low q 0))
 mixed-more low high q r l t = subst (λ n. Mixed low high n (set r q (getD low q 0))) (sym (add-one q)) (record {
+  long = length-set r q (getD low q 0) ∙ t .long;
   below = below-suc q (λ m. getD (set r q (getD low q 0)) m 0 ≡ getD low m 0) (λ m a. getD-set-other r q m _ 0 (omega arith) ∙ t .below m a) (getD-set-same r q _ 0 l);
   above = λ m a. getD-set-other r q m _ 0 (omega arith) ∙ t .above m (omega arith);
 })
@@ -107,5 +145,25 @@ mixed-stacked low high k s r l t = record {
   above = λ m a. getD-set-other r k m s 0 (omega arith) ∙ t .above m (omega arith);
 }
 
-pub lowest-row : (a : ℕ) → Lowest a (set (replicate 12 0) 0 a)
-lowest-row a = record { at = getD-set-same (replicate 12 0) 0 a 0 (omega (arith, length-replicate {A = ℕ} 12 0)); rest = λ m l. getD-set-other (replicate 12 0) 0 m a 0 (omega arith) ∙ zeros m }
+pub kept-all : (i : ℕ) (x : List ℕ) → Kept i x x
+kept-all i x = record { long = refl; above = λ m a. refl }
+
+pub kept-then : (k i : ℕ) (x y z : List ℕ) → k ≤ i → Kept k x y → Kept k y z → Kept i x z
+kept-then k i x y z l a b = record { long = b .long ∙ a .long; above = λ m h. b .above m (omega arith) ∙ a .above m (omega arith) }
+
+pub mixed-kept : (low x : List ℕ) (k : ℕ) (r : List ℕ) → Mixed low x k r → Kept k x r
+mixed-kept low x k r t = record { long = t .long; above = t .above }
+
+-- a store at k into what is left of x from k on
+pub kept-stacked : (k s : ℕ) (x y : List ℕ) → k < length y → Kept k x y → Stacked k y x s (set y k s)
+kept-stacked k s x y l t = record {
+  below = λ m a. getD-set-other y k m s 0 (omega arith);
+  at = getD-set-same y k s 0 l;
+  above = λ m a. getD-set-other y k m s 0 (omega arith) ∙ t .above m (omega arith);
+}
+
+pub stored-kept : (k i s : ℕ) (x y : List ℕ) → k < i → Kept k x y → Kept i x (set y k s)
+stored-kept k i s x y l t = record { long = length-set y k s ∙ t .long; above = λ m a. getD-set-other y k m s 0 (omega arith) ∙ t .above m (omega arith) }
+
+pub single-row : (k a : ℕ) → k < 12 → Single k a (set (replicate 12 0) k a)
+single-row k a l = record { at = getD-set-same (replicate 12 0) k a 0 (omega (arith, length-replicate {A = ℕ} 12 0)); rest = λ m q. getD-set-other (replicate 12 0) k m a 0 q ∙ zeros m }

@@ -3,10 +3,12 @@
 --   small-below, ready-below, reads-below      what holds of m generators holds of fewer
 --   Turning, turning-start, turning-more       conjugates, turn after turn
 --   turned-done, turned-fixed                  when no turn is left; where conjugation fixes the form
+--   turned-same, product-same, product-left    rows that agree; a trivial left factor
 --   product-up, product-none                   the exponents above those of the right factor stay; where it has none
 --   product-low, product-high                  no carry; a carry
+--   multiply-top, multiply-low, multiply-high  the same in place of the left factor
 --   powering-start, powering-more, power-once  powers, one after another; the first
---   power-lowest                               powers of a form of the lowest generator alone
+--   power-single                               powers of a form of one generator
 --   conjugate-up, conjugate-none               exponents that stay; where all stay
 --   image-low, image-high                      the conjugate of a generator: no carry; a carry
 --   conjugate-moves, lower-small               the general step; the lower part, with exponent 0 on top
@@ -24,17 +26,18 @@ use lib.Seq.{getD-set-same, getD-set-other}
 use borrow.Author.Tests.{eqb-true}
 use Rattle.definitions.specs.Lists.{iter}
 use Rattle.definitions.specs.Presentation.{toNF, trivial, Valid, power, pairNumber}
-use Rattle.definitions.specs.Consistency.{mulStep, mul, conj, forms, sameForm}
+use Rattle.definitions.specs.Consistency.{mul, conj, forms, sameForm}
 use Rattle.numbers.proofs.Bools.{or-cases, OneOf, first, second, cond-eq, cond-ne}
 use Rattle.numbers.proofs.Lists.{below-suc, iter-zero, iter-suc, iter-add, iter-fix}
 use Rattle.group.specs.Context.{Context}
 use Rattle.group.proofs.Values.{power-zero, power-suc}
 use Rattle.group.proofs.Clauses.{mulStep-below, mulStep-over, mul-suc, conj-suc, sameForm-eq}
-use Rattle.group.proofs.Units.{mul-trivial-right, mul-top-below, mul-top-over, conj-empty, conj-zero}
+use Rattle.group.proofs.Units.{mul-trivial-left, mul-trivial-right, mul-top-below, mul-top-over, conj-empty, conj-zero}
+use Rattle.group.proofs.Level.{trivial-valid}
 use Rattle.group.proofs.Rows.{toNF-suc, toNF-ext, toNF-set-top, toNF-trivial, toNF-valid}
-use Rattle.collector.specs.Rows.{Small, Ready, Reads, Generator, Lowest, Top, Stacked, keeps, Moved, Product, Image, Conjugate, Remaining, Power, Turned}
+use Rattle.collector.specs.Rows.{Small, Ready, Reads, Generator, Single, Top, Stacked, Kept, keeps, Moved, Product, Image, Conjugate, Remaining, Power, Turned}
 use Rattle.collector.proofs.Laws.{zeros}
-use Rattle.collector.proofs.Skips.{climb, lowest-row}
+use Rattle.collector.proofs.Skips.{climb, kept-then, kept-stacked, stored-kept, single-row}
 
 -- ---- Fewer generators
 
@@ -108,6 +111,24 @@ module _ (k b : ℕ) (ps : List ℕ) (ws : List (List ℕ)) (x : List ℕ) where
   pub turned-fixed : Conjugate k k ps ws x x → Turned k b ps ws x x
   turned-fixed q = record { small = q .small; is = λ C R. sym (iter-fix (conj (C .P) k k) (toNF k x) (sym (q .is C R)) b) }
 
+-- ---- Rows that agree
+
+small-same : (k : ℕ) (ps x r : List ℕ) → ((m : ℕ) → m < k → getD r m 0 ≡ getD x m 0) → Small k ps x → Small k ps r
+small-same k ps x r e s = record { below = λ m l. subst (λ v. v < getD ps m 0) (sym (e m l)) (s .below m l) }
+
+pub turned-same : (k b : ℕ) (ps : List ℕ) (ws : List (List ℕ)) (x c r : List ℕ) → ((m : ℕ) → m < k → getD r m 0 ≡ getD c m 0) → Turned k b ps ws x c → Turned k b ps ws x r
+turned-same k b ps ws x c r e t = record { small = small-same k ps c r e (t .small); is = λ C R. toNF-ext k r c e ∙ t .is C R }
+
+pub product-same : (k : ℕ) (ps : List ℕ) (ws : List (List ℕ)) (x y z r : List ℕ) → ((m : ℕ) → m < k → getD r m 0 ≡ getD z m 0) → Product k ps ws x y z → Product k ps ws x y r
+product-same k ps ws x y z r e t = record { small = small-same k ps z r e (t .small); is = λ C R. toNF-ext k r z e ∙ t .is C R }
+
+-- no exponent in x
+pub product-left : (i : ℕ) (ps : List ℕ) (ws : List (List ℕ)) (x y : List ℕ) → Top i x 0 → Small i ps y → Product i ps ws x y y
+product-left i ps ws x y t s = record {
+  small = s;
+  is = λ C R. sym (ap (λ m. mul (C .P) i m (toNF i y)) (toNF-trivial i x (λ k l. t .rest k (omega arith) l)) ∙ mul-trivial-left C i (toNF i y) (small-valid C i i ps ws y R (omega arith) s));
+}
+
 -- the form of a row of two
 stacked-is : (k : ℕ) (low high : List ℕ) (s : ℕ) (r : List ℕ) → Stacked k low high s r → toNF (suc k) r ≡ (s, toNF k low)
 stacked-is k low high s r t = toNF-suc k r ∙ ap₂ (λ a b. (a, b)) (t .at) (toNF-ext k r low (t .below))
@@ -180,6 +201,45 @@ module _ (i m : ℕ) (ps : List ℕ) (ws : List (List ℕ)) (x y c z : List ℕ)
   product-high-at u v r ue qv st h sy = raised v r _ st (product-high (m - 1) _ ps ws x y c z refl t q u v r ue qv st h
       (omega (arith, over .less, sx .below (m - 1) (omega (arith, over .less)), sy .below (m - 1) (omega (arith, over .less)))))
 
+-- the same in place of x: x₁ is x with its lower part turned, x₂ with the lower part multiplied
+module _ (i m : ℕ) (ps : List ℕ) (ws : List (List ℕ)) (x y x₁ x₂ : List ℕ) (pos : 0 < m) (over : Top i y m) (sx : Small i ps x) (long : m ≤ length x)
+    (t : Turned (m - 1) (getD y (m - 1) 0) ps ws x x₁) (kt : Kept (m - 1) x x₁) (q : Product (m - 1) ps ws x₁ y x₂) (kq : Kept (m - 1) x₁ x₂) where
+  kept : Kept (m - 1) x x₂
+  kept = kept-then (m - 1) (m - 1) x x₁ x₂ (omega arith) kt kq
+
+  pub multiply-top : getD x₂ (m - 1) 0 ≡ getD x (m - 1) 0
+  multiply-top = kept .above (m - 1) (omega arith)
+
+  pub multiply-low : getD x₂ (m - 1) 0 + getD y (m - 1) 0 < getD ps (m - 1) 0
+      → Product i ps ws x y (set x₂ (m - 1) (getD x₂ (m - 1) 0 + getD y (m - 1) 0)) × Kept i x (set x₂ (m - 1) (getD x₂ (m - 1) 0 + getD y (m - 1) 0))
+  multiply-low h = (
+    product-low-at i m ps ws x y x₁ x₂ pos over sx t q r (subst (λ a. Stacked (m - 1) x₂ x (a + getD y (m - 1) 0) r) multiply-top (kept-stacked (m - 1) s x x₂ (omega (arith, kept .long)) kept)) (omega (arith, multiply-top)),
+    stored-kept (m - 1) i s x x₂ (omega (arith, over .less)) kept,
+  )
+    where
+      s : ℕ
+      s = getD x₂ (m - 1) 0 + getD y (m - 1) 0
+
+      r : List ℕ
+      r = set x₂ (m - 1) s
+
+  pub multiply-high : (v : List ℕ) → Product (m - 1) ps ws (getD ws (pairNumber (m - 1) (m - 1)) []) x₂ v → Kept (m - 1) x₂ v → getD ps (m - 1) 0 ≤ getD x₂ (m - 1) 0 + getD y (m - 1) 0 → Small i ps y
+      → Product i ps ws x y (set v (m - 1) (getD x₂ (m - 1) 0 + getD y (m - 1) 0 - getD ps (m - 1) 0)) × Kept i x (set v (m - 1) (getD x₂ (m - 1) 0 + getD y (m - 1) 0 - getD ps (m - 1) 0))
+  multiply-high v qv kv h sy = (
+    product-high-at i m ps ws x y x₁ x₂ pos over sx t q _ v r refl qv
+        (subst (λ a. Stacked (m - 1) v x (a + getD y (m - 1) 0 - getD ps (m - 1) 0) r) multiply-top (kept-stacked (m - 1) s x v (omega (arith, kept′ .long)) kept′)) (omega (arith, multiply-top)) sy,
+    stored-kept (m - 1) i s x v (omega (arith, over .less)) kept′,
+  )
+    where
+      kept′ : Kept (m - 1) x v
+      kept′ = kept-then (m - 1) (m - 1) x x₂ v (omega arith) kept kv
+
+      s : ℕ
+      s = getD x₂ (m - 1) 0 + getD y (m - 1) 0 - getD ps (m - 1) 0
+
+      r : List ℕ
+      r = set v (m - 1) s
+
 -- ---- Powers
 
 module _ (k : ℕ) (ps : List ℕ) (ws : List (List ℕ)) (h : List ℕ) where
@@ -199,63 +259,82 @@ module _ (k : ℕ) (ps : List ℕ) (ws : List (List ℕ)) (h : List ℕ) where
         ∙ mul-trivial-right C k (toNF k h) (small-valid C k k ps ws h R (omega arith) s));
   }
 
--- level 1 adds exponents below the prime
-product-first : (ps : List ℕ) (ws : List (List ℕ)) (x y s : List ℕ) → getD x 0 0 < getD ps 0 0 → getD y 0 0 < getD ps 0 0 → getD s 0 0 ≡ (getD x 0 0 + getD y 0 0) % getD ps 0 0 → Product 1 ps ws x y s
-product-first ps ws x y s sx sy e = go (decLt (getD x 0 0 + getD y 0 0) (getD ps 0 0))
-  where
-    first-is : (a : ℕ) → a < getD ps 0 0 → getD s 0 0 ≡ a → ((C : Context) → Reads C 1 ps ws → _≡_ {A = ℕ × Unit {0}} (a, tt) (mulStep (C .P .p 0) (mul (C .P) 0) (conj (C .P) 0 0) (C .P .u 0) (getD x 0 0, tt) (getD y 0 0, tt))) → Product 1 ps ws x y s
-    first-is a l q h = record {
-      small = record { below = below-suc 0 (λ m. getD s m 0 < getD ps m 0) (λ m b. absurd (omega arith)) (subst (λ v. v < getD ps 0 0) (sym q) l) };
-      is = λ C R. toNF-suc 0 s ∙ ap (λ v. (v, toNF 0 s)) q ∙ h C R ∙ sym (mul-suc (C .P) 0 _ _) ∙ ap₂ (mul (C .P) 1) (sym (toNF-suc 0 x)) (sym (toNF-suc 0 y));
-    }
+-- exponents of one generator add below the prime, where its power word is empty
+module _ (k : ℕ) (ps : List ℕ) (ws : List (List ℕ)) (x y s : List ℕ) (none : Top k (getD ws (pairNumber k k) []) 0) (nx : Top k x 0) (ny : Top k y 0) (ns : Top k s 0)
+    (sx : getD x k 0 < getD ps k 0) (sy : getD y k 0 < getD ps k 0) (pos : (m : ℕ) → m < k → 0 < getD ps m 0) where
+  trivial-of : (r : List ℕ) → Top k r 0 → toNF (suc k) r ≡ (getD r k 0, trivial k)
+  trivial-of r t = toNF-suc k r ∙ ap (λ m. (getD r k 0, m)) (toNF-trivial k r (λ m l. t .rest m (omega arith) l))
 
-    go : Dec (getD x 0 0 + getD y 0 0 < getD ps 0 0) → Product 1 ps ws x y s
-    go (yes l) = first-is _ l (e ∙ mod-eq-of-lt l)
-        (λ C R. sym (mulStep-below (C .P .p 0) (mul (C .P) 0) (conj (C .P) 0 0) (C .P .u 0) (getD x 0 0, tt) (getD y 0 0, tt) (omega (arith, R .p-is 0 (omega arith)))))
-    go (no l) =
-        let h : getD ps 0 0 ≤ getD x 0 0 + getD y 0 0 = omega arith in
-        let b : getD x 0 0 + getD y 0 0 - getD ps 0 0 < getD ps 0 0 = omega arith in
-        first-is _ b (e ∙ mod-eq-sub-mod h ∙ mod-eq-of-lt b)
-        (λ C R. ap (λ p. (getD x 0 0 + getD y 0 0 - p, tt)) (R .p-is 0 (omega arith))
-        ∙ sym (mulStep-over (C .P .p 0) (mul (C .P) 0) (conj (C .P) 0 0) (C .P .u 0) (getD x 0 0, tt) (getD y 0 0, tt) (omega (arith, R .p-is 0 (omega arith)))))
+  single-is : (a : ℕ) → a < getD ps k 0 → getD s k 0 ≡ a → ((C : Context) → Reads C (suc k) ps ws → (a, trivial k) ≡ mul (C .P) (suc k) (getD x k 0, trivial k) (getD y k 0, trivial k)) → Product (suc k) ps ws x y s
+  single-is a l q h = record {
+    small = record {
+      below = below-suc k (λ m. getD s m 0 < getD ps m 0) (λ m b. subst (λ v. v < getD ps m 0) (sym (ns .rest m (omega arith) b)) (pos m b)) (subst (λ v. v < getD ps k 0) (sym q) l);
+    };
+    is = λ C R. trivial-of s ns ∙ ap (λ v. (v, trivial k)) q ∙ h C R ∙ ap₂ (mul (C .P) (suc k)) (sym (trivial-of x nx)) (sym (trivial-of y ny));
+  }
 
--- powers of a form that has no exponent but that of the lowest generator
-module _ (i : ℕ) (ps : List ℕ) (ws : List (List ℕ)) (x : List ℕ) (ready : Ready i ps ws) (sx : Small i ps x) (one : Top i x 1) where
-  abbrev rest-of : ℕ → ℕ
-  rest-of e = (getD x 0 0 * e) % getD ps 0 0
+  product-single : getD s k 0 ≡ (getD x k 0 + getD y k 0) % getD ps k 0 → Product (suc k) ps ws x y s
+  product-single e = go (decLt (getD x k 0 + getD y k 0) (getD ps k 0))
+    where
+      go : Dec (getD x k 0 + getD y k 0 < getD ps k 0) → Product (suc k) ps ws x y s
+      go (yes l) = single-is _ l (e ∙ mod-eq-of-lt l) (λ C R. sym (mul-top-below C k (getD x k 0) (getD y k 0) (trivial k) (trivial-valid C k) (omega (arith, R .p-is k (omega arith)))))
+      go (no l) =
+          let h : getD ps k 0 ≤ getD x k 0 + getD y k 0 = omega arith in
+          let b : getD x k 0 + getD y k 0 - getD ps k 0 < getD ps k 0 = omega arith in
+          single-is _ b (e ∙ mod-eq-sub-mod h ∙ mod-eq-of-lt b)
+          (λ C R. sym (mul-top-over C k (getD x k 0) (getD y k 0) (trivial k) (trivial-valid C k) (omega (arith, R .p-is k (omega arith)))
+          ∙ ap₂ (λ p u. (getD x k 0 + getD y k 0 - p, mul (C .P) k u (trivial k))) (sym (R .p-is k (omega arith)))
+          (sym (R .u-is k (omega arith)) ∙ toNF-trivial k _ (λ m a. none .rest m (omega arith) a))
+          ∙ ap (λ u. (getD x k 0 + getD y k 0 - getD ps k 0, u)) (mul-trivial-right C k (trivial k) (trivial-valid C k))))
 
-  pub power-lowest : (e : ℕ) (r : List ℕ) → Lowest ((getD x 0 0 * e) % getD ps 0 0) r → Power i ps ws x r e
-  power-lowest zero r q = record {
-    small = record { below = λ k l. subst (λ v. v < getD ps k 0) (sym (none k)) (omega (arith, ready .two k l)) };
-    is = λ C R. toNF-trivial i r (λ k l. none k) ∙ sym (power-zero (forms (C .P) i) (toNF i x));
+-- powers of a form of one generator, m - 1, whose power word is empty
+module _ (i m : ℕ) (ps : List ℕ) (ws : List (List ℕ)) (x : List ℕ) (ready : Ready i ps ws) (sx : Small i ps x) (over : Top i x m)
+    (alone : (0 < m) × Top (m - 1) x 0 × Top (m - 1) (getD ws (pairNumber (m - 1) (m - 1)) []) 0) where
+  abbrev part : ℕ → ℕ
+  part e = (getD x (m - 1) 0 * e) % getD ps (m - 1) 0
+
+  lower : (a : ℕ) (r : List ℕ) → Single (m - 1) a r → Top (m - 1) r 0
+  lower a r q = record { less = omega arith; rest = λ k l h. q .rest k (λ e. omega arith) }
+
+  pub power-single : (e : ℕ) (r : List ℕ) → Single (m - 1) ((getD x (m - 1) 0 * e) % getD ps (m - 1) 0) r → Power i ps ws x r e
+  power-single zero r q = record {
+    small = record { below = λ k l. subst (λ v. v < getD ps k 0) (sym (none k (ℕ-discrete k (m - 1)))) (omega (arith, ready .two k l)) };
+    is = λ C R. toNF-trivial i r (λ k l. none k (ℕ-discrete k (m - 1))) ∙ sym (power-zero (forms (C .P) i) (toNF i x));
   }
     where
-      none : (k : ℕ) → getD r k 0 ≡ 0
-      none zero = q .at ∙ ap (λ v. v % getD ps 0 0) (mul-zero (getD x 0 0)) ∙ zero-mod (getD ps 0 0)
-      none (suc k) = q .rest (suc k) (omega arith)
-  power-lowest (suc n) r q = subst (Power i ps ws x r) (add-one n) (powering-more i ps ws x r′ r n (power-lowest n r′ (lowest-row (rest-of n))) (product-up ps ws x r′ r 1 i top′ above sx first))
+      none : (k : ℕ) → Dec (k ≡ m - 1) → getD r k 0 ≡ 0
+      none k (yes d) = ap (λ n. getD r n 0) d ∙ q .at ∙ ap (λ v. v % getD ps (m - 1) 0) (mul-zero (getD x (m - 1) 0)) ∙ zero-mod (getD ps (m - 1) 0)
+      none k (no d) = q .rest k d
+  power-single (suc n) r q = subst (Power i ps ws x r) (add-one n) (powering-more i ps ws x r′ r n (power-single n r′ single′) (product-up ps ws x r′ r m i top′ above sx (subst (λ n. Product n ps ws x r′ r) level step)))
     where
+      few : m - 1 < i
+      few = omega (arith, over .less, alone .0)
+
+      level : suc (m - 1) ≡ m
+      level = omega (arith, alone .0)
+
       r′ : List ℕ
-      r′ = set (replicate 12 0) 0 (rest-of n)
+      r′ = set (replicate 12 0) (m - 1) (part n)
 
-      low′ : Lowest (rest-of n) r′
-      low′ = lowest-row (rest-of n)
+      single′ : Single (m - 1) (part n) r′
+      single′ = single-row (m - 1) (part n) (omega (arith, few, ready .few))
 
-      top′ : Top i r′ 1
-      top′ = record { less = one .less; rest = λ k a b. low′ .rest k (omega arith) }
+      top′ : Top i r′ m
+      top′ = record { less = over .less; rest = λ k a b. single′ .rest k (λ e. omega (arith, alone .0)) }
 
-      above : (k : ℕ) → 1 ≤ k → k < i → getD r k 0 ≡ getD x k 0
-      above k a b = q .rest k (omega arith) ∙ sym (one .rest k a b)
+      above : (k : ℕ) → m ≤ k → k < i → getD r k 0 ≡ getD x k 0
+      above k a b = q .rest k (λ e. omega (arith, alone .0)) ∙ sym (over .rest k a b)
 
-      pos : 0 < getD ps 0 0
-      pos = omega (arith, ready .two 0 (one .less))
+      pos : 0 < getD ps (m - 1) 0
+      pos = omega (arith, ready .two (m - 1) few)
 
-      next : rest-of (suc n) ≡ (getD x 0 0 + rest-of n) % getD ps 0 0
-      next = let e : getD x 0 0 * suc n ≡ getD x 0 0 + getD x 0 0 * n = omega arith in ap (λ v. v % getD ps 0 0) e ∙ sym (add-mod-mod (getD x 0 0) (getD x 0 0 * n) (getD ps 0 0))
+      next : part (suc n) ≡ (getD x (m - 1) 0 + part n) % getD ps (m - 1) 0
+      next = let e : getD x (m - 1) 0 * suc n ≡ getD x (m - 1) 0 + getD x (m - 1) 0 * n = omega arith in ap (λ v. v % getD ps (m - 1) 0) e ∙ sym (add-mod-mod (getD x (m - 1) 0) (getD x (m - 1) 0 * n) (getD ps (m - 1) 0))
 
-      first : Product 1 ps ws x r′ r
-      first = product-first ps ws x r′ r (sx .below 0 (one .less)) (subst (λ v. v < getD ps 0 0) (sym (low′ .at)) (mod-lt (getD x 0 0 * n) pos))
-          (q .at ∙ next ∙ ap (λ v. (getD x 0 0 + v) % getD ps 0 0) (sym (low′ .at)))
+      step : Product (suc (m - 1)) ps ws x r′ r
+      step = product-single (m - 1) ps ws x r′ r (alone .2) (alone .1) (lower _ r′ single′) (lower _ r q) (sx .below (m - 1) few)
+          (subst (λ v. v < getD ps (m - 1) 0) (sym (single′ .at)) (mod-lt (getD x (m - 1) 0 * n) pos)) (λ k l. omega (arith, ready .two k (omega (arith, few))))
+          (q .at ∙ next ∙ ap (λ v. (getD x (m - 1) 0 + v) % getD ps (m - 1) 0) (sym (single′ .at)))
 
 -- ---- Conjugation
 

@@ -2,6 +2,7 @@
 --
 --   powerKept, commutatorKept, innerAt      the tests of one generator or one pair, of which the known test consists
 --   Answer m primes words q r               r is the answer of q for every presentation that primes and words say
+--   Settles i primes words q r              the same where the known test passes for every generator below i
 --   Holds R n primes words                  primes and words are those of the text that says R
 --   Decides n primes words r                r is the known test of every such R
 use mathlib.Core.Path.{_≡_}
@@ -11,7 +12,7 @@ use Prim.Native.Nat.{ℕ, suc, _≤_, _<_}
 use lib.ListN.{getD}
 use Rattle.definitions.specs.Lists.{iter}
 use Rattle.definitions.specs.Presentation.{Presentation, Relations, power, value, pairNumber, rowOf, wellFormed, someNotPrime, misused, presentation}
-use Rattle.definitions.specs.Consistency.{mul, conj, forms, generator, sameForm, image, test}
+use Rattle.definitions.specs.Consistency.{mul, conj, forms, generator, sameForm, image, levelTest, test}
 use Rattle.group.specs.Context.{Context}
 use Rattle.collector.specs.Rows.{Reads}
 
@@ -29,6 +30,10 @@ module _ (P : Presentation) (i : ℕ) where
 
 pub record Answer (m : ℕ) (primes : List ℕ) (words : List (List ℕ)) (q : Presentation → Bool) (r : Bool) : Type 0 where
   pub is : (C : Context) → Reads C m primes words → r ≡ q (C .P)
+
+-- the same where the known test passes for every generator below i
+pub record Settles (i : ℕ) (primes : List ℕ) (words : List (List ℕ)) (q : Presentation → Bool) (r : Bool) : Type 0 where
+  pub is : (C : Context) → Reads C (suc i) primes words → ((j : ℕ) → j < i → levelTest (C .P) j ≡ true) → r ≡ q (C .P)
 
 pub record Holds (R : Relations) (n : ℕ) (primes : List ℕ) (words : List (List ℕ)) : Type 0 where
   pub count : n ≡ R .n

@@ -4,19 +4,23 @@
 --   Ready m primes words          primes and words of the first m generators are in range
 --   Reads C m primes words        they are those of the presentation of C
 --   Generator k r                 r is the row of generator k
---   Lowest a r                    r has exponent a of the lowest generator, and no other
---   Top, Stacked                  the highest exponent that is not 0; a row of two with an exponent between
+--   Single k a r                  r has exponent a of generator k, and no other
+--   Alone words m x r             where r is true, x has no exponent below m - 1, and nor has the power word of generator m - 1
+--   Top, Stacked, Mixed, Kept     the highest exponent that is not 0; rows of two, with an exponent between and without;
+--                                 exponents that are left
 --   Quiet m words reach           from reach j on, generator j commutes with the generators below it
 --   Moved                         where conjugation begins to change a row
+--   Central m words rise          below rise c, generator c commutes with every generator
 --   Product, Image, Conjugate     what product and conjugation return
 --   Remaining                     how many turns are left, once a period is known
 --   Power, Scaled, Turned         powers, a power times a form, and conjugates turn after turn
 --   Images, Value                 the images of the generators under conjugation by the next; values over them
 use mathlib.Core.Path.{_≡_}
+use mathlib.Core.Logic.{_≢_}
 use mathlib.Core.Bool.{Bool, true, _||_, cond}
 use mathlib.Core.List.{List, []}
-use Prim.Native.Nat.{ℕ, suc, _≤_, _<_}
-use lib.ListN.{getD}
+use Prim.Native.Nat.{ℕ, suc, _-_, _≤_, _<_}
+use lib.ListN.{length, getD}
 use lib.Dec.{eqb}
 use Rattle.definitions.specs.Lists.{iter}
 use Rattle.definitions.specs.Presentation.{NF, toNF, trivial, power, value, pairNumber}
@@ -40,19 +44,33 @@ pub record Reads (C : Context) (m : ℕ) (primes : List ℕ) (words : List (List
 pub record Generator (k : ℕ) (r : List ℕ) : Type 0 where
   pub at : (m : ℕ) → getD r m 0 ≡ cond (eqb m k) 1 0
 
-pub record Lowest (a : ℕ) (r : List ℕ) : Type 0 where
-  pub at : getD r 0 0 ≡ a
-  pub rest : (m : ℕ) → 0 < m → getD r m 0 ≡ 0
+pub record Single (k a : ℕ) (r : List ℕ) : Type 0 where
+  pub at : getD r k 0 ≡ a
+  pub rest : (m : ℕ) → m ≢ k → getD r m 0 ≡ 0
 
 -- no exponent of x from r up to i
 pub record Top (i : ℕ) (x : List ℕ) (r : ℕ) : Type 0 where
   pub less : r ≤ i
   pub rest : (k : ℕ) → r ≤ k → k < i → getD x k 0 ≡ 0
 
+pub record Alone (words : List (List ℕ)) (m : ℕ) (x : List ℕ) (r : Bool) : Type 0 where
+  pub is : r ≡ true → (0 < m) × Top (m - 1) x 0 × Top (m - 1) (getD words (pairNumber (m - 1) (m - 1)) []) 0
+
 pub record Stacked (k : ℕ) (low high : List ℕ) (s : ℕ) (r : List ℕ) : Type 0 where
   pub below : (m : ℕ) → m < k → getD r m 0 ≡ getD low m 0
   pub at : getD r k 0 ≡ s
   pub above : (m : ℕ) → k < m → getD r m 0 ≡ getD high m 0
+
+-- low below q, high from q on
+pub record Mixed (low high : List ℕ) (q : ℕ) (r : List ℕ) : Type 0 where
+  pub long : length r ≡ length high
+  pub below : (m : ℕ) → m < q → getD r m 0 ≡ getD low m 0
+  pub above : (m : ℕ) → q ≤ m → getD r m 0 ≡ getD high m 0
+
+-- the exponents of x from i on are still those of r
+pub record Kept (i : ℕ) (x r : List ℕ) : Type 0 where
+  pub long : length r ≡ length x
+  pub above : (m : ℕ) → i ≤ m → getD r m 0 ≡ getD x m 0
 
 -- conjugation by generator j keeps an exponent e of generator l: e is 0, or the word of the two is empty
 abbrev pub keeps : (words : List (List ℕ)) (j l e : ℕ) → Bool
@@ -69,6 +87,18 @@ pub record Reach (words : List (List ℕ)) (j r : ℕ) : Type 0 where
 
 pub record Quiet (m : ℕ) (words : List (List ℕ)) (reach : List ℕ) : Type 0 where
   pub at : (j : ℕ) → j < m → Reach words j (getD reach j 0)
+
+-- generator c commutes with every generator up to i
+pub record Commutes (words : List (List ℕ)) (c i : ℕ) : Type 0 where
+  pub below : (l : ℕ) → l < c → keeps words c l 1 ≡ true
+  pub above : (j : ℕ) → c < j → j ≤ i → keeps words j c 1 ≡ true
+
+-- and with every one below r
+pub record Rise (words : List (List ℕ)) (c r : ℕ) : Type 0 where
+  pub at : (i : ℕ) → i < r → Commutes words c i
+
+pub record Central (m : ℕ) (words : List (List ℕ)) (rise : List ℕ) : Type 0 where
+  pub at : (c : ℕ) → c < m → Rise words c (getD rise c 0)
 
 pub record Product (i : ℕ) (primes : List ℕ) (words : List (List ℕ)) (x y r : List ℕ) : Type 0 where
   pub small : Small i primes r

@@ -1,12 +1,15 @@
 // Product and conjugation of normal forms, level by level, with powers and repeated conjugation.
 ghost use mathlib.Core.Path.{_≡_};
 ghost use Prim.Native.Nat.{suc, _*_, _%_, _≤_, _<_};
-ghost use lib.ListN.{getD};
-ghost use Rattle.collector.specs.Rows.{Small, Ready, keeps, Lowest, Moved, Reach, Quiet, Product, Image, Conjugate, Remaining, Power, Scaled, Turned};
+ghost use mathlib.Core.List.{[]};
+ghost use lib.ListN.{length, getD};
+ghost use Rattle.definitions.specs.Presentation.{pairNumber};
+ghost use Rattle.collector.specs.Rows.{Small, Ready, Kept, keeps, Single, Alone, Moved, Reach, Quiet, Rise, Central, Product, Image, Conjugate, Remaining, Power, Scaled, Turned};
 use super::rows::GENERATORS;
 use super::rows::Reaches;
 use super::rows::Row;
 use super::rows::Words;
+use super::rows::copied;
 use super::rows::empty;
 use super::rows::same;
 use super::rows::stacked;
@@ -81,6 +84,38 @@ pub fn reaches(words: &Words, n: usize) -> Reaches
     r
 }
 
+// Generator c commutes with every generator below the answer.
+pub fn risen(words: &Words, reach: &Reaches, n: usize, c: usize) -> usize
+    requires { ⌜ (c < n) × (n ≤ 12) × Reach (now words) c (getD (now reach) c 0) ⌝ }
+    ensures { λ r. ⌜ Rise (now (words .entry)) c r ⌝ }
+{
+    if reach[c] != 0 {
+        return 0;
+    }
+    let mut j = c + 1;
+    while j < n {
+        let w = word(words, j, c);
+        if !empty(c + 1, w) {
+            return j;
+        }
+        j += 1;
+    }
+    n
+}
+
+// The same for each of the first n generators.
+pub fn rises(words: &Words, reach: &Reaches, n: usize) -> Reaches
+    requires { ⌜ (n ≤ 12) × Quiet n (now words) (now reach) ⌝ }
+    ensures { λ r. ⌜ Central n (now (words .entry)) r ⌝ }
+{
+    let mut r = [0usize; GENERATORS];
+    for c in 0..n {
+        let m = risen(words, reach, n, c);
+        r[c] = m;
+    }
+    r
+}
+
 // One more than the highest of the first k exponents of x that conjugation by generator j may change; 0 where it keeps all.
 pub fn moved(words: &Words, reach: &Reaches, k: usize, j: usize, x: Row) -> usize
     requires { ⌜ (k ≤ j) × (j < 12) × Reach (now words) j (getD (now reach) j 0) ⌝ }
@@ -97,27 +132,62 @@ pub fn moved(words: &Words, reach: &Reaches, k: usize, j: usize, x: Row) -> usiz
     0
 }
 
-// The product of x and y on level i. The conjugates that it needs are of the level below the highest exponent of y.
+// The first k exponents of x after b conjugations by generator k.
+pub fn turn(primes: &Row, words: &Words, reach: &Reaches, k: usize, x: &mut Row, b: u32)
+    requires { ⌜ Ready (suc k) (now primes) (now words) × Quiet (suc k) (now words) (now reach) × Small k (now primes) (now x) × (length (now x) ≡ 12) ⌝ }
+    ensures { λ r. ⌜ Turned k b (now (primes .entry)) (now (words .entry)) (now (x .entry)) (now (x .exit)) × Kept k (now (x .entry)) (now (x .exit)) ⌝ }
+{
+    if reach[k] == 0 {
+        return;
+    }
+    let c = turned(primes, words, reach, k, *x, b);
+    copied(k, c, x);
+}
+
+// The power word of generator k, times the first k exponents of x.
+pub fn carry(primes: &Row, words: &Words, reach: &Reaches, k: usize, x: &mut Row)
+    requires { ⌜ Ready (suc k) (now primes) (now words) × Quiet k (now words) (now reach) × Small k (now primes) (now x) × (length (now x) ≡ 12) ⌝ }
+    ensures { λ r. ⌜ Product k (now (primes .entry)) (now (words .entry)) (getD (now (words .entry)) (pairNumber k k) []) (now (x .entry)) (now (x .exit)) × Kept k (now (x .entry)) (now (x .exit)) ⌝ }
+{
+    let u = word(words, k, k);
+    if top(k, u) == 0 {
+        return;
+    }
+    let v = product(primes, words, reach, k, u, *x);
+    copied(k, v, x);
+}
+
+// x times y on level i. The conjugates that this needs are of the level below the highest exponent of y.
+pub fn multiply(primes: &Row, words: &Words, reach: &Reaches, i: usize, x: &mut Row, y: &Row)
+    requires { ⌜ Ready i (now primes) (now words) × Quiet i (now words) (now reach) × Small i (now primes) (now x) × Small i (now primes) (now y) × (length (now x) ≡ 12) ⌝ }
+    ensures { λ r. ⌜ Product i (now (primes .entry)) (now (words .entry)) (now (x .entry)) (now (y .entry)) (now (x .exit)) × Kept i (now (x .entry)) (now (x .exit)) ⌝ }
+{
+    let m = top(i, *y);
+    if m == 0 {
+        return;
+    }
+    let k = m - 1;
+    let b = y[k];
+    turn(primes, words, reach, k, x, b);
+    multiply(primes, words, reach, k, x, y);
+    let s = x[k] + b;
+    let p = primes[k];
+    if s < p {
+        x[k] = s;
+        return;
+    }
+    carry(primes, words, reach, k, x);
+    x[k] = s - p;
+}
+
+// The product of x and y on level i.
 pub fn product(primes: &Row, words: &Words, reach: &Reaches, i: usize, x: Row, y: Row) -> Row
     requires { ⌜ Ready i (now primes) (now words) × Quiet i (now words) (now reach) × Small i (now primes) x × Small i (now primes) y ⌝ }
     ensures { λ r. ⌜ Product i (now (primes .entry)) (now (words .entry)) x y r ⌝ }
 {
-    let m = top(i, y);
-    if m == 0 {
-        return x;
-    }
-    let k = m - 1;
-    let b = y[k];
-    let c = turned(primes, words, reach, k, x, b);
-    let z = product(primes, words, reach, k, c, y);
-    let s = x[k] + b;
-    let p = primes[k];
-    if s < p {
-        return stacked(k, z, x, s);
-    }
-    let u = word(words, k, k);
-    let v = product(primes, words, reach, k, u, z);
-    stacked(k, v, x, s - p)
+    let mut r = x;
+    multiply(primes, words, reach, i, &mut r, &y);
+    r
 }
 
 // The conjugate of generator l by generator j.
@@ -156,13 +226,28 @@ pub fn conjugate(primes: &Row, words: &Words, reach: &Reaches, k: usize, j: usiz
     stacked(l, s, x, s[l])
 }
 
-// The exponent of the lowest generator in x, e times, below its prime.
-pub fn multiple(primes: &Row, x: Row, e: u32) -> Row
-    requires { ⌜ (0 < getD (now primes) 0 0) ⌝ }
-    ensures { λ r. ⌜ Lowest ((getD x 0 0 * e) % getD (now (primes .entry)) 0 0) r ⌝ }
+// Whether x has an exponent of generator m - 1 and none below, and the power word of that generator is empty.
+pub fn alone(words: &Words, m: usize, x: Row) -> bool
+    requires { ⌜ m ≤ 12 ⌝ }
+    ensures { λ r. ⌜ Alone (now (words .entry)) m x r ⌝ }
+{
+    if m == 0 {
+        return false;
+    }
+    if top(m - 1, x) != 0 {
+        return false;
+    }
+    let u = word(words, m - 1, m - 1);
+    top(m - 1, u) == 0
+}
+
+// The exponent of generator k in x, e times, below its prime.
+pub fn multiple(primes: &Row, k: usize, x: Row, e: u32) -> Row
+    requires { ⌜ (k < 12) × (0 < getD (now primes) k 0) ⌝ }
+    ensures { λ r. ⌜ Single k ((getD x k 0 * e) % getD (now (primes .entry)) k 0) r ⌝ }
 {
     let mut r = [0u32; GENERATORS];
-    r[0] = remainder(x[0], e, primes[0]);
+    r[k] = remainder(x[k], e, primes[k]);
     r
 }
 
@@ -174,8 +259,9 @@ pub fn power(primes: &Row, words: &Words, reach: &Reaches, i: usize, x: Row, e: 
     if e == 1 {
         return x;
     }
-    if top(i, x) == 1 {
-        return multiple(primes, x, e);
+    let m = top(i, x);
+    if alone(words, m, x) {
+        return multiple(primes, m - 1, x, e);
     }
     let mut r = [0u32; GENERATORS];
     let mut n: u32 = 0;

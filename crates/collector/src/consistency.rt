@@ -2,12 +2,13 @@
 ghost use Prim.Native.Nat.{suc, _≤_, _<_};
 ghost use Rattle.definitions.specs.Lists.{allBelow};
 ghost use Rattle.definitions.specs.Consistency.{keepsPowers, keepsCommutators, fixesPower, powerIsInner, levelTest};
-ghost use Rattle.collector.specs.Rows.{Ready, Quiet, Images, Value};
-ghost use Rattle.collector.specs.Answers.{Answer, Decides, powerKept, commutatorKept, innerAt};
+ghost use Rattle.collector.specs.Rows.{Ready, Quiet, Central, Images, Value};
+ghost use Rattle.collector.specs.Answers.{Settles, Decides, powerKept, commutatorKept, innerAt};
 use super::arithmetic::conjugate;
 use super::arithmetic::power;
 use super::arithmetic::product;
 use super::arithmetic::reaches;
+use super::arithmetic::rises;
 use super::arithmetic::scaled;
 use super::arithmetic::turned;
 use super::rows::GENERATORS;
@@ -68,7 +69,7 @@ pub fn keeps_power(
     k: usize,
 ) -> bool
     requires { ⌜ Ready (suc i) (now primes) (now words) × Quiet (suc i) (now words) (now reach) × Images i (now primes) (now words) (now h) i × (k < i) ⌝ }
-    ensures { λ r. ⌜ Answer (suc i) (now (primes .entry)) (now (words .entry)) (λ P. powerKept P i k) r ⌝ }
+    ensures { λ r. ⌜ Settles i (now (primes .entry)) (now (words .entry)) (λ P. powerKept P i k) r ⌝ }
 {
     let g = h[k];
     let p = primes[k];
@@ -81,7 +82,7 @@ pub fn keeps_power(
 // The images h keep the power relations of the generators below i.
 pub fn keeps_powers(primes: &Row, words: &Words, reach: &Reaches, h: &Forms, i: usize) -> bool
     requires { ⌜ Ready (suc i) (now primes) (now words) × Quiet (suc i) (now words) (now reach) × Images i (now primes) (now words) (now h) i ⌝ }
-    ensures { λ r. ⌜ Answer (suc i) (now (primes .entry)) (now (words .entry)) (λ P. keepsPowers P i) r ⌝ }
+    ensures { λ r. ⌜ Settles i (now (primes .entry)) (now (words .entry)) (λ P. keepsPowers P i) r ⌝ }
 {
     for k in 0..i {
         if !keeps_power(primes, words, reach, h, i, k) {
@@ -102,7 +103,7 @@ pub fn keeps_commutator(
     k: usize,
 ) -> bool
     requires { ⌜ Ready (suc i) (now primes) (now words) × Quiet (suc i) (now words) (now reach) × Images i (now primes) (now words) (now h) i × (k < j) × (j < i) ⌝ }
-    ensures { λ r. ⌜ Answer (suc i) (now (primes .entry)) (now (words .entry)) (λ P. commutatorKept P i j k) r ⌝ }
+    ensures { λ r. ⌜ Settles i (now (primes .entry)) (now (words .entry)) (λ P. commutatorKept P i j k) r ⌝ }
 {
     let a = h[k];
     let b = h[j];
@@ -114,20 +115,44 @@ pub fn keeps_commutator(
     same(i, l, r)
 }
 
+// The same. Where one of the two commutes with every generator up to i there is nothing to test.
+pub fn keeps_pair(
+    primes: &Row,
+    words: &Words,
+    reach: &Reaches,
+    rise: &Reaches,
+    h: &Forms,
+    i: usize,
+    j: usize,
+    k: usize,
+) -> bool
+    requires { ⌜ Ready (suc i) (now primes) (now words) × Quiet (suc i) (now words) (now reach) × Central (suc i) (now words) (now rise) × Images i (now primes) (now words) (now h) i × (k < j) × (j < i) ⌝ }
+    ensures { λ r. ⌜ Settles i (now (primes .entry)) (now (words .entry)) (λ P. commutatorKept P i j k) r ⌝ }
+{
+    if i < rise[k] {
+        return true;
+    }
+    if i < rise[j] {
+        return true;
+    }
+    keeps_commutator(primes, words, reach, h, i, j, k)
+}
+
 // The images h keep the commutator relations of generator j with those below it.
 pub fn keeps_commutators_of(
     primes: &Row,
     words: &Words,
     reach: &Reaches,
+    rise: &Reaches,
     h: &Forms,
     i: usize,
     j: usize,
 ) -> bool
-    requires { ⌜ Ready (suc i) (now primes) (now words) × Quiet (suc i) (now words) (now reach) × Images i (now primes) (now words) (now h) i × (j < i) ⌝ }
-    ensures { λ r. ⌜ Answer (suc i) (now (primes .entry)) (now (words .entry)) (λ P. allBelow j (commutatorKept P i j)) r ⌝ }
+    requires { ⌜ Ready (suc i) (now primes) (now words) × Quiet (suc i) (now words) (now reach) × Central (suc i) (now words) (now rise) × Images i (now primes) (now words) (now h) i × (j < i) ⌝ }
+    ensures { λ r. ⌜ Settles i (now (primes .entry)) (now (words .entry)) (λ P. allBelow j (commutatorKept P i j)) r ⌝ }
 {
     for k in 0..j {
-        if !keeps_commutator(primes, words, reach, h, i, j, k) {
+        if !keeps_pair(primes, words, reach, rise, h, i, j, k) {
             return false;
         }
     }
@@ -135,12 +160,19 @@ pub fn keeps_commutators_of(
 }
 
 // The images h keep the commutator relations below i.
-pub fn keeps_commutators(primes: &Row, words: &Words, reach: &Reaches, h: &Forms, i: usize) -> bool
-    requires { ⌜ Ready (suc i) (now primes) (now words) × Quiet (suc i) (now words) (now reach) × Images i (now primes) (now words) (now h) i ⌝ }
-    ensures { λ r. ⌜ Answer (suc i) (now (primes .entry)) (now (words .entry)) (λ P. keepsCommutators P i) r ⌝ }
+pub fn keeps_commutators(
+    primes: &Row,
+    words: &Words,
+    reach: &Reaches,
+    rise: &Reaches,
+    h: &Forms,
+    i: usize,
+) -> bool
+    requires { ⌜ Ready (suc i) (now primes) (now words) × Quiet (suc i) (now words) (now reach) × Central (suc i) (now words) (now rise) × Images i (now primes) (now words) (now h) i ⌝ }
+    ensures { λ r. ⌜ Settles i (now (primes .entry)) (now (words .entry)) (λ P. keepsCommutators P i) r ⌝ }
 {
     for j in 0..i {
-        if !keeps_commutators_of(primes, words, reach, h, i, j) {
+        if !keeps_commutators_of(primes, words, reach, rise, h, i, j) {
             return false;
         }
     }
@@ -150,7 +182,7 @@ pub fn keeps_commutators(primes: &Row, words: &Words, reach: &Reaches, h: &Forms
 // Conjugation by generator i fixes its power word.
 pub fn fixes_power(primes: &Row, words: &Words, reach: &Reaches, i: usize) -> bool
     requires { ⌜ Ready (suc i) (now primes) (now words) × Quiet (suc i) (now words) (now reach) ⌝ }
-    ensures { λ r. ⌜ Answer (suc i) (now (primes .entry)) (now (words .entry)) (λ P. fixesPower P i) r ⌝ }
+    ensures { λ r. ⌜ Settles i (now (primes .entry)) (now (words .entry)) (λ P. fixesPower P i) r ⌝ }
 {
     let u = word(words, i, i);
     let c = conjugate(primes, words, reach, i, i, u);
@@ -160,7 +192,7 @@ pub fn fixes_power(primes: &Row, words: &Words, reach: &Reaches, i: usize) -> bo
 // As many conjugations by generator i as its prime are conjugation by its power word, at generator k.
 pub fn is_inner_at(primes: &Row, words: &Words, reach: &Reaches, i: usize, k: usize) -> bool
     requires { ⌜ Ready (suc i) (now primes) (now words) × Quiet (suc i) (now words) (now reach) × (k < i) ⌝ }
-    ensures { λ r. ⌜ Answer (suc i) (now (primes .entry)) (now (words .entry)) (λ P. innerAt P i k) r ⌝ }
+    ensures { λ r. ⌜ Settles i (now (primes .entry)) (now (words .entry)) (λ P. innerAt P i k) r ⌝ }
 {
     let u = word(words, i, i);
     let g = generator(k);
@@ -171,13 +203,31 @@ pub fn is_inner_at(primes: &Row, words: &Words, reach: &Reaches, i: usize, k: us
     same(i, left, right)
 }
 
+// The same. Where generator k commutes with every generator up to i there is nothing to test.
+pub fn is_inner_on(
+    primes: &Row,
+    words: &Words,
+    reach: &Reaches,
+    rise: &Reaches,
+    i: usize,
+    k: usize,
+) -> bool
+    requires { ⌜ Ready (suc i) (now primes) (now words) × Quiet (suc i) (now words) (now reach) × Central (suc i) (now words) (now rise) × (k < i) ⌝ }
+    ensures { λ r. ⌜ Settles i (now (primes .entry)) (now (words .entry)) (λ P. innerAt P i k) r ⌝ }
+{
+    if i < rise[k] {
+        return true;
+    }
+    is_inner_at(primes, words, reach, i, k)
+}
+
 // The same at every generator below i.
-pub fn is_inner(primes: &Row, words: &Words, reach: &Reaches, i: usize) -> bool
-    requires { ⌜ Ready (suc i) (now primes) (now words) × Quiet (suc i) (now words) (now reach) ⌝ }
-    ensures { λ r. ⌜ Answer (suc i) (now (primes .entry)) (now (words .entry)) (λ P. powerIsInner P i) r ⌝ }
+pub fn is_inner(primes: &Row, words: &Words, reach: &Reaches, rise: &Reaches, i: usize) -> bool
+    requires { ⌜ Ready (suc i) (now primes) (now words) × Quiet (suc i) (now words) (now reach) × Central (suc i) (now words) (now rise) ⌝ }
+    ensures { λ r. ⌜ Settles i (now (primes .entry)) (now (words .entry)) (λ P. powerIsInner P i) r ⌝ }
 {
     for k in 0..i {
-        if !is_inner_at(primes, words, reach, i, k) {
+        if !is_inner_on(primes, words, reach, rise, i, k) {
             return false;
         }
     }
@@ -185,21 +235,21 @@ pub fn is_inner(primes: &Row, words: &Words, reach: &Reaches, i: usize) -> bool
 }
 
 // The known test for generator i.
-pub fn level_passes(primes: &Row, words: &Words, reach: &Reaches, i: usize) -> bool
-    requires { ⌜ Ready (suc i) (now primes) (now words) × Quiet (suc i) (now words) (now reach) ⌝ }
-    ensures { λ r. ⌜ Answer (suc i) (now (primes .entry)) (now (words .entry)) (λ P. levelTest P i) r ⌝ }
+pub fn level_passes(primes: &Row, words: &Words, reach: &Reaches, rise: &Reaches, i: usize) -> bool
+    requires { ⌜ Ready (suc i) (now primes) (now words) × Quiet (suc i) (now words) (now reach) × Central (suc i) (now words) (now rise) ⌝ }
+    ensures { λ r. ⌜ Settles i (now (primes .entry)) (now (words .entry)) (λ P. levelTest P i) r ⌝ }
 {
     let h = images(primes, words, reach, i);
     if !keeps_powers(primes, words, reach, &h, i) {
         return false;
     }
-    if !keeps_commutators(primes, words, reach, &h, i) {
+    if !keeps_commutators(primes, words, reach, rise, &h, i) {
         return false;
     }
     if !fixes_power(primes, words, reach, i) {
         return false;
     }
-    is_inner(primes, words, reach, i)
+    is_inner(primes, words, reach, rise, i)
 }
 
 // Whether the presentation of n generators is consistent (15): the known test for each generator.
@@ -208,8 +258,9 @@ pub fn consistent(primes: &Row, words: &Words, n: usize) -> bool
     ensures { λ r. ⌜ Decides n (now (primes .entry)) (now (words .entry)) r ⌝ }
 {
     let reach = reaches(words, n);
+    let rise = rises(words, &reach, n);
     for i in 0..n {
-        if !level_passes(primes, words, &reach, i) {
+        if !level_passes(primes, words, &reach, &rise, i) {
             return false;
         }
     }

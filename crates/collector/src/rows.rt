@@ -2,10 +2,10 @@
 ghost use mathlib.Core.Path.{_≡_};
 ghost use mathlib.Core.List.{[]};
 ghost use Prim.Native.Nat.{_≤_, _<_};
-ghost use lib.ListN.{getD};
+ghost use lib.ListN.{length, getD};
 ghost use Rattle.definitions.specs.Presentation.{toNF, trivial, pairNumber};
 ghost use Rattle.definitions.specs.Consistency.{sameForm};
-ghost use Rattle.collector.specs.Rows.{Generator, Top, Stacked};
+ghost use Rattle.collector.specs.Rows.{Generator, Top, Stacked, Mixed};
 
 // The ceiling of generators, and how many pairs they make.
 pub const GENERATORS: usize = 12;
@@ -97,4 +97,14 @@ pub fn stacked(k: usize, low: Row, high: Row, s: u32) -> Row
     }
     r[k] = s;
     r
+}
+
+// The first k exponents of `low` in place of those of x.
+pub fn copied(k: usize, low: Row, x: &mut Row)
+    requires { ⌜ (k ≤ 12) × (length (now x) ≡ 12) ⌝ }
+    ensures { λ r. ⌜ Mixed low (now (x .entry)) k (now (x .exit)) ⌝ }
+{
+    for q in 0..k {
+        x[q] = low[q];
+    }
 }

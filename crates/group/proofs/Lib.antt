@@ -14,3 +14,4 @@ pub mod Accept
 pub mod Rows
 pub mod Pairs
 pub mod Context
+pub mod Central

@@ -2,6 +2,7 @@
 --
 --   test-holds      where levelTest is true the equations hold
 --   holds-test      where the equations hold levelTest is true
+--   commutator-raw, inner-raw    one equation of the test, of normal forms
 --   testedBelow     a context in which levelTest is true below n
 use mathlib.Core.Path.{_≡_, refl, sym, _∙_, ap}
 use mathlib.Core.Bool.{true, _&&_}
@@ -75,13 +76,24 @@ module _ (C : Context) (i : ℕ) where
         inner = λ k l. Nf-path C i _ _ (ap (mul P i (P .u i)) (iter-raw _ _) ∙ r .inner k l);
       }
 
+  pub commutator-raw : (k j : ℕ)
+      → level C i .mul (imageNf C i i k) (imageNf C i i j) ≡ level C i .mul (imageNf C i i j) (level C i .mul (imageNf C i i k) (value (level C i) (imageNf C i i) (suc k) (C .P .w k j)))
+      → mul (C .P) i (image (C .P) i k) (image (C .P) i j) ≡ mul (C .P) i (image (C .P) i j) (mul (C .P) i (image (C .P) i k) (value (forms (C .P) i) (image (C .P) i) (suc k) (C .P .w k j)))
+  unfolding level conjNf genNf
+  commutator-raw k j q = ap (λ x. x .0) q ∙ ap (λ t. mul P i (image P i j) (mul P i (image P i k) t)) (value-raw (suc k) _)
+
+  pub inner-raw : (k : ℕ) → level C i .mul (uNf C i) (iter (conjNf C i i) (C .P .p i) (genNf C i k)) ≡ level C i .mul (genNf C i k) (uNf C i)
+      → mul (C .P) i (C .P .u i) (iter (conj (C .P) i i) (C .P .p i) (generator i k)) ≡ mul (C .P) i (generator i k) (C .P .u i)
+  unfolding level uNf genNf
+  inner-raw k q = ap (mul P i (P .u i)) (sym (iter-raw _ _)) ∙ ap (λ x. x .0) q
+
   pub holds-test : Test C i → levelTest (C .P) i ≡ true
   unfolding level conjNf uNf genNf
   holds-test t = test-of-raw (record {
     powers = λ k l. sym (power-raw _ _) ∙ ap (λ x. x .0) (t .keeps .powers k l) ∙ value-raw k _;
-    commutators = λ j b k a. ap (λ x. x .0) (t .keeps .commutators k j a b) ∙ ap (λ t. mul P i (image P i j) (mul P i (image P i k) t)) (value-raw (suc k) _);
+    commutators = λ j b k a. commutator-raw k j (t .keeps .commutators k j a b);
     fixed = ap (λ x. x .0) (t .fixes);
-    inner = λ k l. ap (mul P i (P .u i)) (sym (iter-raw _ _)) ∙ ap (λ x. x .0) (t .inner k l);
+    inner = λ k l. inner-raw k (t .inner k l);
   })
 
 -- the levels of a context in which the test passes below n

@@ -6,23 +6,23 @@ use native.Mathlib.Omega.{arith}
 use denote.Ref.{now}
 use borrow.Author.Tests.{not-true, not-false}
 use Rattle.definitions.specs.Lists.{allBelow}
-use Rattle.collector.specs.Answers.{Answer, innerAt}
-use Rattle.collector.proofs.Answers.{answer-none, answer-more, answer-fails, inner-all}
+use Rattle.collector.specs.Answers.{Settles, innerAt}
+use Rattle.collector.proofs.Answers.{settles-none, settles-more, settles-fails, inner-all}
 use borrow.Author.Needs.{needs}
 use Rattle.collector.proofs.consistency.is_inner.Statement.{statement}
 use Rattle.collector.proofs.consistency.is_inner.Tie as tie
 
 abbrev Inv-loop : tie.InvT-loop
-Inv-loop primes words reach i k₀ k = (k ≤ i) × Answer (suc i) primes words (λ P. allBelow k (innerAt P i)) true
+Inv-loop primes words reach rise i k₀ k = (k ≤ i) × Settles i primes words (λ P. allBelow k (innerAt P i)) true
 
 abbrev μ-loop : tie.MeasureT-loop
-μ-loop primes words reach i k₀ k = i - k
+μ-loop primes words reach rise i k₀ k = i - k
 
 loop-holds : tie.Need-loop-holds Inv-loop μ-loop
-loop-holds c = (search needs, answer-none _ _ _ _)
+loop-holds c = (search needs, settles-none _ _ _ _)
 
-is-inner-at-requires : tie.Need-is-inner-at-requires Inv-loop μ-loop
-is-inner-at-requires c κs = search needs
+is-inner-on-requires : tie.Need-is-inner-on-requires Inv-loop μ-loop
+is-inner-on-requires c κs = search needs
 
 returns : tie.Need-returns Inv-loop μ-loop
 returns c =
@@ -30,7 +30,7 @@ returns c =
     let ps = now (z .args .primes) in
     let ws = now (z .args .words) in
     let l = c .before .before .before .loop in
-    inner-all (z .args .i) ps ws false (answer-fails (suc (z .args .i)) ps ws (λ P. innerAt P (z .args .i)) (l .k) (z .args .i) (c .before .is-inner-at .result) (search needs) (not-true _ (c .if1 .taken)) (c .before .is-inner-at .ensures))
+    inner-all (z .args .i) ps ws false (settles-fails (z .args .i) ps ws (λ P. innerAt P (z .args .i)) (l .k) (z .args .i) (c .before .is-inner-on .result) (search needs) (not-true _ (c .if1 .taken)) (c .before .is-inner-on .ensures))
 
 add-k : tie.Need-add-k Inv-loop μ-loop
 add-k c = search needs
@@ -44,7 +44,7 @@ loop-again c =
     let ps = now (z .args .primes) in
     let ws = now (z .args .words) in
     let l = c .before .before .before .loop in
-    (search needs, answer-more (suc (z .args .i)) ps ws (λ P. innerAt P (z .args .i)) (l .k) (c .before .is-inner-at .result) (not-false _ (c .if1 .left)) (l .inv .1) (c .before .is-inner-at .ensures))
+    (search needs, settles-more (z .args .i) ps ws (λ P. innerAt P (z .args .i)) (l .k) (c .before .is-inner-on .result) (not-false _ (c .if1 .left)) (l .inv .1) (c .before .is-inner-on .ensures))
 
 returns-2 : tie.Need-returns-2 Inv-loop μ-loop
 returns-2 c =
@@ -53,7 +53,7 @@ returns-2 c =
     let ws = now (z .args .words) in
     let l = c .before .loop in
     let e : l .k ≡ z .args .i = omega arith in
-    inner-all (z .args .i) ps ws true (subst (λ k. Answer (suc (z .args .i)) ps ws (λ P. allBelow k (innerAt P (z .args .i))) true) e (l .inv .1))
+    inner-all (z .args .i) ps ws true (subst (λ k. Settles (z .args .i) ps ws (λ P. allBelow k (innerAt P (z .args .i))) true) e (l .inv .1))
 
 pub is-inner-spec : {M : Type 1} → statement M
 is-inner-spec =
@@ -62,7 +62,7 @@ is-inner-spec =
     Inv-loop
     μ-loop
     loop-holds
-    is-inner-at-requires
+    is-inner-on-requires
     returns
     add-k
     loop-less

@@ -6,20 +6,20 @@ use native.Mathlib.Omega.{arith}
 use denote.Ref.{now}
 use borrow.Author.Tests.{not-true, not-false}
 use Rattle.definitions.specs.Lists.{allBelow}
-use Rattle.collector.specs.Answers.{Answer, commutatorKept}
-use Rattle.collector.proofs.Answers.{answer-none, answer-more, answer-fails, commutators-all}
+use Rattle.collector.specs.Answers.{Settles, commutatorKept}
+use Rattle.collector.proofs.Answers.{settles-none, settles-more, settles-fails, commutators-all}
 use borrow.Author.Needs.{needs}
 use Rattle.collector.proofs.consistency.keeps_commutators.Statement.{statement}
 use Rattle.collector.proofs.consistency.keeps_commutators.Tie as tie
 
 abbrev Inv-loop : tie.InvT-loop
-Inv-loop primes words reach h i j₀ j = (j ≤ i) × Answer (suc i) primes words (λ P. allBelow j (λ j. allBelow j (commutatorKept P i j))) true
+Inv-loop primes words reach rise h i j₀ j = (j ≤ i) × Settles i primes words (λ P. allBelow j (λ j. allBelow j (commutatorKept P i j))) true
 
 abbrev μ-loop : tie.MeasureT-loop
-μ-loop primes words reach h i j₀ j = i - j
+μ-loop primes words reach rise h i j₀ j = i - j
 
 loop-holds : tie.Need-loop-holds Inv-loop μ-loop
-loop-holds c = (search needs, answer-none _ _ _ _)
+loop-holds c = (search needs, settles-none _ _ _ _)
 
 keeps-commutators-of-requires : tie.Need-keeps-commutators-of-requires Inv-loop μ-loop
 keeps-commutators-of-requires c κs = search needs
@@ -30,7 +30,7 @@ returns c =
     let ps = now (z .args .primes) in
     let ws = now (z .args .words) in
     let l = c .before .before .before .loop in
-    commutators-all (z .args .i) ps ws false (answer-fails (suc (z .args .i)) ps ws (λ P j. allBelow j (commutatorKept P (z .args .i) j)) (l .j) (z .args .i) (c .before .keeps-commutators-of .result) (search needs) (not-true _ (c .if1 .taken)) (c .before .keeps-commutators-of .ensures))
+    commutators-all (z .args .i) ps ws false (settles-fails (z .args .i) ps ws (λ P j. allBelow j (commutatorKept P (z .args .i) j)) (l .j) (z .args .i) (c .before .keeps-commutators-of .result) (search needs) (not-true _ (c .if1 .taken)) (c .before .keeps-commutators-of .ensures))
 
 add-j : tie.Need-add-j Inv-loop μ-loop
 add-j c = search needs
@@ -44,7 +44,7 @@ loop-again c =
     let ps = now (z .args .primes) in
     let ws = now (z .args .words) in
     let l = c .before .before .before .loop in
-    (search needs, answer-more (suc (z .args .i)) ps ws (λ P j. allBelow j (commutatorKept P (z .args .i) j)) (l .j) (c .before .keeps-commutators-of .result) (not-false _ (c .if1 .left)) (l .inv .1) (c .before .keeps-commutators-of .ensures))
+    (search needs, settles-more (z .args .i) ps ws (λ P j. allBelow j (commutatorKept P (z .args .i) j)) (l .j) (c .before .keeps-commutators-of .result) (not-false _ (c .if1 .left)) (l .inv .1) (c .before .keeps-commutators-of .ensures))
 
 returns-2 : tie.Need-returns-2 Inv-loop μ-loop
 returns-2 c =
@@ -53,7 +53,7 @@ returns-2 c =
     let ws = now (z .args .words) in
     let l = c .before .loop in
     let e : l .j ≡ z .args .i = omega arith in
-    commutators-all (z .args .i) ps ws true (subst (λ j. Answer (suc (z .args .i)) ps ws (λ P. allBelow j (λ j. allBelow j (commutatorKept P (z .args .i) j))) true) e (l .inv .1))
+    commutators-all (z .args .i) ps ws true (subst (λ j. Settles (z .args .i) ps ws (λ P. allBelow j (λ j. allBelow j (commutatorKept P (z .args .i) j))) true) e (l .inv .1))
 
 pub keeps-commutators-spec : {M : Type 1} → statement M
 keeps-commutators-spec =

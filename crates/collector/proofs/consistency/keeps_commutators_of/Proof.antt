@@ -6,23 +6,23 @@ use native.Mathlib.Omega.{arith}
 use denote.Ref.{now}
 use borrow.Author.Tests.{not-true, not-false}
 use Rattle.definitions.specs.Lists.{allBelow}
-use Rattle.collector.specs.Answers.{Answer, commutatorKept}
-use Rattle.collector.proofs.Answers.{answer-none, answer-more, answer-fails}
+use Rattle.collector.specs.Answers.{Settles, commutatorKept}
+use Rattle.collector.proofs.Answers.{settles-none, settles-more, settles-fails}
 use borrow.Author.Needs.{needs}
 use Rattle.collector.proofs.consistency.keeps_commutators_of.Statement.{statement}
 use Rattle.collector.proofs.consistency.keeps_commutators_of.Tie as tie
 
 abbrev Inv-loop : tie.InvT-loop
-Inv-loop primes words reach h i j k₀ k = (k ≤ j) × Answer (suc i) primes words (λ P. allBelow k (commutatorKept P i j)) true
+Inv-loop primes words reach rise h i j k₀ k = (k ≤ j) × Settles i primes words (λ P. allBelow k (commutatorKept P i j)) true
 
 abbrev μ-loop : tie.MeasureT-loop
-μ-loop primes words reach h i j k₀ k = j - k
+μ-loop primes words reach rise h i j k₀ k = j - k
 
 loop-holds : tie.Need-loop-holds Inv-loop μ-loop
-loop-holds c = (search needs, answer-none _ _ _ _)
+loop-holds c = (search needs, settles-none _ _ _ _)
 
-keeps-commutator-requires : tie.Need-keeps-commutator-requires Inv-loop μ-loop
-keeps-commutator-requires c κs = search needs
+keeps-pair-requires : tie.Need-keeps-pair-requires Inv-loop μ-loop
+keeps-pair-requires c κs = search needs
 
 returns : tie.Need-returns Inv-loop μ-loop
 returns c =
@@ -30,7 +30,7 @@ returns c =
     let ps = now (z .args .primes) in
     let ws = now (z .args .words) in
     let l = c .before .before .before .loop in
-    answer-fails (suc (z .args .i)) ps ws (λ P. commutatorKept P (z .args .i) (z .args .j)) (l .k) (z .args .j) (c .before .keeps-commutator .result) (search needs) (not-true _ (c .if1 .taken)) (c .before .keeps-commutator .ensures)
+    settles-fails (z .args .i) ps ws (λ P. commutatorKept P (z .args .i) (z .args .j)) (l .k) (z .args .j) (c .before .keeps-pair .result) (search needs) (not-true _ (c .if1 .taken)) (c .before .keeps-pair .ensures)
 
 add-k : tie.Need-add-k Inv-loop μ-loop
 add-k c = search needs
@@ -44,7 +44,7 @@ loop-again c =
     let ps = now (z .args .primes) in
     let ws = now (z .args .words) in
     let l = c .before .before .before .loop in
-    (search needs, answer-more (suc (z .args .i)) ps ws (λ P. commutatorKept P (z .args .i) (z .args .j)) (l .k) (c .before .keeps-commutator .result) (not-false _ (c .if1 .left)) (l .inv .1) (c .before .keeps-commutator .ensures))
+    (search needs, settles-more (z .args .i) ps ws (λ P. commutatorKept P (z .args .i) (z .args .j)) (l .k) (c .before .keeps-pair .result) (not-false _ (c .if1 .left)) (l .inv .1) (c .before .keeps-pair .ensures))
 
 returns-2 : tie.Need-returns-2 Inv-loop μ-loop
 returns-2 c =
@@ -53,7 +53,7 @@ returns-2 c =
     let ws = now (z .args .words) in
     let l = c .before .loop in
     let e : l .k ≡ z .args .j = omega arith in
-    subst (λ k. Answer (suc (z .args .i)) ps ws (λ P. allBelow k (commutatorKept P (z .args .i) (z .args .j))) true) e (l .inv .1)
+    subst (λ k. Settles (z .args .i) ps ws (λ P. allBelow k (commutatorKept P (z .args .i) (z .args .j))) true) e (l .inv .1)
 
 pub keeps-commutators-of-spec : {M : Type 1} → statement M
 keeps-commutators-of-spec =
@@ -62,7 +62,7 @@ keeps-commutators-of-spec =
     Inv-loop
     μ-loop
     loop-holds
-    keeps-commutator-requires
+    keeps-pair-requires
     returns
     add-k
     loop-less

@@ -6,20 +6,20 @@ use native.Mathlib.Omega.{arith}
 use denote.Ref.{now}
 use borrow.Author.Tests.{not-true, not-false}
 use Rattle.definitions.specs.Lists.{allBelow}
-use Rattle.collector.specs.Answers.{Answer, powerKept}
-use Rattle.collector.proofs.Answers.{answer-none, answer-more, answer-fails, powers-all}
+use Rattle.collector.specs.Answers.{Settles, powerKept}
+use Rattle.collector.proofs.Answers.{settles-none, settles-more, settles-fails, powers-all}
 use borrow.Author.Needs.{needs}
 use Rattle.collector.proofs.consistency.keeps_powers.Statement.{statement}
 use Rattle.collector.proofs.consistency.keeps_powers.Tie as tie
 
 abbrev Inv-loop : tie.InvT-loop
-Inv-loop primes words reach h i k₀ k = (k ≤ i) × Answer (suc i) primes words (λ P. allBelow k (powerKept P i)) true
+Inv-loop primes words reach h i k₀ k = (k ≤ i) × Settles i primes words (λ P. allBelow k (powerKept P i)) true
 
 abbrev μ-loop : tie.MeasureT-loop
 μ-loop primes words reach h i k₀ k = i - k
 
 loop-holds : tie.Need-loop-holds Inv-loop μ-loop
-loop-holds c = (search needs, answer-none _ _ _ _)
+loop-holds c = (search needs, settles-none _ _ _ _)
 
 keeps-power-requires : tie.Need-keeps-power-requires Inv-loop μ-loop
 keeps-power-requires c κs = search needs
@@ -30,7 +30,7 @@ returns c =
     let ps = now (z .args .primes) in
     let ws = now (z .args .words) in
     let l = c .before .before .before .loop in
-    powers-all (z .args .i) ps ws false (answer-fails (suc (z .args .i)) ps ws (λ P. powerKept P (z .args .i)) (l .k) (z .args .i) (c .before .keeps-power .result) (search needs) (not-true _ (c .if1 .taken)) (c .before .keeps-power .ensures))
+    powers-all (z .args .i) ps ws false (settles-fails (z .args .i) ps ws (λ P. powerKept P (z .args .i)) (l .k) (z .args .i) (c .before .keeps-power .result) (search needs) (not-true _ (c .if1 .taken)) (c .before .keeps-power .ensures))
 
 add-k : tie.Need-add-k Inv-loop μ-loop
 add-k c = search needs
@@ -44,7 +44,7 @@ loop-again c =
     let ps = now (z .args .primes) in
     let ws = now (z .args .words) in
     let l = c .before .before .before .loop in
-    (search needs, answer-more (suc (z .args .i)) ps ws (λ P. powerKept P (z .args .i)) (l .k) (c .before .keeps-power .result) (not-false _ (c .if1 .left)) (l .inv .1) (c .before .keeps-power .ensures))
+    (search needs, settles-more (z .args .i) ps ws (λ P. powerKept P (z .args .i)) (l .k) (c .before .keeps-power .result) (not-false _ (c .if1 .left)) (l .inv .1) (c .before .keeps-power .ensures))
 
 returns-2 : tie.Need-returns-2 Inv-loop μ-loop
 returns-2 c =
@@ -53,7 +53,7 @@ returns-2 c =
     let ws = now (z .args .words) in
     let l = c .before .loop in
     let e : l .k ≡ z .args .i = omega arith in
-    powers-all (z .args .i) ps ws true (subst (λ k. Answer (suc (z .args .i)) ps ws (λ P. allBelow k (powerKept P (z .args .i))) true) e (l .inv .1))
+    powers-all (z .args .i) ps ws true (subst (λ k. Settles (z .args .i) ps ws (λ P. allBelow k (powerKept P (z .args .i))) true) e (l .inv .1))
 
 pub keeps-powers-spec : {M : Type 1} → statement M
 keeps-powers-spec =

@@ -4,7 +4,8 @@ use mathlib.Core.Path.{_≡_, subst}
 use Prim.Native.Nat.{_-_, _≤_, _<_}
 use lib.ListN.{length}
 use native.Mathlib.Omega.{arith}
-use Rattle.collector.proofs.Skips.{Mixed, mixed-none, mixed-more, mixed-stacked}
+use Rattle.collector.specs.Rows.{Mixed}
+use Rattle.collector.proofs.Skips.{mixed-none, mixed-more, mixed-stacked}
 use Rattle.collector.proofs.rows.stacked.Statement.{statement}
 use Rattle.collector.proofs.rows.stacked.Tie as tie
 

@@ -1,56 +1,86 @@
--- `arithmetic::conjugate`, `image`, `power`, `product` and `turned` meet their contracts: the one proof of their cycle of
--- calls. A product on level i turns forms of a level below i; turning and conjugation on level k take images, powers and
--- products on levels up to k; a power is taken by products on its own level. The measures are four times the level, and
--- up to three more.
+-- `arithmetic::multiply` and the functions that call it and that it calls meet their contracts: the one proof of their
+-- cycle of calls. A product on level i turns forms of a level below i, and carries on a level below i; turning and
+-- conjugation on level k take images, powers and products on levels up to k; a power is taken by products on its own level.
+-- The measures are eight times the level, and up to five more.
 use borrow.Author.Needs.{needs}
-use mathlib.Core.Path.{_≡_, refl, sym, subst}
+use mathlib.Core.Path.{_≡_, refl, sym, _∙_, subst}
 use Prim.Native.Nat.{ℕ, suc, _+_, _*_, _-_, _≤_, _<_}
 use native.Mathlib.Omega.{arith}
 use lib.ListN.{length}
 use denote.Ref.{now}
-use Rattle.collector.specs.Rows.{Small, Top, Moved, Reach, Power}
-use Rattle.collector.proofs.Skips.{quiet-below, moved-reach}
-use Rattle.collector.proofs.Steps.{small-below, ready-below, Turning, turning-start, turning-more, turned-done, turned-fixed, product-none, product-low-at, product-high-at, powering-start, powering-more, power-once, power-lowest, conjugate-none, commutator-small, image-low, image-high, conjugate-moves-at, lower-small-at}
+use Rattle.collector.specs.Rows.{Small, Top, Moved, Reach, Product, Power}
+use Rattle.collector.proofs.Skips.{quiet-below, moved-reach, kept-all, mixed-kept}
+use Rattle.collector.proofs.Steps.{small-below, ready-below, Turning, turning-start, turning-more, turned-done, turned-fixed, turned-same, product-same, product-left, product-none, multiply-top, multiply-low, multiply-high, powering-start, powering-more, power-once, power-single, conjugate-none, commutator-small, image-low, image-high, conjugate-moves-at, lower-small-at}
 use borrow.Fn.Kinds.{In}
 use borrow.Fn.PlainCycle.{Measures, is, falls, and}
+use Rattle.collector.proofs.arithmetic.carry.Reads as carry
+use Rattle.collector.proofs.arithmetic.carry.Kinds as carry-kinds
+use Rattle.collector.proofs.arithmetic.+carry+conjugate+image+multiply+power+product+turn+turned.Lts-carry as carry-lts
 use Rattle.collector.proofs.arithmetic.conjugate.Reads as conjugate
 use Rattle.collector.proofs.arithmetic.conjugate.Kinds as conjugate-kinds
-use Rattle.collector.proofs.arithmetic.+conjugate+image+power+product+turned.Lts-conjugate as conjugate-lts
+use Rattle.collector.proofs.arithmetic.+carry+conjugate+image+multiply+power+product+turn+turned.Lts-conjugate as conjugate-lts
 use Rattle.collector.proofs.arithmetic.image.Reads as image
 use Rattle.collector.proofs.arithmetic.image.Kinds as image-kinds
-use Rattle.collector.proofs.arithmetic.+conjugate+image+power+product+turned.Lts-image as image-lts
+use Rattle.collector.proofs.arithmetic.+carry+conjugate+image+multiply+power+product+turn+turned.Lts-image as image-lts
+use Rattle.collector.proofs.arithmetic.multiply.Reads as multiply
+use Rattle.collector.proofs.arithmetic.multiply.Kinds as multiply-kinds
+use Rattle.collector.proofs.arithmetic.+carry+conjugate+image+multiply+power+product+turn+turned.Lts-multiply as multiply-lts
 use Rattle.collector.proofs.arithmetic.power.Reads as power
 use Rattle.collector.proofs.arithmetic.power.Kinds as power-kinds
-use Rattle.collector.proofs.arithmetic.+conjugate+image+power+product+turned.Lts-power as power-lts
+use Rattle.collector.proofs.arithmetic.+carry+conjugate+image+multiply+power+product+turn+turned.Lts-power as power-lts
 use Rattle.collector.proofs.arithmetic.product.Reads as product
 use Rattle.collector.proofs.arithmetic.product.Kinds as product-kinds
-use Rattle.collector.proofs.arithmetic.+conjugate+image+power+product+turned.Lts-product as product-lts
+use Rattle.collector.proofs.arithmetic.+carry+conjugate+image+multiply+power+product+turn+turned.Lts-product as product-lts
+use Rattle.collector.proofs.arithmetic.turn.Reads as turn
+use Rattle.collector.proofs.arithmetic.turn.Kinds as turn-kinds
+use Rattle.collector.proofs.arithmetic.+carry+conjugate+image+multiply+power+product+turn+turned.Lts-turn as turn-lts
 use Rattle.collector.proofs.arithmetic.turned.Reads as turned
 use Rattle.collector.proofs.arithmetic.turned.Kinds as turned-kinds
-use Rattle.collector.proofs.arithmetic.+conjugate+image+power+product+turned.Lts-turned as turned-lts
+use Rattle.collector.proofs.arithmetic.+carry+conjugate+image+multiply+power+product+turn+turned.Lts-turned as turned-lts
+use Rattle.collector.proofs.arithmetic.alone.Reads as alone-reads
 use Rattle.collector.proofs.arithmetic.moved.Reads as moved-reads
 use Rattle.collector.proofs.arithmetic.multiple.Reads as multiple-reads
 use Rattle.collector.proofs.arithmetic.remaining.Reads as remaining-reads
+use Rattle.collector.proofs.rows.copied.Reads as copied-reads
 use Rattle.collector.proofs.rows.stacked.Reads as stacked-reads
 use Rattle.collector.proofs.rows.top.Reads as top-reads
 use Rattle.collector.proofs.rows.word.Reads as word-reads
-use Rattle.collector.proofs.arithmetic.+conjugate+image+power+product+turned.{statement}
-use Rattle.collector.proofs.arithmetic.+conjugate+image+power+product+turned.Tie.{close}
+use Rattle.collector.proofs.arithmetic.+carry+conjugate+image+multiply+power+product+turn+turned.{
+  statement,
+}
+use Rattle.collector.proofs.arithmetic.+carry+conjugate+image+multiply+power+product+turn+turned.Tie.{
+  close,
+}
+
+abbrev μ-carry : Measures 4 carry-kinds.ps ℕ
+μ-carry κs a = 8 * a .1 .1 .1 .0 + 2
 
 abbrev μ-conjugate : Measures 3 conjugate-kinds.ps ℕ
-μ-conjugate κs a = 4 * a .1 .1 .1 .0 + 2
+μ-conjugate κs a = 8 * a .1 .1 .1 .0 + 3
 
 abbrev μ-image : Measures 3 image-kinds.ps ℕ
-μ-image κs a = 4 * a .1 .1 .1 .1 .0 + 1
+μ-image κs a = 8 * a .1 .1 .1 .1 .0 + 2
+
+abbrev μ-multiply : Measures 5 multiply-kinds.ps ℕ
+μ-multiply κs a = 8 * a .1 .1 .1 .0
 
 abbrev μ-power : Measures 3 power-kinds.ps ℕ
-μ-power κs a = 4 * a .1 .1 .1 .0 + 1
+μ-power κs a = 8 * a .1 .1 .1 .0 + 2
 
 abbrev μ-product : Measures 3 product-kinds.ps ℕ
-μ-product κs a = 4 * a .1 .1 .1 .0
+μ-product κs a = 8 * a .1 .1 .1 .0 + 1
+
+abbrev μ-turn : Measures 4 turn-kinds.ps ℕ
+μ-turn κs a = 8 * a .1 .1 .1 .0 + 5
 
 abbrev μ-turned : Measures 3 turned-kinds.ps ℕ
-μ-turned κs a = 4 * a .1 .1 .1 .0 + 3
+μ-turned κs a = 8 * a .1 .1 .1 .0 + 4
+
+abbrev carry-at : ℕ → In 4 carry-kinds.ps
+carry-at t = and 4 carry-kinds.ps (is 4 carry-kinds.ps μ-carry t) carry.Pre
+
+abbrev carry-below : ℕ → In 4 carry-kinds.ps
+carry-below t = and 4 carry-kinds.ps (falls 4 carry-kinds.ps _<_ μ-carry t) carry.Pre
 
 abbrev conjugate-at : ℕ → In 3 conjugate-kinds.ps
 conjugate-at t = and 3 conjugate-kinds.ps (is 3 conjugate-kinds.ps μ-conjugate t) conjugate.Pre
@@ -65,6 +95,13 @@ image-at t = and 3 image-kinds.ps (is 3 image-kinds.ps μ-image t) image.Pre
 abbrev image-below : ℕ → In 3 image-kinds.ps
 image-below t = and 3 image-kinds.ps (falls 3 image-kinds.ps _<_ μ-image t) image.Pre
 
+abbrev multiply-at : ℕ → In 5 multiply-kinds.ps
+multiply-at t = and 5 multiply-kinds.ps (is 5 multiply-kinds.ps μ-multiply t) multiply.Pre
+
+abbrev multiply-below : ℕ → In 5 multiply-kinds.ps
+multiply-below t =
+    and 5 multiply-kinds.ps (falls 5 multiply-kinds.ps _<_ μ-multiply t) multiply.Pre
+
 abbrev power-at : ℕ → In 3 power-kinds.ps
 power-at t = and 3 power-kinds.ps (is 3 power-kinds.ps μ-power t) power.Pre
 
@@ -77,6 +114,12 @@ product-at t = and 3 product-kinds.ps (is 3 product-kinds.ps μ-product t) produ
 abbrev product-below : ℕ → In 3 product-kinds.ps
 product-below t = and 3 product-kinds.ps (falls 3 product-kinds.ps _<_ μ-product t) product.Pre
 
+abbrev turn-at : ℕ → In 4 turn-kinds.ps
+turn-at t = and 4 turn-kinds.ps (is 4 turn-kinds.ps μ-turn t) turn.Pre
+
+abbrev turn-below : ℕ → In 4 turn-kinds.ps
+turn-below t = and 4 turn-kinds.ps (falls 4 turn-kinds.ps _<_ μ-turn t) turn.Pre
+
 abbrev turned-at : ℕ → In 3 turned-kinds.ps
 turned-at t = and 3 turned-kinds.ps (is 3 turned-kinds.ps μ-turned t) turned.Pre
 
@@ -84,20 +127,89 @@ abbrev turned-below : ℕ → In 3 turned-kinds.ps
 turned-below t = and 3 turned-kinds.ps (falls 3 turned-kinds.ps _<_ μ-turned t) turned.Pre
 
 -- what the calls of each ask and tell
+abbrev carry-claims : ℕ → carry-lts.Claims
+carry-claims t = (word-reads.Asked, word-reads.Learnt, top-reads.Asked, top-reads.Learnt, product-below t, product.Post, copied-reads.Asked, copied-reads.Learnt)
+
 abbrev conjugate-claims : ℕ → conjugate-lts.Claims
 conjugate-claims t = (moved-reads.Asked, moved-reads.Learnt, conjugate-below t, conjugate.Post, image-below t, image.Post, power-below t, power.Post, product-below t, product.Post, stacked-reads.Asked, stacked-reads.Learnt)
 
 abbrev image-claims : ℕ → image-lts.Claims
 image-claims t = (word-reads.Asked, word-reads.Learnt, product-below t, product.Post)
 
+abbrev multiply-claims : ℕ → multiply-lts.Claims
+multiply-claims t = (top-reads.Asked, top-reads.Learnt, turn-below t, turn.Post, multiply-below t, multiply.Post, carry-below t, carry.Post)
+
 abbrev power-claims : ℕ → power-lts.Claims
-power-claims t = (top-reads.Asked, top-reads.Learnt, multiple-reads.Asked, multiple-reads.Learnt, product-below t, product.Post)
+power-claims t = (top-reads.Asked, top-reads.Learnt, alone-reads.Asked, alone-reads.Learnt, multiple-reads.Asked, multiple-reads.Learnt, product-below t, product.Post)
 
 abbrev product-claims : ℕ → product-lts.Claims
-product-claims t = (top-reads.Asked, top-reads.Learnt, turned-below t, turned.Post, product-below t, product.Post, stacked-reads.Asked, stacked-reads.Learnt, word-reads.Asked, word-reads.Learnt)
+product-claims t = (multiply-below t, multiply.Post)
+
+abbrev turn-claims : ℕ → turn-lts.Claims
+turn-claims t = (turned-below t, turned.Post, copied-reads.Asked, copied-reads.Learnt)
 
 abbrev turned-claims : ℕ → turned-lts.Claims
 turned-claims t = (conjugate-below t, conjugate.Post, remaining-reads.Asked, remaining-reads.Learnt)
+
+carry-word-requires : (t : ℕ) → carry-lts.Need-word-requires (carry-claims t) (carry-at t) carry.Post
+carry-word-requires t c κs = (omega arith, omega (arith, c .pre .1 .0 .few))
+
+carry-top-requires : (t : ℕ) → carry-lts.Need-top-requires (carry-claims t) (carry-at t) carry.Post
+carry-top-requires t c κs =
+    let z = c .before in
+    let ps = now (z .args .primes) in
+    let ws = now (z .args .words) in
+    let k = z .args .k in
+    let x = now (z .args .x) in
+    omega (arith, z .pre .1 .0 .few)
+
+carry-returns : (t : ℕ) → carry-lts.Need-returns (carry-claims t) (carry-at t) carry.Post
+carry-returns t c =
+    let z = c .before .before .before in
+    let ps = now (z .args .primes) in
+    let ws = now (z .args .words) in
+    let k = z .args .k in
+    let x = now (z .args .x) in
+    let u = c .before .before .word in
+    (product-left k ps ws _ x (subst (λ v. Top k v 0) (u .ensures) (subst (Top k (u .result)) (c .if1 .taken) (c .before .top .ensures))) (z .pre .1 .2), kept-all k x)
+
+carry-product-requires : (t : ℕ) → carry-lts.Need-product-requires (carry-claims t) (carry-at t) carry.Post
+carry-product-requires t c κs =
+    let z = c .before .before .before .before in
+    let ps = now (z .args .primes) in
+    let ws = now (z .args .words) in
+    let k = z .args .k in
+    let x = now (z .args .x) in
+    let u = c .before .before .before .word in (
+      omega (arith, z .pre .0),
+      (
+        ready-below k (suc k) ps ws (omega arith) (z .pre .1 .0),
+        z .pre .1 .1,
+        subst (Small k ps) (sym (u .ensures)) (small-below k (suc k) ps _ (omega arith) (z .pre .1 .0 .word k k (omega arith) (omega arith))),
+        z .pre .1 .2,
+      ),
+    )
+
+carry-copied-requires : (t : ℕ) → carry-lts.Need-copied-requires (carry-claims t) (carry-at t) carry.Post
+carry-copied-requires t c κs =
+    let z = c .before .before .before .before .before .before in
+    let ps = now (z .args .primes) in
+    let ws = now (z .args .words) in
+    let k = z .args .k in
+    let x = now (z .args .x) in
+    (omega (arith, z .pre .1 .0 .few), z .pre .1 .3)
+
+carry-returns-2 : (t : ℕ) → carry-lts.Need-returns-2 (carry-claims t) (carry-at t) carry.Post
+carry-returns-2 t c =
+    let z = c .before .before .before .before .before .before .before in
+    let ps = now (z .args .primes) in
+    let ws = now (z .args .words) in
+    let k = z .args .k in
+    let x = now (z .args .x) in
+    let u = c .before .before .before .before .before .before .word in
+    let v = c .before .before .product in
+    let r = c .copied .last .1 .1 .0 in
+    (product-same k ps ws _ x (v .result) r (c .copied .ensures .below) (subst (λ w. Product k ps ws w x (v .result)) (u .ensures) (v .ensures)), mixed-kept (v .result) x k r (c .copied .ensures))
 
 conjugate-moved-requires : (t : ℕ) → conjugate-lts.Need-moved-requires (conjugate-claims t) (conjugate-at t) conjugate.Post
 conjugate-moved-requires t c κs =
@@ -405,11 +517,267 @@ image-returns-2 t c =
     let longv : length (v .result) ≡ 12 = search needs in
     image-high j l ps ws (w .result) lj (z .pre .1 .0) (w .ensures) (u .result) (v .result) (u .ensures) (v .ensures) (omega arith) (c .before .before .if1 .left)
 
+multiply-top-requires : (t : ℕ) → multiply-lts.Need-top-requires (multiply-claims t) (multiply-at t) multiply.Post
+multiply-top-requires t c κs =
+    let z = c .before in
+    let ps = now (z .args .primes) in
+    let ws = now (z .args .words) in
+    let rc = now (z .args .reach) in
+    let i = z .args .i in
+    let x = now (z .args .x) in
+    let y = now (z .args .y) in
+    z .pre .1 .0 .few
+
+multiply-returns : (t : ℕ) → multiply-lts.Need-returns (multiply-claims t) (multiply-at t) multiply.Post
+multiply-returns t c =
+    let z = c .before .before .before in
+    let ps = now (z .args .primes) in
+    let ws = now (z .args .words) in
+    let rc = now (z .args .reach) in
+    let i = z .args .i in
+    let x = now (z .args .x) in
+    let y = now (z .args .y) in
+    (product-none i ps ws x y (subst (Top i y) (c .if1 .taken) (c .before .top .ensures)) (z .pre .1 .2), kept-all i x)
+
+multiply-sub-k : (t : ℕ) → multiply-lts.Need-sub-k (multiply-claims t) (multiply-at t) multiply.Post
+multiply-sub-k t c = search needs
+
+multiply-mul-b : (t : ℕ) → multiply-lts.Need-mul-b (multiply-claims t) (multiply-at t) multiply.Post
+multiply-mul-b t c = search needs
+
+multiply-element-copy-out-b : (t : ℕ) → multiply-lts.Need-element-copy-out-b (multiply-claims t) (multiply-at t) multiply.Post
+multiply-element-copy-out-b t c =
+    let z = c .before .before .before in
+    let ps = now (z .args .primes) in
+    let ws = now (z .args .words) in
+    let rc = now (z .args .reach) in
+    let i = z .args .i in
+    let x = now (z .args .x) in
+    let y = now (z .args .y) in
+    let m = c .before .top in
+    let mi : m .result ≤ i = m .ensures .less in
+    let few : i ≤ 12 = z .pre .1 .0 .few in
+    let pos : 0 < m .result = omega (arith, c .if1 .left) in
+    omega arith
+
+multiply-turn-requires : (t : ℕ) → multiply-lts.Need-turn-requires (multiply-claims t) (multiply-at t) multiply.Post
+multiply-turn-requires t c κs =
+    let z = c .before .before .before .before .before in
+    let ps = now (z .args .primes) in
+    let ws = now (z .args .words) in
+    let rc = now (z .args .reach) in
+    let i = z .args .i in
+    let x = now (z .args .x) in
+    let y = now (z .args .y) in
+    let m = c .before .before .before .top in
+    let mi : m .result ≤ i = m .ensures .less in
+    let few : i ≤ 12 = z .pre .1 .0 .few in
+    let pos : 0 < m .result = omega (arith, c .before .before .if1 .left) in (
+      omega (arith, z .pre .0),
+      (
+        ready-below (suc (m .result - 1)) i ps ws (omega arith) (z .pre .1 .0),
+        quiet-below (suc (m .result - 1)) i ws rc (omega arith) (z .pre .1 .1),
+        small-below (m .result - 1) i ps x (omega arith) (z .pre .1 .2),
+        z .pre .1 .4,
+      ),
+    )
+
+multiply-multiply-requires : (t : ℕ) → multiply-lts.Need-multiply-requires (multiply-claims t) (multiply-at t) multiply.Post
+multiply-multiply-requires t c κs =
+    let z = c .before .before .before .before .before .before .before in
+    let ps = now (z .args .primes) in
+    let ws = now (z .args .words) in
+    let rc = now (z .args .reach) in
+    let i = z .args .i in
+    let x = now (z .args .x) in
+    let y = now (z .args .y) in
+    let m = c .before .before .before .before .before .top in
+    let mi : m .result ≤ i = m .ensures .less in
+    let few : i ≤ 12 = z .pre .1 .0 .few in
+    let pos : 0 < m .result = omega (arith, c .before .before .before .before .if1 .left) in
+    let t = c .before .turn in
+    let x₁ = t .last .1 .1 .1 .1 .0 in (
+      omega (arith, z .pre .0),
+      (
+        ready-below (m .result - 1) i ps ws (omega arith) (z .pre .1 .0),
+        quiet-below (m .result - 1) i ws rc (omega arith) (z .pre .1 .1),
+        t .ensures .0 .small,
+        small-below (m .result - 1) i ps y (omega arith) (z .pre .1 .3),
+        t .ensures .1 .long ∙ z .pre .1 .4,
+      ),
+    )
+
+multiply-mul-s : (t : ℕ) → multiply-lts.Need-mul-s (multiply-claims t) (multiply-at t) multiply.Post
+multiply-mul-s t c = search needs
+
+multiply-element-copy-out-s : (t : ℕ) → multiply-lts.Need-element-copy-out-s (multiply-claims t) (multiply-at t) multiply.Post
+multiply-element-copy-out-s t c =
+    let z = c .before .before .before .before .before .before .before .before in
+    let ps = now (z .args .primes) in
+    let ws = now (z .args .words) in
+    let rc = now (z .args .reach) in
+    let i = z .args .i in
+    let x = now (z .args .x) in
+    let y = now (z .args .y) in
+    let m = c .before .before .before .before .before .before .top in
+    let mi : m .result ≤ i = m .ensures .less in
+    let few : i ≤ 12 = z .pre .1 .0 .few in
+    let pos : 0 < m .result = omega (arith, c .before .before .before .before .before .if1 .left) in
+    omega arith
+
+multiply-add-s : (t : ℕ) → multiply-lts.Need-add-s (multiply-claims t) (multiply-at t) multiply.Post
+multiply-add-s t c =
+    let z = c .before .before .before .before .before .before .before .before .before in
+    let ps = now (z .args .primes) in
+    let ws = now (z .args .words) in
+    let rc = now (z .args .reach) in
+    let i = z .args .i in
+    let x = now (z .args .x) in
+    let y = now (z .args .y) in
+    let m = c .before .before .before .before .before .before .before .top in
+    let mi : m .result ≤ i = m .ensures .less in
+    let few : i ≤ 12 = z .pre .1 .0 .few in
+    let pos : 0 < m .result = omega (arith, c .before .before .before .before .before .before .if1 .left) in
+    let t = c .before .before .before .turn in
+    let x₁ = t .last .1 .1 .1 .1 .0 in
+    let q = c .before .multiply in
+    let x₂ = q .last .1 .1 .1 .1 .0 in
+    let long : m .result ≤ length x = omega (arith, z .pre .1 .4) in
+    omega (
+      arith,
+      multiply-top i (m .result) ps ws x y x₁ x₂ pos (m .ensures) (z .pre .1 .2) long (t .ensures .0) (t .ensures .1) (q .ensures .0) (q .ensures .1),
+      z .pre .1 .2 .below (m .result - 1) (omega arith),
+      z .pre .1 .3 .below (m .result - 1) (omega arith),
+      z .pre .1 .0 .bounded (m .result - 1) (omega arith),
+    )
+
+multiply-mul-p : (t : ℕ) → multiply-lts.Need-mul-p (multiply-claims t) (multiply-at t) multiply.Post
+multiply-mul-p t c = search needs
+
+multiply-element-copy-out-p : (t : ℕ) → multiply-lts.Need-element-copy-out-p (multiply-claims t) (multiply-at t) multiply.Post
+multiply-element-copy-out-p t c =
+    let z = c .before .before .before .before .before .before .before .before .before in
+    let ps = now (z .args .primes) in
+    let ws = now (z .args .words) in
+    let rc = now (z .args .reach) in
+    let i = z .args .i in
+    let x = now (z .args .x) in
+    let y = now (z .args .y) in
+    let m = c .before .before .before .before .before .before .before .top in
+    let mi : m .result ≤ i = m .ensures .less in
+    let few : i ≤ 12 = z .pre .1 .0 .few in
+    let pos : 0 < m .result = omega (arith, c .before .before .before .before .before .before .if1 .left) in
+    omega arith
+
+multiply-mul-x : (t : ℕ) → multiply-lts.Need-mul-x (multiply-claims t) (multiply-at t) multiply.Post
+multiply-mul-x t c = search needs
+
+multiply-element-write-x : (t : ℕ) → multiply-lts.Need-element-write-x (multiply-claims t) (multiply-at t) multiply.Post
+multiply-element-write-x t c =
+    let z = c .before .before .before .before .before .before .before .before .before .before .before in
+    let ps = now (z .args .primes) in
+    let ws = now (z .args .words) in
+    let rc = now (z .args .reach) in
+    let i = z .args .i in
+    let x = now (z .args .x) in
+    let y = now (z .args .y) in
+    let m = c .before .before .before .before .before .before .before .before .before .top in
+    let mi : m .result ≤ i = m .ensures .less in
+    let few : i ≤ 12 = z .pre .1 .0 .few in
+    let pos : 0 < m .result = omega (arith, c .before .before .before .before .before .before .before .before .if1 .left) in
+    omega arith
+
+multiply-returns-2 : (t : ℕ) → multiply-lts.Need-returns-2 (multiply-claims t) (multiply-at t) multiply.Post
+multiply-returns-2 t c =
+    let z = c .before .before .before .before .before .before .before .before .before .before .before in
+    let ps = now (z .args .primes) in
+    let ws = now (z .args .words) in
+    let rc = now (z .args .reach) in
+    let i = z .args .i in
+    let x = now (z .args .x) in
+    let y = now (z .args .y) in
+    let m = c .before .before .before .before .before .before .before .before .before .top in
+    let mi : m .result ≤ i = m .ensures .less in
+    let few : i ≤ 12 = z .pre .1 .0 .few in
+    let pos : 0 < m .result = omega (arith, c .before .before .before .before .before .before .before .before .if1 .left) in
+    let t = c .before .before .before .before .before .turn in
+    let x₁ = t .last .1 .1 .1 .1 .0 in
+    let q = c .before .before .before .multiply in
+    let x₂ = q .last .1 .1 .1 .1 .0 in
+    let long : m .result ≤ length x = omega (arith, z .pre .1 .4) in
+    multiply-low i (m .result) ps ws x y x₁ x₂ pos (m .ensures) (z .pre .1 .2) long (t .ensures .0) (t .ensures .1) (q .ensures .0) (q .ensures .1) (c .if2 .taken)
+
+multiply-carry-requires : (t : ℕ) → multiply-lts.Need-carry-requires (multiply-claims t) (multiply-at t) multiply.Post
+multiply-carry-requires t c κs =
+    let z = c .before .before .before .before .before .before .before .before .before .before .before .before in
+    let ps = now (z .args .primes) in
+    let ws = now (z .args .words) in
+    let rc = now (z .args .reach) in
+    let i = z .args .i in
+    let x = now (z .args .x) in
+    let y = now (z .args .y) in
+    let m = c .before .before .before .before .before .before .before .before .before .before .top in
+    let mi : m .result ≤ i = m .ensures .less in
+    let few : i ≤ 12 = z .pre .1 .0 .few in
+    let pos : 0 < m .result = omega (arith, c .before .before .before .before .before .before .before .before .before .if1 .left) in
+    let t = c .before .before .before .before .before .before .turn in
+    let x₁ = t .last .1 .1 .1 .1 .0 in
+    let q = c .before .before .before .before .multiply in
+    let x₂ = q .last .1 .1 .1 .1 .0 in
+    let long : m .result ≤ length x = omega (arith, z .pre .1 .4) in (
+      omega (arith, z .pre .0),
+      (
+        ready-below (suc (m .result - 1)) i ps ws (omega arith) (z .pre .1 .0),
+        quiet-below (m .result - 1) i ws rc (omega arith) (z .pre .1 .1),
+        q .ensures .0 .small,
+        q .ensures .1 .long ∙ t .ensures .1 .long ∙ z .pre .1 .4,
+      ),
+    )
+
+multiply-mul-x-2 : (t : ℕ) → multiply-lts.Need-mul-x-2 (multiply-claims t) (multiply-at t) multiply.Post
+multiply-mul-x-2 t c = search needs
+
+multiply-element-write-x-2 : (t : ℕ) → multiply-lts.Need-element-write-x-2 (multiply-claims t) (multiply-at t) multiply.Post
+multiply-element-write-x-2 t c =
+    let z = c .before .before .before .before .before .before .before .before .before .before .before .before .before in
+    let ps = now (z .args .primes) in
+    let ws = now (z .args .words) in
+    let rc = now (z .args .reach) in
+    let i = z .args .i in
+    let x = now (z .args .x) in
+    let y = now (z .args .y) in
+    let m = c .before .before .before .before .before .before .before .before .before .before .before .top in
+    let mi : m .result ≤ i = m .ensures .less in
+    let few : i ≤ 12 = z .pre .1 .0 .few in
+    let pos : 0 < m .result = omega (arith, c .before .before .before .before .before .before .before .before .before .before .if1 .left) in
+    omega arith
+
+multiply-returns-3 : (t : ℕ) → multiply-lts.Need-returns-3 (multiply-claims t) (multiply-at t) multiply.Post
+multiply-returns-3 t c =
+    let z = c .before .before .before .before .before .before .before .before .before .before .before .before .before in
+    let ps = now (z .args .primes) in
+    let ws = now (z .args .words) in
+    let rc = now (z .args .reach) in
+    let i = z .args .i in
+    let x = now (z .args .x) in
+    let y = now (z .args .y) in
+    let m = c .before .before .before .before .before .before .before .before .before .before .before .top in
+    let mi : m .result ≤ i = m .ensures .less in
+    let few : i ≤ 12 = z .pre .1 .0 .few in
+    let pos : 0 < m .result = omega (arith, c .before .before .before .before .before .before .before .before .before .before .if1 .left) in
+    let t = c .before .before .before .before .before .before .before .turn in
+    let x₁ = t .last .1 .1 .1 .1 .0 in
+    let q = c .before .before .before .before .before .multiply in
+    let x₂ = q .last .1 .1 .1 .1 .0 in
+    let long : m .result ≤ length x = omega (arith, z .pre .1 .4) in
+    multiply-high i (m .result) ps ws x y x₁ x₂ pos (m .ensures) (z .pre .1 .2) long (t .ensures .0) (t .ensures .1) (q .ensures .0) (q .ensures .1) (c .carry .last .1 .1 .1 .1 .0) (c .carry .ensures .0) (c .carry .ensures .1)
+    (c .before .before .if2 .left) (z .pre .1 .3)
+
 abbrev power-Inv-loop : power-lts.InvT-loop
-power-Inv-loop primes words reach i x e r₀ n₀ r n = (n ≤ e) × Power i primes words x r n
+power-Inv-loop primes words reach i x e m r₀ n₀ r n = (n ≤ e) × Power i primes words x r n
 
 abbrev power-μ-loop : power-lts.MeasureT-loop
-power-μ-loop primes words reach i x e r₀ n₀ r n = e - n
+power-μ-loop primes words reach i x e m r₀ n₀ r n = e - n
 
 power-returns : (t : ℕ) → power-lts.Need-returns (power-claims t) (power-at t) power.Post power-Inv-loop power-μ-loop
 power-returns t c =
@@ -429,29 +797,49 @@ power-top-requires t c κs =
     let x = z .args .x in
     z .pre .1 .0 .few
 
-power-multiple-requires : (t : ℕ) → power-lts.Need-multiple-requires (power-claims t) (power-at t) power.Post power-Inv-loop power-μ-loop
-power-multiple-requires t c κs =
-    let z = c .before .before .before in
+power-alone-requires : (t : ℕ) → power-lts.Need-alone-requires (power-claims t) (power-at t) power.Post power-Inv-loop power-μ-loop
+power-alone-requires t c κs =
+    let z = c .before .before in
     let ps = now (z .args .primes) in
     let ws = now (z .args .words) in
     let i = z .args .i in
     let x = z .args .x in
-    let t = c .before .top in
-    omega (arith, z .pre .1 .0 .two 0 (omega (arith, t .ensures .less, c .if2 .taken)))
+    omega (arith, c .top .ensures .less, z .pre .1 .0 .few)
 
-power-returns-2 : (t : ℕ) → power-lts.Need-returns-2 (power-claims t) (power-at t) power.Post power-Inv-loop power-μ-loop
-power-returns-2 t c =
+power-sub-multiple : (t : ℕ) → power-lts.Need-sub-multiple (power-claims t) (power-at t) power.Post power-Inv-loop power-μ-loop
+power-sub-multiple t c =
+    let z = c .before .before .before .before in
+    let ps = now (z .args .primes) in
+    let ws = now (z .args .words) in
+    let i = z .args .i in
+    let x = z .args .x in
+    omega (arith, c .before .alone .ensures .is (c .if2 .taken) .0)
+
+power-multiple-requires : (t : ℕ) → power-lts.Need-multiple-requires (power-claims t) (power-at t) power.Post power-Inv-loop power-μ-loop
+power-multiple-requires t c κs =
     let z = c .before .before .before .before in
     let ps = now (z .args .primes) in
     let ws = now (z .args .words) in
     let i = z .args .i in
     let x = z .args .x in
     let t = c .before .before .top in
-    power-lowest i ps ws x (z .pre .1 .0) (z .pre .1 .2) (subst (Top i x) (c .before .if2 .taken) (t .ensures)) (z .args .e) (c .multiple .result) (c .multiple .ensures)
+    let pos = c .before .alone .ensures .is (c .if2 .taken) .0 in
+    let few : t .result ≤ i = t .ensures .less in
+    (omega (arith, z .pre .1 .0 .few), omega (arith, z .pre .1 .0 .two (t .result - 1) (omega arith)))
+
+power-returns-2 : (t : ℕ) → power-lts.Need-returns-2 (power-claims t) (power-at t) power.Post power-Inv-loop power-μ-loop
+power-returns-2 t c =
+    let z = c .before .before .before .before .before in
+    let ps = now (z .args .primes) in
+    let ws = now (z .args .words) in
+    let i = z .args .i in
+    let x = z .args .x in
+    let t = c .before .before .before .top in
+    power-single i (t .result) ps ws x (z .pre .1 .0) (z .pre .1 .2) (t .ensures) (c .before .before .alone .ensures .is (c .before .if2 .taken)) (z .args .e) (c .multiple .result) (c .multiple .ensures)
 
 power-loop-holds : (t : ℕ) → power-lts.Need-loop-holds (power-claims t) (power-at t) power.Post power-Inv-loop power-μ-loop
 power-loop-holds t c =
-    let z = c .before .before .before in
+    let z = c .before .before .before .before in
     let ps = now (z .args .primes) in
     let ws = now (z .args .words) in
     let i = z .args .i in
@@ -460,7 +848,7 @@ power-loop-holds t c =
 
 power-product-requires : (t : ℕ) → power-lts.Need-product-requires (power-claims t) (power-at t) power.Post power-Inv-loop power-μ-loop
 power-product-requires t c κs =
-    let z = c .before .before .before .before .before in
+    let z = c .before .before .before .before .before .before in
     let ps = now (z .args .primes) in
     let ws = now (z .args .words) in
     let i = z .args .i in
@@ -475,7 +863,7 @@ power-loop-less t c = search needs
 
 power-loop-again : (t : ℕ) → power-lts.Need-loop-again (power-claims t) (power-at t) power.Post power-Inv-loop power-μ-loop
 power-loop-again t c =
-    let z = c .before .before .before .before .before .before in
+    let z = c .before .before .before .before .before .before .before in
     let ps = now (z .args .primes) in
     let ws = now (z .args .words) in
     let i = z .args .i in
@@ -485,7 +873,7 @@ power-loop-again t c =
 
 power-returns-3 : (t : ℕ) → power-lts.Need-returns-3 (power-claims t) (power-at t) power.Post power-Inv-loop power-μ-loop
 power-returns-3 t c =
-    let z = c .before .before .before .before .before in
+    let z = c .before .before .before .before .before .before in
     let ps = now (z .args .primes) in
     let ws = now (z .args .words) in
     let i = z .args .i in
@@ -494,238 +882,60 @@ power-returns-3 t c =
     let e : l .n ≡ z .args .e = omega arith in
     subst (Power i ps ws x (l .r)) e (l .inv .1)
 
-product-top-requires : (t : ℕ) → product-lts.Need-top-requires (product-claims t) (product-at t) product.Post
-product-top-requires t c κs = c .pre .1 .0 .few
+product-multiply-requires : (t : ℕ) → product-lts.Need-multiply-requires (product-claims t) (product-at t) product.Post
+product-multiply-requires t c κs =
+    let z = c .before .before in
+    let ps = now (z .args .primes) in
+    let ws = now (z .args .words) in
+    (omega (arith, z .pre .0), (z .pre .1 .0, z .pre .1 .1, z .pre .1 .2, z .pre .1 .3, search needs))
 
 product-returns : (t : ℕ) → product-lts.Need-returns (product-claims t) (product-at t) product.Post
-product-returns t c =
+product-returns t c = c .multiply .ensures .0
+
+turn-mul-if1 : (t : ℕ) → turn-lts.Need-mul-if1 (turn-claims t) (turn-at t) turn.Post
+turn-mul-if1 t c = search needs
+
+turn-element-copy-out-if1 : (t : ℕ) → turn-lts.Need-element-copy-out-if1 (turn-claims t) (turn-at t) turn.Post
+turn-element-copy-out-if1 t c = omega (arith, c .pre .1 .0 .few)
+
+turn-returns : (t : ℕ) → turn-lts.Need-returns (turn-claims t) (turn-at t) turn.Post
+turn-returns t c =
     let z = c .before .before in
     let ps = now (z .args .primes) in
     let ws = now (z .args .words) in
-    let rc = now (z .args .reach) in
-    let i = z .args .i in
-    let x = z .args .t5 in
-    let y = z .args .t6 in
-    product-none i ps ws x y (subst (Top i y) (c .if1 .taken) (c .before .top .ensures)) (z .pre .1 .2)
+    let k = z .args .k in
+    let x = now (z .args .x) in
+    let still = moved-reach ws k k 0 x (omega arith) (omega arith) (subst (Reach ws k) (c .if1 .taken) (z .pre .1 .1 .at k (omega arith))) in
+    (turned-fixed k (z .args .b) ps ws x (conjugate-none k ps ws x k (omega arith) still (z .pre .1 .2)), kept-all k x)
 
-product-sub-k : (t : ℕ) → product-lts.Need-sub-k (product-claims t) (product-at t) product.Post
-product-sub-k t c = search needs
-
-product-mul-b : (t : ℕ) → product-lts.Need-mul-b (product-claims t) (product-at t) product.Post
-product-mul-b t c = search needs
-
-product-array-read-b : (t : ℕ) → product-lts.Need-array-read-b (product-claims t) (product-at t) product.Post
-product-array-read-b t c =
-    let z = c .before .before in
-    let ps = now (z .args .primes) in
-    let ws = now (z .args .words) in
-    let rc = now (z .args .reach) in
-    let i = z .args .i in
-    let x = z .args .t5 in
-    let y = z .args .t6 in
-    let m = c .before .top in
-    let mi : m .result ≤ i = m .ensures .less in
-    let few : i ≤ 12 = z .pre .1 .0 .few in
-    let pos : 0 < m .result = omega (arith, c .if1 .left) in
-    omega arith
-
-product-turned-requires : (t : ℕ) → product-lts.Need-turned-requires (product-claims t) (product-at t) product.Post
-product-turned-requires t c κs =
-    let z = c .before .before in
-    let ps = now (z .args .primes) in
-    let ws = now (z .args .words) in
-    let rc = now (z .args .reach) in
-    let i = z .args .i in
-    let x = z .args .t5 in
-    let y = z .args .t6 in
-    let m = c .before .top in
-    let mi : m .result ≤ i = m .ensures .less in
-    let few : i ≤ 12 = z .pre .1 .0 .few in
-    let pos : 0 < m .result = omega (arith, c .if1 .left) in (
-      omega (arith, z .pre .0),
-      (
-        ready-below (suc (m .result - 1)) i ps ws (omega arith) (z .pre .1 .0),
-        quiet-below (suc (m .result - 1)) i ws rc (omega arith) (z .pre .1 .1),
-        small-below (m .result - 1) i ps x (omega arith) (z .pre .1 .2),
-      ),
-    )
-
-product-product-requires : (t : ℕ) → product-lts.Need-product-requires (product-claims t) (product-at t) product.Post
-product-product-requires t c κs =
+turn-turned-requires : (t : ℕ) → turn-lts.Need-turned-requires (turn-claims t) (turn-at t) turn.Post
+turn-turned-requires t c κs =
     let z = c .before .before .before in
     let ps = now (z .args .primes) in
     let ws = now (z .args .words) in
-    let rc = now (z .args .reach) in
-    let i = z .args .i in
-    let x = z .args .t5 in
-    let y = z .args .t6 in
-    let m = c .before .before .top in
-    let mi : m .result ≤ i = m .ensures .less in
-    let few : i ≤ 12 = z .pre .1 .0 .few in
-    let pos : 0 < m .result = omega (arith, c .before .if1 .left) in (
-      omega (arith, z .pre .0),
-      (
-        ready-below (m .result - 1) i ps ws (omega arith) (z .pre .1 .0),
-        quiet-below (m .result - 1) i ws rc (omega arith) (z .pre .1 .1),
-        c .turned .ensures .small,
-        small-below (m .result - 1) i ps y (omega arith) (z .pre .1 .3),
-      ),
-    )
+    let k = z .args .k in
+    let x = now (z .args .x) in
+    (omega (arith, z .pre .0), (z .pre .1 .0, z .pre .1 .1, z .pre .1 .2))
 
-product-mul-s : (t : ℕ) → product-lts.Need-mul-s (product-claims t) (product-at t) product.Post
-product-mul-s t c = search needs
-
-product-array-read-s : (t : ℕ) → product-lts.Need-array-read-s (product-claims t) (product-at t) product.Post
-product-array-read-s t c =
-    let z = c .before .before .before .before in
+turn-copied-requires : (t : ℕ) → turn-lts.Need-copied-requires (turn-claims t) (turn-at t) turn.Post
+turn-copied-requires t c κs =
+    let z = c .before .before .before .before .before in
     let ps = now (z .args .primes) in
     let ws = now (z .args .words) in
-    let rc = now (z .args .reach) in
-    let i = z .args .i in
-    let x = z .args .t5 in
-    let y = z .args .t6 in
-    let m = c .before .before .before .top in
-    let mi : m .result ≤ i = m .ensures .less in
-    let few : i ≤ 12 = z .pre .1 .0 .few in
-    let pos : 0 < m .result = omega (arith, c .before .before .if1 .left) in
-    omega arith
+    let k = z .args .k in
+    let x = now (z .args .x) in
+    (omega (arith, z .pre .1 .0 .few), z .pre .1 .3)
 
-product-add-s : (t : ℕ) → product-lts.Need-add-s (product-claims t) (product-at t) product.Post
-product-add-s t c =
-    let z = c .before .before .before .before in
-    let ps = now (z .args .primes) in
-    let ws = now (z .args .words) in
-    let rc = now (z .args .reach) in
-    let i = z .args .i in
-    let x = z .args .t5 in
-    let y = z .args .t6 in
-    let m = c .before .before .before .top in
-    let mi : m .result ≤ i = m .ensures .less in
-    let few : i ≤ 12 = z .pre .1 .0 .few in
-    let pos : 0 < m .result = omega (arith, c .before .before .if1 .left) in
-    omega (arith, z .pre .1 .2 .below (m .result - 1) (omega arith), z .pre .1 .3 .below (m .result - 1) (omega arith), z .pre .1 .0 .bounded (m .result - 1) (omega arith))
-
-product-mul-p : (t : ℕ) → product-lts.Need-mul-p (product-claims t) (product-at t) product.Post
-product-mul-p t c = search needs
-
-product-element-copy-out-p : (t : ℕ) → product-lts.Need-element-copy-out-p (product-claims t) (product-at t) product.Post
-product-element-copy-out-p t c =
-    let z = c .before .before .before .before in
-    let ps = now (z .args .primes) in
-    let ws = now (z .args .words) in
-    let rc = now (z .args .reach) in
-    let i = z .args .i in
-    let x = z .args .t5 in
-    let y = z .args .t6 in
-    let m = c .before .before .before .top in
-    let mi : m .result ≤ i = m .ensures .less in
-    let few : i ≤ 12 = z .pre .1 .0 .few in
-    let pos : 0 < m .result = omega (arith, c .before .before .if1 .left) in
-    omega arith
-
-product-stacked-requires : (t : ℕ) → product-lts.Need-stacked-requires (product-claims t) (product-at t) product.Post
-product-stacked-requires t c κs =
+turn-returns-2 : (t : ℕ) → turn-lts.Need-returns-2 (turn-claims t) (turn-at t) turn.Post
+turn-returns-2 t c =
     let z = c .before .before .before .before .before .before in
     let ps = now (z .args .primes) in
     let ws = now (z .args .words) in
-    let rc = now (z .args .reach) in
-    let i = z .args .i in
-    let x = z .args .t5 in
-    let y = z .args .t6 in
-    let m = c .before .before .before .before .before .top in
-    let mi : m .result ≤ i = m .ensures .less in
-    let few : i ≤ 12 = z .pre .1 .0 .few in
-    let pos : 0 < m .result = omega (arith, c .before .before .before .before .if1 .left) in
-    omega arith
-
-product-returns-2 : (t : ℕ) → product-lts.Need-returns-2 (product-claims t) (product-at t) product.Post
-product-returns-2 t c =
-    let z = c .before .before .before .before .before .before .before in
-    let ps = now (z .args .primes) in
-    let ws = now (z .args .words) in
-    let rc = now (z .args .reach) in
-    let i = z .args .i in
-    let x = z .args .t5 in
-    let y = z .args .t6 in
-    let m = c .before .before .before .before .before .before .top in
-    let mi : m .result ≤ i = m .ensures .less in
-    let few : i ≤ 12 = z .pre .1 .0 .few in
-    let pos : 0 < m .result = omega (arith, c .before .before .before .before .before .if1 .left) in
-    let t = c .before .before .before .before .turned in
-    let q = c .before .before .before .product in
-    product-low-at i (m .result) ps ws x y (t .result) (q .result) pos (m .ensures) (z .pre .1 .2) (t .ensures) (q .ensures) (c .stacked .result) (c .stacked .ensures) (c .before .if2 .taken)
-
-product-word-requires : (t : ℕ) → product-lts.Need-word-requires (product-claims t) (product-at t) product.Post
-product-word-requires t c κs =
-    let z = c .before .before .before .before .before .before in
-    let ps = now (z .args .primes) in
-    let ws = now (z .args .words) in
-    let rc = now (z .args .reach) in
-    let i = z .args .i in
-    let x = z .args .t5 in
-    let y = z .args .t6 in
-    let m = c .before .before .before .before .before .top in
-    let mi : m .result ≤ i = m .ensures .less in
-    let few : i ≤ 12 = z .pre .1 .0 .few in
-    let pos : 0 < m .result = omega (arith, c .before .before .before .before .if1 .left) in
-    (omega arith, omega arith)
-
-product-product-requires-2 : (t : ℕ) → product-lts.Need-product-requires-2 (product-claims t) (product-at t) product.Post
-product-product-requires-2 t c κs =
-    let z = c .before .before .before .before .before .before .before in
-    let ps = now (z .args .primes) in
-    let ws = now (z .args .words) in
-    let rc = now (z .args .reach) in
-    let i = z .args .i in
-    let x = z .args .t5 in
-    let y = z .args .t6 in
-    let m = c .before .before .before .before .before .before .top in
-    let mi : m .result ≤ i = m .ensures .less in
-    let few : i ≤ 12 = z .pre .1 .0 .few in
-    let pos : 0 < m .result = omega (arith, c .before .before .before .before .before .if1 .left) in (
-      omega (arith, z .pre .0),
-      (
-        ready-below (m .result - 1) i ps ws (omega arith) (z .pre .1 .0),
-        quiet-below (m .result - 1) i ws rc (omega arith) (z .pre .1 .1),
-        subst (Small (m .result - 1) ps) (sym (c .word .ensures)) (small-below (m .result - 1) i ps _ (omega arith) (z .pre .1 .0 .word (m .result - 1) (m .result - 1) (omega arith) (omega arith))),
-        c .before .before .before .product .ensures .small,
-      ),
-    )
-
-product-stacked-requires-2 : (t : ℕ) → product-lts.Need-stacked-requires-2 (product-claims t) (product-at t) product.Post
-product-stacked-requires-2 t c κs =
-    let z = c .before .before .before .before .before .before .before .before in
-    let ps = now (z .args .primes) in
-    let ws = now (z .args .words) in
-    let rc = now (z .args .reach) in
-    let i = z .args .i in
-    let x = z .args .t5 in
-    let y = z .args .t6 in
-    let m = c .before .before .before .before .before .before .before .top in
-    let mi : m .result ≤ i = m .ensures .less in
-    let few : i ≤ 12 = z .pre .1 .0 .few in
-    let pos : 0 < m .result = omega (arith, c .before .before .before .before .before .before .if1 .left) in
-    omega arith
-
-product-returns-3 : (t : ℕ) → product-lts.Need-returns-3 (product-claims t) (product-at t) product.Post
-product-returns-3 t c =
-    let z = c .before .before .before .before .before .before .before .before .before in
-    let ps = now (z .args .primes) in
-    let ws = now (z .args .words) in
-    let rc = now (z .args .reach) in
-    let i = z .args .i in
-    let x = z .args .t5 in
-    let y = z .args .t6 in
-    let m = c .before .before .before .before .before .before .before .before .top in
-    let mi : m .result ≤ i = m .ensures .less in
-    let few : i ≤ 12 = z .pre .1 .0 .few in
-    let pos : 0 < m .result = omega (arith, c .before .before .before .before .before .before .before .if1 .left) in
-    let t = c .before .before .before .before .before .before .turned in
-    let q = c .before .before .before .before .before .product in
-    let u = c .before .before .word in
-    let v = c .before .product2 in
-    product-high-at i (m .result) ps ws x y (t .result) (q .result) pos (m .ensures) (z .pre .1 .2) (t .ensures) (q .ensures) (u .result) (v .result) (c .stacked2 .result) (u .ensures) (v .ensures) (c .stacked2 .ensures)
-    (c .before .before .before .if2 .left) (z .pre .1 .3)
+    let k = z .args .k in
+    let x = now (z .args .x) in
+    let t = c .before .before .turned in
+    let r = c .copied .last .1 .1 .0 in
+    (turned-same k (z .args .b) ps ws x (t .result) r (c .copied .ensures .below) (t .ensures), mixed-kept (t .result) x k r (c .copied .ensures))
 
 abbrev turned-Inv-loop : turned-lts.InvT-loop
 turned-Inv-loop primes words reach i x b c₀ n₀ left₀ c n left = Turning i b primes words x c n left
@@ -818,9 +1028,27 @@ turned-returns-2 t c =
     let over : l .left ≡ 0 = omega arith in
     turned-done i (z .args .b) ps ws x (l .c) (l .n) (l .left) over (l .inv)
 
-pub +conjugate+image+power+product+turned-spec : {M : Type 1} → statement M
-+conjugate+image+power+product+turned-spec =
-    close μ-conjugate μ-image μ-power μ-product μ-turned (λ t. conjugate-lts.spec (conjugate-claims t)
+pub +carry+conjugate+image+multiply+power+product+turn+turned-spec : {M : Type 1} → statement M
++carry+conjugate+image+multiply+power+product+turn+turned-spec =
+    close
+    μ-carry
+    μ-conjugate
+    μ-image
+    μ-multiply
+    μ-power
+    μ-product
+    μ-turn
+    μ-turned
+    (λ t. carry-lts.spec (carry-claims t)
+    (carry-at t)
+    carry.Post
+    (carry-word-requires t)
+    (carry-top-requires t)
+    (carry-returns t)
+    (carry-product-requires t)
+    (carry-copied-requires t)
+    (carry-returns-2 t))
+    (λ t. conjugate-lts.spec (conjugate-claims t)
     (conjugate-at t)
     conjugate.Post
     (conjugate-moved-requires t)
@@ -838,8 +1066,7 @@ pub +conjugate+image+power+product+turned-spec : {M : Type 1} → statement M
     (conjugate-array-read-stacked t)
     (conjugate-stacked-requires t)
     (conjugate-returns-2 t))
-    (λ t. image-lts.spec
-    (word-reads.Asked, word-reads.Learnt, product-below t, product.Post)
+    (λ t. image-lts.spec (image-claims t)
     (image-at t)
     image.Post
     (image-word-requires t)
@@ -856,6 +1083,28 @@ pub +conjugate+image+power+product+turned-spec : {M : Type 1} → statement M
     (image-mul-v t)
     (image-array-write-v t)
     (image-returns-2 t))
+    (λ t. multiply-lts.spec (multiply-claims t)
+    (multiply-at t)
+    multiply.Post
+    (multiply-top-requires t)
+    (multiply-returns t)
+    (multiply-sub-k t)
+    (multiply-mul-b t)
+    (multiply-element-copy-out-b t)
+    (multiply-turn-requires t)
+    (multiply-multiply-requires t)
+    (multiply-mul-s t)
+    (multiply-element-copy-out-s t)
+    (multiply-add-s t)
+    (multiply-mul-p t)
+    (multiply-element-copy-out-p t)
+    (multiply-mul-x t)
+    (multiply-element-write-x t)
+    (multiply-returns-2 t)
+    (multiply-carry-requires t)
+    (multiply-mul-x-2 t)
+    (multiply-element-write-x-2 t)
+    (multiply-returns-3 t))
     (λ t. power-lts.spec (power-claims t)
     (power-at t)
     power.Post
@@ -863,6 +1112,8 @@ pub +conjugate+image+power+product+turned-spec : {M : Type 1} → statement M
     power-μ-loop
     (power-returns t)
     (power-top-requires t)
+    (power-alone-requires t)
+    (power-sub-multiple t)
     (power-multiple-requires t)
     (power-returns-2 t)
     (power-loop-holds t)
@@ -874,26 +1125,18 @@ pub +conjugate+image+power+product+turned-spec : {M : Type 1} → statement M
     (λ t. product-lts.spec (product-claims t)
     (product-at t)
     product.Post
-    (product-top-requires t)
-    (product-returns t)
-    (product-sub-k t)
-    (product-mul-b t)
-    (product-array-read-b t)
-    (product-turned-requires t)
-    (product-product-requires t)
-    (product-mul-s t)
-    (product-array-read-s t)
-    (product-add-s t)
-    (product-mul-p t)
-    (product-element-copy-out-p t)
-    (product-stacked-requires t)
-    (product-returns-2 t)
-    (product-word-requires t)
-    (product-product-requires-2 t)
-    (product-stacked-requires-2 t)
-    (product-returns-3 t))
-    λ t. turned-lts.spec
-    (conjugate-below t, conjugate.Post, remaining-reads.Asked, remaining-reads.Learnt)
+    (product-multiply-requires t)
+    (product-returns t))
+    (λ t. turn-lts.spec (turn-claims t)
+    (turn-at t)
+    turn.Post
+    (turn-mul-if1 t)
+    (turn-element-copy-out-if1 t)
+    (turn-returns t)
+    (turn-turned-requires t)
+    (turn-copied-requires t)
+    (turn-returns-2 t))
+    λ t. turned-lts.spec (turned-claims t)
     (turned-at t)
     turned.Post
     turned-Inv-loop
