@@ -192,18 +192,18 @@ pub fn small_level(words: &mut [u32], rows: &[[u32; 12]; 78], f: Frame) -> Writt
     )
 }
 
-// The same with arrays of 512 words.
+// The same with arrays of 528 words.
 pub fn middle_level(words: &mut [u32], rows: &[[u32; 12]; 78], f: Frame) -> Written
     requires { ⌜ Sound f (take (8 * f .end) (now words)) (now rows) × (8 * f .end + length (levelWords (f .gens) (suc (f .top)) (levelBy (sourceIn f (take (8 * f .end) (now words)) (now rows)))) ≤ length (now words)) × (f .reps ≤ 512) × (f .p ≤ 512) ⌝ }
     ensures { λ t. ⌜ Wrote (now (words .entry)) (8 * f .end) (levelWords (f .gens) (suc (f .top)) (levelBy (sourceIn f (take (8 * f .end) (now (words .entry))) (now (rows .entry))))) (now (words .exit)) (8 * t .end) × (t .reps ≡ numberIn f (take (8 * f .end) (now (words .entry))) (f .reps)) ⌝ }
 {
-    let mut first = [0u32; 512];
-    let mut leaders = [0u32; 512];
-    let mut places = [0u32; 512];
-    let mut numbers = [0u32; 512];
-    let mut shifts = [0u32; 512];
-    let mut orbit = [0u32; 512];
-    let mut c = [0u32; 512];
+    let mut first = [0u32; 528];
+    let mut leaders = [0u32; 528];
+    let mut places = [0u32; 528];
+    let mut numbers = [0u32; 528];
+    let mut shifts = [0u32; 528];
+    let mut orbit = [0u32; 528];
+    let mut c = [0u32; 528];
     level_in(
         words,
         rows,
@@ -218,18 +218,19 @@ pub fn middle_level(words: &mut [u32], rows: &[[u32; 12]; 78], f: Frame) -> Writ
     )
 }
 
-// The same with arrays of 4096 words, which suffice for every level.
+// The same with arrays of 4112 words, which suffice for every level. Sixteen more than its representations, so that no two
+// arrays lie whole pages apart.
 pub fn large_level(words: &mut [u32], rows: &[[u32; 12]; 78], f: Frame) -> Written
     requires { ⌜ Sound f (take (8 * f .end) (now words)) (now rows) × (8 * f .end + length (levelWords (f .gens) (suc (f .top)) (levelBy (sourceIn f (take (8 * f .end) (now words)) (now rows)))) ≤ length (now words)) ⌝ }
     ensures { λ t. ⌜ Wrote (now (words .entry)) (8 * f .end) (levelWords (f .gens) (suc (f .top)) (levelBy (sourceIn f (take (8 * f .end) (now (words .entry))) (now (rows .entry))))) (now (words .exit)) (8 * t .end) × (t .reps ≡ numberIn f (take (8 * f .end) (now (words .entry))) (f .reps)) ⌝ }
 {
-    let mut first = [0u32; 4096];
-    let mut leaders = [0u32; 4096];
-    let mut places = [0u32; 4096];
-    let mut numbers = [0u32; 4096];
-    let mut shifts = [0u32; 4096];
-    let mut orbit = [0u32; 4096];
-    let mut c = [0u32; 4096];
+    let mut first = [0u32; 4112];
+    let mut leaders = [0u32; 4112];
+    let mut places = [0u32; 4112];
+    let mut numbers = [0u32; 4112];
+    let mut shifts = [0u32; 4112];
+    let mut orbit = [0u32; 4112];
+    let mut c = [0u32; 4112];
     level_in(
         words,
         rows,
