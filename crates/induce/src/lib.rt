@@ -182,6 +182,30 @@ pub fn next_scalar(
     }
 }
 
+// The same behind block k along the generator on top, unless that is the last.
+pub fn scalar_behind(
+    low: &[u32],
+    first: &[u32],
+    rows: &[[u32; 12]; 78],
+    leaders: &[u32],
+    places: &[u32],
+    shifts: &[u32],
+    orbit: &[u32],
+    f: Frame,
+    j: u32,
+    r: u32,
+    k: u32,
+    s: Scaled,
+) -> Scaled
+    requires { ⌜ Inducing f (now low) (now rows) (now first) (now leaders) (now places) (now shifts) (now orbit) r × (f .top < j) × (j < f .gens) × (k < f .p) × (s .block < f .p) × (s .exp < f .m) ⌝ }
+    ensures { λ t. ⌜ (suc k < f .p → NextScalar f (now (low .entry)) (now (rows .entry)) j r s t) × (t .block < f .p) × (t .exp < f .m) ⌝ }
+{
+    if k + 1 < f.p {
+        return next_scalar(low, first, rows, leaders, places, shifts, orbit, f, j, r, s);
+    }
+    s
+}
+
 // Fills an array with the scalars of the blocks for generator j, from block 0 along the generator on top.
 pub fn scalars(
     low: &[u32],
@@ -203,7 +227,20 @@ pub fn scalars(
     let p = f.p;
     for k in 0..p {
         survey::store(c, s.block, s.exp);
-        s = next_scalar(low, first, rows, leaders, places, shifts, orbit, f, j, r, s);
+        s = scalar_behind(
+            low,
+            first,
+            rows,
+            leaders,
+            places,
+            shifts,
+            orbit,
+            f,
+            j,
+            r,
+            k,
+            s,
+        );
     }
 }
 
