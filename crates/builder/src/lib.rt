@@ -166,18 +166,18 @@ pub fn level_in(
     }
 }
 
-// The same with arrays of 32 words.
-pub fn small_level(words: &mut [u32], rows: &[[u32; 12]; 78], f: Frame) -> Written
-    requires { ⌜ Sound f (take (8 * f .end) (now words)) (now rows) × (8 * f .end + length (levelWords (f .gens) (suc (f .top)) (levelBy (sourceIn f (take (8 * f .end) (now words)) (now rows)))) ≤ length (now words)) × (f .reps ≤ 32) × (f .p ≤ 32) ⌝ }
+// The same with arrays of 16 words.
+pub fn tiny_level(words: &mut [u32], rows: &[[u32; 12]; 78], f: Frame) -> Written
+    requires { ⌜ Sound f (take (8 * f .end) (now words)) (now rows) × (8 * f .end + length (levelWords (f .gens) (suc (f .top)) (levelBy (sourceIn f (take (8 * f .end) (now words)) (now rows)))) ≤ length (now words)) × (f .reps ≤ 16) × (f .p ≤ 16) ⌝ }
     ensures { λ t. ⌜ Wrote (now (words .entry)) (8 * f .end) (levelWords (f .gens) (suc (f .top)) (levelBy (sourceIn f (take (8 * f .end) (now (words .entry))) (now (rows .entry))))) (now (words .exit)) (8 * t .end) × (t .reps ≡ numberIn f (take (8 * f .end) (now (words .entry))) (f .reps)) ⌝ }
 {
-    let mut first = [0u32; 32];
-    let mut leaders = [0u32; 32];
-    let mut places = [0u32; 32];
-    let mut numbers = [0u32; 32];
-    let mut shifts = [0u32; 32];
-    let mut orbit = [0u32; 32];
-    let mut c = [0u32; 32];
+    let mut first = [0u32; 16];
+    let mut leaders = [0u32; 16];
+    let mut places = [0u32; 16];
+    let mut numbers = [0u32; 16];
+    let mut shifts = [0u32; 16];
+    let mut orbit = [0u32; 16];
+    let mut c = [0u32; 16];
     level_in(
         words,
         rows,
@@ -192,18 +192,44 @@ pub fn small_level(words: &mut [u32], rows: &[[u32; 12]; 78], f: Frame) -> Writt
     )
 }
 
-// The same with arrays of 512 words.
+// The same with arrays of 80 words.
+pub fn small_level(words: &mut [u32], rows: &[[u32; 12]; 78], f: Frame) -> Written
+    requires { ⌜ Sound f (take (8 * f .end) (now words)) (now rows) × (8 * f .end + length (levelWords (f .gens) (suc (f .top)) (levelBy (sourceIn f (take (8 * f .end) (now words)) (now rows)))) ≤ length (now words)) × (f .reps ≤ 64) × (f .p ≤ 64) ⌝ }
+    ensures { λ t. ⌜ Wrote (now (words .entry)) (8 * f .end) (levelWords (f .gens) (suc (f .top)) (levelBy (sourceIn f (take (8 * f .end) (now (words .entry))) (now (rows .entry))))) (now (words .exit)) (8 * t .end) × (t .reps ≡ numberIn f (take (8 * f .end) (now (words .entry))) (f .reps)) ⌝ }
+{
+    let mut first = [0u32; 80];
+    let mut leaders = [0u32; 80];
+    let mut places = [0u32; 80];
+    let mut numbers = [0u32; 80];
+    let mut shifts = [0u32; 80];
+    let mut orbit = [0u32; 80];
+    let mut c = [0u32; 80];
+    level_in(
+        words,
+        rows,
+        &mut first,
+        &mut leaders,
+        &mut places,
+        &mut numbers,
+        &mut shifts,
+        &mut orbit,
+        &mut c,
+        f,
+    )
+}
+
+// The same with arrays of 528 words.
 pub fn middle_level(words: &mut [u32], rows: &[[u32; 12]; 78], f: Frame) -> Written
     requires { ⌜ Sound f (take (8 * f .end) (now words)) (now rows) × (8 * f .end + length (levelWords (f .gens) (suc (f .top)) (levelBy (sourceIn f (take (8 * f .end) (now words)) (now rows)))) ≤ length (now words)) × (f .reps ≤ 512) × (f .p ≤ 512) ⌝ }
     ensures { λ t. ⌜ Wrote (now (words .entry)) (8 * f .end) (levelWords (f .gens) (suc (f .top)) (levelBy (sourceIn f (take (8 * f .end) (now (words .entry))) (now (rows .entry))))) (now (words .exit)) (8 * t .end) × (t .reps ≡ numberIn f (take (8 * f .end) (now (words .entry))) (f .reps)) ⌝ }
 {
-    let mut first = [0u32; 512];
-    let mut leaders = [0u32; 512];
-    let mut places = [0u32; 512];
-    let mut numbers = [0u32; 512];
-    let mut shifts = [0u32; 512];
-    let mut orbit = [0u32; 512];
-    let mut c = [0u32; 512];
+    let mut first = [0u32; 528];
+    let mut leaders = [0u32; 528];
+    let mut places = [0u32; 528];
+    let mut numbers = [0u32; 528];
+    let mut shifts = [0u32; 528];
+    let mut orbit = [0u32; 528];
+    let mut c = [0u32; 528];
     level_in(
         words,
         rows,
@@ -218,18 +244,19 @@ pub fn middle_level(words: &mut [u32], rows: &[[u32; 12]; 78], f: Frame) -> Writ
     )
 }
 
-// The same with arrays of 4096 words, which suffice for every level.
+// The same with arrays of 4112 words, which suffice for every level. Sixteen more than its representations, so that no two
+// arrays lie whole pages apart.
 pub fn large_level(words: &mut [u32], rows: &[[u32; 12]; 78], f: Frame) -> Written
     requires { ⌜ Sound f (take (8 * f .end) (now words)) (now rows) × (8 * f .end + length (levelWords (f .gens) (suc (f .top)) (levelBy (sourceIn f (take (8 * f .end) (now words)) (now rows)))) ≤ length (now words)) ⌝ }
     ensures { λ t. ⌜ Wrote (now (words .entry)) (8 * f .end) (levelWords (f .gens) (suc (f .top)) (levelBy (sourceIn f (take (8 * f .end) (now (words .entry))) (now (rows .entry))))) (now (words .exit)) (8 * t .end) × (t .reps ≡ numberIn f (take (8 * f .end) (now (words .entry))) (f .reps)) ⌝ }
 {
-    let mut first = [0u32; 4096];
-    let mut leaders = [0u32; 4096];
-    let mut places = [0u32; 4096];
-    let mut numbers = [0u32; 4096];
-    let mut shifts = [0u32; 4096];
-    let mut orbit = [0u32; 4096];
-    let mut c = [0u32; 4096];
+    let mut first = [0u32; 4112];
+    let mut leaders = [0u32; 4112];
+    let mut places = [0u32; 4112];
+    let mut numbers = [0u32; 4112];
+    let mut shifts = [0u32; 4112];
+    let mut orbit = [0u32; 4112];
+    let mut c = [0u32; 4112];
     level_in(
         words,
         rows,
@@ -249,8 +276,13 @@ pub fn next_level(words: &mut [u32], rows: &[[u32; 12]; 78], f: Frame) -> Writte
     requires { ⌜ Sound f (take (8 * f .end) (now words)) (now rows) × (8 * f .end + length (levelWords (f .gens) (suc (f .top)) (levelBy (sourceIn f (take (8 * f .end) (now words)) (now rows)))) ≤ length (now words)) ⌝ }
     ensures { λ t. ⌜ Wrote (now (words .entry)) (8 * f .end) (levelWords (f .gens) (suc (f .top)) (levelBy (sourceIn f (take (8 * f .end) (now (words .entry))) (now (rows .entry))))) (now (words .exit)) (8 * t .end) × (t .reps ≡ numberIn f (take (8 * f .end) (now (words .entry))) (f .reps)) ⌝ }
 {
-    if f.reps <= 32 {
-        if f.p <= 32 {
+    if f.reps <= 16 {
+        if f.p <= 16 {
+            return tiny_level(words, rows, f);
+        }
+    }
+    if f.reps <= 64 {
+        if f.p <= 64 {
             return small_level(words, rows, f);
         }
     }

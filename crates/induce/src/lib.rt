@@ -31,11 +31,12 @@ pub fn list_orbit(low: &[u32], first: &[u32], orbit: &mut [u32], f: Frame, r: u3
     requires { ⌜ Stands f (now low) × Lines f (now low) (now first) × (r < f .reps) × (f .p ≤ length (now orbit)) ⌝ }
     ensures { λ _. ⌜ OrbitArray f (now (low .entry)) (now (orbit .exit)) r ⌝ }
 {
+    let d = survey::degree(low, first, f, r);
     let mut q = r;
     let p = f.p;
     for k in 0..p {
         survey::store(orbit, k, q);
-        q = survey::target(low, first, f, f.top, q);
+        q = survey::next_of(low, first, f, d, q);
     }
 }
 
@@ -181,6 +182,30 @@ pub fn next_scalar(
     }
 }
 
+// The same behind block k along the generator on top, unless that is the last.
+pub fn scalar_behind(
+    low: &[u32],
+    first: &[u32],
+    rows: &[[u32; 12]; 78],
+    leaders: &[u32],
+    places: &[u32],
+    shifts: &[u32],
+    orbit: &[u32],
+    f: Frame,
+    j: u32,
+    r: u32,
+    k: u32,
+    s: Scaled,
+) -> Scaled
+    requires { ⌜ Inducing f (now low) (now rows) (now first) (now leaders) (now places) (now shifts) (now orbit) r × (f .top < j) × (j < f .gens) × (k < f .p) × (s .block < f .p) × (s .exp < f .m) ⌝ }
+    ensures { λ t. ⌜ (suc k < f .p → NextScalar f (now (low .entry)) (now (rows .entry)) j r s t) × (t .block < f .p) × (t .exp < f .m) ⌝ }
+{
+    if k + 1 < f.p {
+        return next_scalar(low, first, rows, leaders, places, shifts, orbit, f, j, r, s);
+    }
+    s
+}
+
 // Fills an array with the scalars of the blocks for generator j, from block 0 along the generator on top.
 pub fn scalars(
     low: &[u32],
@@ -202,7 +227,20 @@ pub fn scalars(
     let p = f.p;
     for k in 0..p {
         survey::store(c, s.block, s.exp);
-        s = next_scalar(low, first, rows, leaders, places, shifts, orbit, f, j, r, s);
+        s = scalar_behind(
+            low,
+            first,
+            rows,
+            leaders,
+            places,
+            shifts,
+            orbit,
+            f,
+            j,
+            r,
+            k,
+            s,
+        );
     }
 }
 
@@ -271,19 +309,19 @@ pub fn append_part(
     at: usize,
     rep: u32,
     r: u32,
+    d: u32,
     g: u32,
     b: u32,
     t: u32,
     c: u32,
     x: u32,
 ) -> usize
-    requires { ⌜ Stands f (take (8 * f .end) (now words)) × Lines f (take (8 * f .end) (now words)) (now first) × (r < f .reps) × OrbitArray f (take (8 * f .end) (now words)) (now orbit) r × (g < f .gens) × (b < f .p) × (t < f .p) × (c < f .m) × (f .end ≤ at) × (8 * at + 8 * degOf f (take (8 * f .end) (now words)) r ≤ length (now words)) ⌝ }
+    requires { ⌜ Stands f (take (8 * f .end) (now words)) × Lines f (take (8 * f .end) (now words)) (now first) × (r < f .reps) × (d ≡ degOf f (take (8 * f .end) (now words)) r) × OrbitArray f (take (8 * f .end) (now words)) (now orbit) r × (g < f .gens) × (b < f .p) × (t < f .p) × (c < f .m) × (f .end ≤ at) × (8 * at + 8 * degOf f (take (8 * f .end) (now words)) r ≤ length (now words)) ⌝ }
     ensures { λ y. ⌜ Wrote (now (words .entry)) (8 * at) (partWords f (take (8 * f .end) (now (words .entry))) rep r g b t c x) (now (words .exit)) (8 * y) ⌝ }
 {
-    let n = 8 * f.end;
     let q = survey::element(orbit, b);
-    let src = survey::matrix_line(&words[..n], first, f, g, q);
-    let d = survey::degree(&words[..n], first, f, q);
+    let l = survey::element(first, q);
+    let src = survey::line_of(lines::up(l), g, d);
     let h = Head {
         level: f.top + 1,
         rep: rep,
@@ -291,6 +329,9 @@ pub fn append_part(
         generator: g + 1,
         refn: x,
     };
+    if d == 1 {
+        return lines::append_line(words, f.end, at, h, b, t, src, c, f.m);
+    }
     lines::append_block(words, f.end, at, h, b * d, t * d, src, d, c, f.m)
 }
 
@@ -313,13 +354,14 @@ pub fn append_generator(
     ensures { λ y. ⌜ Wrote (now (words .entry)) (8 * at) (blocks (f .p) (partsIn f (take (8 * f .end) (now (words .entry))) (now (orbit .entry)) (now (shifts .entry)) (now (scalars .entry)) x rep r g)) (now (words .exit)) (8 * y) ⌝ }
 {
     let n = 8 * f.end;
+    let d = survey::degree(&words[..n], first, f, r);
     let mut pos = at;
     let p = f.p;
     for b in 0..p {
         let t = block_to(&words[..n], first, places, orbit, f, r, g, b);
         let c = block_by(shifts, scalars, f, r, g, b);
         let y = block_reference(orbit, f, g, b, x);
-        pos = append_part(words, first, orbit, f, pos, rep, r, g, b, t, c, y);
+        pos = append_part(words, first, orbit, f, pos, rep, r, d, g, b, t, c, y);
     }
     pos
 }

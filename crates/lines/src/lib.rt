@@ -90,7 +90,7 @@ pub fn apply_times(words: &[u32], at: usize, d: u32, k: u32, x: Entry, m: u32) -
 }
 
 // The value of the word w on its first n generators, whose matrices of degree d stand one behind the other from line `at`.
-pub fn apply_word(
+pub fn walk_word(
     words: &[u32],
     at: usize,
     d: u32,
@@ -110,6 +110,54 @@ pub fn apply_word(
         g += up(d);
     }
     r
+}
+
+// A matrix of degree 1, k times: e is the exponent of the root.
+pub fn single_times(words: &[u32], at: usize, k: u32, e: u32, m: u32) -> u32
+    requires { ⌜ Holds m (now words) at 1 × (e < m) ⌝ }
+    ensures { λ r. ⌜ (entry 0 r ≡ iter (act m (matrixIn (now (words .entry)) at 1)) k (entry 0 e)) × (r < m) ⌝ }
+{
+    let mut y = e;
+    for i in 0..k {
+        let z = apply(words, at, 1, Entry { row: 0, exp: y }, m);
+        y = z.exp;
+    }
+    y
+}
+
+// The value of the word w on its first n generators, of degree 1.
+pub fn single_word(words: &[u32], at: usize, w: &[u32; 12], n: usize, e: u32, m: u32) -> u32
+    requires { ⌜ (n ≤ 12) × ((k : ℕ) → k < n → Holds m (now words) (at + k * 1) 1) × (e < m) ⌝ }
+    ensures { λ r. ⌜ (entry 0 r ≡ walk m (λ (k : ℕ). matrixIn (now (words .entry)) (at + k * 1) 1) n (toNF n (now (w .entry))) (entry 0 e)) × (r < m) ⌝ }
+{
+    let mut y = e;
+    for k in 0..n {
+        y = single_times(words, at + k, w[k], y, m);
+    }
+    y
+}
+
+// The same, by exponents alone where the degree is 1.
+pub fn apply_word(
+    words: &[u32],
+    at: usize,
+    d: u32,
+    w: &[u32; 12],
+    n: usize,
+    x: Entry,
+    m: u32,
+) -> Entry
+    requires { ⌜ (n ≤ 12) × ((k : ℕ) → k < n → Holds m (now words) (at + k * d) d) ⌝ }
+    requires { ⌜ Below m d x ⌝ }
+    ensures { λ r. ⌜ (r ≡ walk m (λ (k : ℕ). matrixIn (now (words .entry)) (at + k * d) d) n (toNF n (now (w .entry))) x) × Below m d r ⌝ }
+{
+    if d == 1 {
+        return Entry {
+            row: 0,
+            exp: single_word(words, at, w, n, x.exp, m),
+        };
+    }
+    walk_word(words, at, d, w, n, x, m)
 }
 
 // What the lines of one matrix share.

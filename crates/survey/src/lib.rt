@@ -64,6 +64,16 @@ pub fn target(low: &[u32], first: &[u32], f: Frame, j: u32, r: u32) -> u32
     lines::word_at(low, at, 4)
 }
 
+// Where the generator on top leads representation r of degree d.
+pub fn next_of(low: &[u32], first: &[u32], f: Frame, d: u32, r: u32) -> u32
+    requires { ⌜ Stands f (now low) × Lines f (now low) (now first) × (r < f .reps) × (d ≡ degOf f (now low) r) ⌝ }
+    ensures { λ x. ⌜ (x ≡ targetOf f (now (low .entry)) (f .top) r) × (x < f .reps) × (d ≡ degOf f (now (low .entry)) x) ⌝ }
+{
+    let l = element(first, r);
+    let at = line_of(lines::up(l), f.top, d);
+    lines::word_at(low, at, 4)
+}
+
 // The line behind representation r, which begins at line s.
 pub fn next_line(low: &[u32], f: Frame, r: u32, s: usize) -> usize
     requires { ⌜ Stands f (now low) × (r < f .reps) × (s ≡ firstOf f (now low) r) ⌝ }
@@ -118,11 +128,12 @@ pub fn mark_orbit(
     requires { ⌜ MarkedTo f (now low) (now leaders) (now places) r 0 ⌝ }
     ensures { λ _. ⌜ MarkedTo f (now (low .entry)) (now (leaders .exit)) (now (places .exit)) r (f .p) × (length (now (leaders .exit)) ≡ length (now (leaders .entry))) × (length (now (places .exit)) ≡ length (now (places .entry))) ⌝ }
 {
+    let d = degree(low, first, f, r);
     let mut q = r;
     let p = f.p;
     for k in 0..p {
         mark(leaders, places, f.reps, r, q, k);
-        q = target(low, first, f, f.top, q);
+        q = next_of(low, first, f, d, q);
     }
 }
 
@@ -212,7 +223,8 @@ pub fn carry(low: &[u32], first: &[u32], f: Frame, d: u32, s: Carried) -> Carrie
     ensures { λ t. ⌜ Turned f (now (low .entry)) d s t ⌝ }
 {
     let rep = s.rep;
-    let at = matrix_line(low, first, f, f.top, rep);
+    let l = element(first, rep);
+    let at = line_of(lines::up(l), f.top, d);
     Carried {
         rep: lines::word_at(low, at, 4),
         x: lines::apply(low, at, d, s.x, f.m),

@@ -1,4 +1,4 @@
--- `middle_level` makes arrays of 512 words.
+-- `middle_level` makes arrays of 528 words.
 use native.Mathlib.Omega.{arith}
 use borrow.Author.Needs.{needs}
 use Rattle.builder.proofs.middle_level.Statement.{statement}

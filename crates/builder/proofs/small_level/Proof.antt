@@ -1,4 +1,4 @@
--- `small_level` makes arrays of 32 words.
+-- `small_level` makes arrays of 80 words.
 use native.Mathlib.Omega.{arith}
 use borrow.Author.Needs.{needs}
 use Rattle.builder.proofs.small_level.Statement.{statement}
