@@ -2,9 +2,10 @@
 // `answer` and a line with the number of the refusal.
 use chieftables::counted::Counted;
 use libc::STDOUT_FILENO;
+ghost use Prim.Native.Nat.{_≤_};
 ghost use lib.ListN.{length, take};
 ghost use Rattle.io.specs.Counts.{Counts};
-ghost use Rattle.reptable.specs.Tabulated.{Tabulated};
+ghost use Rattle.reptable.specs.Tabulated.{room, Tabulated};
 
 // Bytes of a presentation text, at most.
 const TEXT: usize = 4096;
@@ -15,9 +16,11 @@ const WORDS: usize = 8192;
 // Bytes of the text of so many lines, at most: 34 for the line of names, and for a line 80, eight values of nine digits.
 const ROOM: usize = 34 + 80 * (WORDS / 8);
 
-// Writes the text of the table that a presentation text asks for: the number of a refusal, or 0 and the count of bytes.
+// Writes the text of the table that a presentation text asks for: the number of the build's refusal, or 0 and the count
+// of bytes. Every table that is built finds room.
 fn tabulate(text: &[u8], out: &mut [u8]) -> Counted
-    ensures { λ r. ⌜ Tabulated (now (text .entry)) (length (now (out .entry))) (r .answer) (take (r .count) (now (out .exit))) ⌝ }
+    requires { ⌜ room ≤ length (now out) ⌝ }
+    ensures { λ r. ⌜ Tabulated (now (text .entry)) (r .answer) (take (r .count) (now (out .exit))) ⌝ }
     ensures { λ r. ⌜ Counts (r .count) (now (out .exit)) ⌝ }
 {
     let mut words = [0u32; WORDS];

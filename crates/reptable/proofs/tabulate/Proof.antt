@@ -2,7 +2,7 @@
 use mathlib.Core.Path.{sym}
 use Prim.Native.Nat.{ℕ}
 use native.Mathlib.Omega.{arith}
-use lib.ListN.{length, length-replicate}
+use lib.ListN.{length-replicate}
 use lib.Seq.{length-take-le}
 use borrow.Author.Needs.{needs}
 use Rattle.reptable.proofs.Calls.{lines-within, refused, written}
@@ -18,7 +18,7 @@ build-requires c κs = search needs
 returns : tie.Need-returns
 returns c =
     let z = c .before .before .before .before .before .before .before in
-    refused (length (z .args .out .now)) (z .args .out .now) (length-replicate {0} {A = ℕ} 8192 0) (c .if1 .taken) (c .before .before .before .build .ensures)
+    refused (z .args .out .now) (length-replicate {0} {A = ℕ} 8192 0) (c .if1 .taken) (c .before .before .before .build .ensures)
 
 mul-words : tie.Need-mul-words
 mul-words c = omega (arith, lines-within (c .if1 .left) (c .before .before .before .build .ensures))
@@ -39,7 +39,8 @@ returns-2 : tie.Need-returns-2
 returns-2 c =
     let w = c .before .before in
     let e = w .before .before .before in
-    written (length-replicate {0} {A = ℕ} 8192 0) (e .if1 .left) (e .before .before .before .build .ensures) (w .write-table .ensures)
+    let z = e .before .before .before .before .before .before .before in
+    written (length-replicate {0} {A = ℕ} 8192 0) (z .pre) (e .if1 .left) (e .before .before .before .build .ensures) (w .write-table .ensures)
 
 pub tabulate-spec : {M : Type 1} → statement M
 tabulate-spec =
