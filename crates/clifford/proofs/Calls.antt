@@ -1,6 +1,7 @@
 -- What a finished build leaves passes the check.
 --
 --   Unrefused, unrefused  none of 11 to 15 applies to a text
+--   primes, fits, words-used, consistent     so what it says has primes, is within the ceilings, uses words as allowed, and is consistent
 --   passes                the table of what it says passes the judgement
 --   passes-check          the check of their table answers 0
 --   built-checks          a finished build leaves words whose check answers 0
@@ -55,13 +56,16 @@ false-of false h = refl
 -- ---- Accepted relations
 
 module _ (t : Bytes) (U : Unrefused t) (R : Relations) (s : Says t R) where
-  primes : someNotPrime R ≡ false
+  pub primes : someNotPrime R ≡ false
   primes = false-of (someNotPrime R) (λ e. U .prime (R, s, e))
 
-  words-used : misused R ≡ false
+  pub fits : tooLarge R ≡ false
+  fits = false-of (tooLarge R) (λ e. U .small (R, s, e))
+
+  pub words-used : misused R ≡ false
   words-used = false-of (misused R) (λ e. U .used (R, s, e))
 
-  consistent : Consistent (presentation R)
+  pub consistent : Consistent (presentation R)
   consistent = go (decision R (s .formed) primes words-used)
     where
       go : Dec (Consistent (presentation R)) → Consistent (presentation R)
