@@ -1,6 +1,6 @@
 -- Where the lines of the first levels stand.
 --
---   rep-length, level-length   words of a representation, of a level
+--   level-length               words of a level
 --   upTo-length                words of levels 1 to k
 --   upTo-suc, upTo-all         one level more; all levels are the table
 --   startOf                    the line at which a representation begins
@@ -14,27 +14,22 @@ use lib.Arith.{digits-lt}
 use lib.ListN.{length, getD, List·getD-append}
 use Rattle.definitions.specs.Lists.{blocks, sum}
 use Rattle.definitions.specs.Presentation.{Presentation, order, lineWords}
-use Rattle.definitions.specs.Monomial.{Rep, Level, repOf}
+use Rattle.definitions.specs.Monomial.{Level, repOf}
 use Rattle.definitions.specs.Table.{lineOf, repWords, levelWords, wordAt}
 use Rattle.definitions.specs.Steps.{levels, tableWith, tableOf}
 use Rattle.numbers.proofs.Lists.{length-blocks, sum-mono}
 use Rattle.numbers.proofs.Sums.{sum-suc, sum-below, sum-mul}
-use Rattle.numbers.proofs.Blocks.{length-even, blocks-suc, blocks-split}
+use Rattle.numbers.proofs.Blocks.{blocks-suc, blocks-split}
+use Rattle.turns.proofs.Turns.{repWords-length}
 use Rattle.clifford.specs.Accepted.{Accepted}
 use Rattle.clifford.proofs.Standing.{standing, setting}
 use Rattle.clifford.proofs.Lines.{Written, table, levelLines, repLines, lineNumber, word-at}
 use Rattle.assembly.specs.Built.{upTo, linesTo, degreeIn}
 
-pub rep-length : (n i r : ℕ) (D : Rep) → length (repWords n i r D) ≡ 8 * (n * D .deg)
-unfolding repWords lineOf
-rep-length n i r D =
-    length-even (λ g. blocks (D .deg) (λ c. lineOf i r D g c)) (D .deg * 8) n (λ g l. length-even (λ c. lineOf i r D g c) 8 (D .deg) (λ c a. refl))
-    ∙ omega arith
-
 pub level-length : (n i : ℕ) (L : Level) → length (levelWords n i L) ≡ 8 * sum (length L) (λ r. n * repOf L r .deg)
 unfolding levelWords
 level-length n i L =
-    length-blocks (length L) (λ r. repWords n i r (repOf L r)) ∙ sum-below (length L) _ (λ r. 8 * (n * repOf L r .deg)) (λ r l. rep-length n i r (repOf L r))
+    length-blocks (length L) (λ r. repWords n i r (repOf L r)) ∙ sum-below (length L) _ (λ r. 8 * (n * repOf L r .deg)) (λ r l. repWords-length n i r (repOf L r))
     ∙ sum-mul (length L) 8 (λ r. n * repOf L r .deg)
 
 module _ (A : Accepted) where
