@@ -1,9 +1,10 @@
 -- The lines of an induced representation, block by block.
 --
 --   part-lines                 the lines that were written for a block
+--   stays                      those of a generator below the one on top
 --   part-is                    with the constants of the formulas they are the lines of the block
 --   generator-words, induction-words      the blocks of a generator, and the generators, one behind the other
---   generator-length, part-length, parts-length, induction-length      how many words
+--   generator-length, part-length, parts-length, stay-length, stays-length, induction-length      how many words
 use mathlib.Core.Path.{_≡_, refl, sym, ap, ap₂, _∙_, subst}
 use mathlib.Core.List.{List, [], _∷_}
 use Prim.Native.Nat.{ℕ, suc, _+_, _*_, _%_, _<_}
@@ -26,7 +27,8 @@ use Rattle.lines.proofs.Laws.{col-matrixIn}
 use Rattle.extend.proofs.Laws.{col-scale}
 use Rattle.survey.specs.declared.Frame.{Frame}
 use Rattle.survey.specs.Below.{degOf, targetOf, matrixOf, sourceIn, Stands}
-use Rattle.induce.specs.Inducing.{partWords, partsIn, blockWords, generatorWords}
+use Rattle.induce.specs.Inducing.{partWords, partsIn, staysIn, blockWords, generatorWords}
+use Rattle.induce.proofs.Cases.{to-low, by-low, reference-low}
 use Rattle.induce.proofs.Laws.{orbit-degree}
 
 pub part-lines : (f : Frame) (W : List ℕ) (h : Head) (rep r g b t c x co ro d src : ℕ)
@@ -116,6 +118,18 @@ module _ (f : Frame) (W orbit shifts scalars : List ℕ) (x rep r g : ℕ) where
 
   pub parts-length : length (blocks (f .p) (partsIn f W orbit shifts scalars x rep r g)) ≡ f .p * (8 * degOf f W r)
   parts-length = length-even (partsIn f W orbit shifts scalars x rep r g) (8 * degOf f W r) (f .p) (λ b l. part-length b)
+
+module _ (f : Frame) (W : List ℕ) (orbit : List ℕ) (rep r g : ℕ) where
+  pub stay-length : (b : ℕ) → length (staysIn f W orbit rep r g b) ≡ 8 * degOf f W r
+  unfolding staysIn partWords blockLines headLine
+  stay-length b = length-even _ 8 (degOf f W r) (λ c l. refl) ∙ omega arith
+
+  pub stays-length : length (blocks (f .p) (staysIn f W orbit rep r g)) ≡ f .p * (8 * degOf f W r)
+  stays-length = length-even (staysIn f W orbit rep r g) (8 * degOf f W r) (f .p) (λ b l. stay-length b)
+
+  pub stays : (shifts scalars : List ℕ) (x : ℕ) → g < f .top → blocks (f .p) (staysIn f W orbit rep r g) ≡ blocks (f .p) (partsIn f W orbit shifts scalars x rep r g)
+  unfolding staysIn partsIn
+  stays shifts scalars x h = blocks-below (f .p) _ _ (λ b l o. partWords f W rep r g b (to-low f W r g b h o) (by-low f shifts scalars r g b h o) (reference-low f orbit x g b (omega (arith, h)) o))
 
 module _ (f : Frame) (W : List ℕ) (rows : List (List ℕ)) (rep r : ℕ) where
   pub induction-words : repWords (f .gens) (suc (f .top)) rep (inductionAt (sourceIn f W rows) r) ≡ blocks (f .gens) (generatorWords f W rows rep r)

@@ -12,6 +12,7 @@
 --   Writing                    and what where one generator is
 --   factorIn, referenceIn      the constant of a block, and its reference
 --   partWords                  the words of a block with given constants
+--   staysIn, partsIn           those of a generator whose blocks stay, and of any generator
 --   blockWords, generatorWords the words of a block, and of a generator
 use mathlib.Core.Path.{_≡_}
 use mathlib.Core.List.{List, []}
@@ -137,6 +138,10 @@ unfoldable pub partWords : Frame → List ℕ → (rep r g b t c x : ℕ) → Li
 partWords f W rep r g b t c x =
     let d = degOf f W r in
     blockLines (f .m) (record { level = suc (f .top); rep = rep; deg = f .p * d; generator = suc g; refn = x }) (b * d) (t * d) c d W (matrixOf f W g (iter (targetOf f W (f .top)) b r))
+
+-- what the blocks of a generator below the one on top are written with
+unfoldable pub staysIn : Frame → List ℕ → (orbit : List ℕ) → (rep r g : ℕ) → ℕ → List ℕ
+staysIn f W orbit rep r g b = partWords f W rep r g b b 0 (getD orbit b 0)
 
 -- what a generator's blocks are written with
 unfoldable pub partsIn : Frame → List ℕ → (orbit shifts scalars : List ℕ) → (x rep r g : ℕ) → ℕ → List ℕ

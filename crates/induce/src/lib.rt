@@ -11,7 +11,7 @@ ghost use Rattle.definitions.specs.Monomial.{entry, act};
 ghost use Rattle.formulas.specs.Formulas.{shift, start, leader, cycleEntry, conjugateEntry, blockTo, inductionAt};
 ghost use Rattle.lines.specs.Lines.{Below};
 ghost use Rattle.survey.specs.Below.{degOf, targetOf, sourceIn, Stands, Lines};
-ghost use Rattle.induce.specs.Inducing.{OrbitArray, Inducing, BlockScalars, Held, Cycled, Righting, rightIn, NextScalar, Surveyed, Writing, factorIn, referenceIn, partWords, partsIn, generatorWords};
+ghost use Rattle.induce.specs.Inducing.{OrbitArray, Inducing, BlockScalars, Held, Cycled, Righting, rightIn, NextScalar, Surveyed, Writing, factorIn, referenceIn, partWords, partsIn, staysIn, generatorWords};
 ghost use Rattle.survey.specs.Below.{positionIn, leaderIn, Array};
 ghost use Rattle.text.specs.Writing.{Wrote};
 ghost use Rattle.definitions.specs.Table.{repWords};
@@ -335,7 +335,62 @@ pub fn append_part(
     lines::append_block(words, f.end, at, h, b * d, t * d, src, d, c, f.m)
 }
 
-// Appends generator g, block by block; x is the reference of the generators above the one on top.
+// Appends generator g, below the one on top, of the representation induced from r, numbered rep: each block stays.
+pub fn append_below(
+    words: &mut [u32],
+    first: &[u32],
+    orbit: &[u32],
+    f: Frame,
+    at: usize,
+    rep: u32,
+    r: u32,
+    d: u32,
+    g: u32,
+) -> usize
+    requires { ⌜ Stands f (take (8 * f .end) (now words)) × Lines f (take (8 * f .end) (now words)) (now first) × (r < f .reps) × (d ≡ degOf f (take (8 * f .end) (now words)) r) × OrbitArray f (take (8 * f .end) (now words)) (now orbit) r × (g < f .gens) × (f .end ≤ at) × (8 * at + f .p * (8 * degOf f (take (8 * f .end) (now words)) r) ≤ length (now words)) ⌝ }
+    ensures { λ y. ⌜ Wrote (now (words .entry)) (8 * at) (blocks (f .p) (staysIn f (take (8 * f .end) (now (words .entry))) (now (orbit .entry)) rep r g)) (now (words .exit)) (8 * y) ⌝ }
+{
+    let mut pos = at;
+    let p = f.p;
+    for b in 0..p {
+        let q = survey::element(orbit, b);
+        pos = append_part(words, first, orbit, f, pos, rep, r, d, g, b, b, 0, q);
+    }
+    pos
+}
+
+// The same for any generator, whose blocks may move; x is the reference of the generators above the one on top.
+pub fn append_blocks(
+    words: &mut [u32],
+    first: &[u32],
+    places: &[u32],
+    shifts: &[u32],
+    orbit: &[u32],
+    scalars: &[u32],
+    f: Frame,
+    at: usize,
+    rep: u32,
+    r: u32,
+    d: u32,
+    g: u32,
+    x: u32,
+) -> usize
+    requires { ⌜ Writing f (take (8 * f .end) (now words)) (now first) (now places) (now shifts) (now orbit) (now scalars) r g × (d ≡ degOf f (take (8 * f .end) (now words)) r) × (g < f .gens) × (f .end ≤ at) × (8 * at + f .p * (8 * degOf f (take (8 * f .end) (now words)) r) ≤ length (now words)) ⌝ }
+    ensures { λ y. ⌜ Wrote (now (words .entry)) (8 * at) (blocks (f .p) (partsIn f (take (8 * f .end) (now (words .entry))) (now (orbit .entry)) (now (shifts .entry)) (now (scalars .entry)) x rep r g)) (now (words .exit)) (8 * y) ⌝ }
+{
+    let n = 8 * f.end;
+    let mut pos = at;
+    let p = f.p;
+    for b in 0..p {
+        let t = block_to(&words[..n], first, places, orbit, f, r, g, b);
+        let c = block_by(shifts, scalars, f, r, g, b);
+        let y = block_reference(orbit, f, g, b, x);
+        pos = append_part(words, first, orbit, f, pos, rep, r, d, g, b, t, c, y);
+    }
+    pos
+}
+
+// Appends generator g; x is the reference of the generators above the one on top.
 pub fn append_generator(
     words: &mut [u32],
     first: &[u32],
@@ -355,15 +410,24 @@ pub fn append_generator(
 {
     let n = 8 * f.end;
     let d = survey::degree(&words[..n], first, f, r);
-    let mut pos = at;
-    let p = f.p;
-    for b in 0..p {
-        let t = block_to(&words[..n], first, places, orbit, f, r, g, b);
-        let c = block_by(shifts, scalars, f, r, g, b);
-        let y = block_reference(orbit, f, g, b, x);
-        pos = append_part(words, first, orbit, f, pos, rep, r, d, g, b, t, c, y);
+    if g < f.top {
+        return append_below(words, first, orbit, f, at, rep, r, d, g);
     }
-    pos
+    append_blocks(
+        words,
+        first,
+        places,
+        shifts,
+        orbit,
+        scalars,
+        f,
+        at,
+        rep,
+        r,
+        d,
+        g,
+        x,
+    )
 }
 
 // For a generator above the one on top, fills the array with its scalars.
