@@ -3,7 +3,8 @@
 --   block-at                  block t is t times 1 plus the exponent of the generator on top, modulo its prime
 --   unit-at                   which the prime does not divide, where something moves
 --   once-at, visits-at        so no block comes twice in p steps, and every block comes
---   visited                   the same in any frame that says so
+--   fixed-at                  what the generator on top fixes is led to what it fixes
+--   visited, fixing           the same in any frame that says so
 use mathlib.Core.Path.{_≡_, sym, _∙_, ap, subst}
 use mathlib.Core.List.{List, []}
 use Prim.Native.Nat.{ℕ, zero, suc, _*_, _%_, _<_, _∣_}
@@ -18,7 +19,7 @@ use Rattle.clifford.specs.Stands.{Rung}
 use Rattle.clifford.specs.Accepted.{Accepted}
 use Rattle.clifford.proofs.Standing.{rung}
 use Rattle.clifford.proofs.Numbering.{O}
-use Rattle.clifford.proofs.Next.{moved-unit}
+use Rattle.clifford.proofs.Next.{moved-unit, target-below, target-fixed}
 use Rattle.closed.proofs.Induced.{block-is}
 use Rattle.closed.proofs.Scalar.{leader-of}
 use Rattle.closed.proofs.Sources.{Twins, left, leader-same, block-same}
@@ -26,7 +27,7 @@ use Rattle.closed.proofs.Table.{rungs, twins}
 use Rattle.lines.specs.Lines.{matrixIn}
 use Rattle.survey.specs.declared.Frame.{Frame}
 use Rattle.induce.specs.Inducing.{Cycling}
-use Rattle.survey.specs.Below.{sourceIn, degOf, matrixOf, targetOf, leaderIn}
+use Rattle.survey.specs.Below.{sourceIn, degOf, matrixOf, targetOf, leaderIn, Fixing}
 use Rattle.assembly.specs.Built.{upTo, frameAt, Placed, Told}
 use Rattle.assembly.proofs.Words.{reads, target-of}
 use Rattle.assembly.proofs.Standing.{placed}
@@ -97,7 +98,26 @@ module _ (A : Accepted) (k : ℕ) (l : suc k < A .C .P .n) (rows : List (List �
     unfolding rung
     visits-at b a = let (t, c, e) = unit-onto (O R) (suc (P .w (suc k) j .0)) unit-at b a in (t, c, block-at t ∙ e)
 
+module _ (A : Accepted) (k : ℕ) (l : suc k < A .C .P .n) where
+  -- where generator j leads, as the steps say it
+  leads : (j r : ℕ) → r < length (levels (A .C .P) (order (A .C .P) (A .C .P .n)) (suc k)) → j < A .C .P .n → targetOf (frameAt A k) (upTo A (suc k)) j r ≡ rungs A (suc k) l .F .target j r
+  unfolding rung
+  leads j r h jn = target-of A k (omega arith) j r h jn ∙ sym (rungs A (suc k) l .literal j r)
+
+  pub fixed-at : (r : ℕ) → r < length (levels (A .C .P) (order (A .C .P) (A .C .P .n)) (suc k)) → targetOf (frameAt A k) (upTo A (suc k)) (suc k) r ≡ r → (j : ℕ) → suc k < j → j < A .C .P .n
+      → targetOf (frameAt A k) (upTo A (suc k)) (suc k) (targetOf (frameAt A k) (upTo A (suc k)) j r) ≡ targetOf (frameAt A k) (upTo A (suc k)) j r
+  unfolding rung
+  fixed-at r h e j ij jn =
+      let R = rungs A (suc k) l in
+      let t = leads j r h jn in
+      ap (targetOf (frameAt A k) (upTo A (suc k)) (suc k)) t ∙ leads (suc k) (R .F .target j r) (target-below R j ij jn r h) l
+      ∙ target-fixed R j ij jn r h (sym (leads (suc k) r h l) ∙ e) ∙ sym t
+
 -- ---- In any frame that says so
+
+pub fixing : (A : Accepted) (i : ℕ) (f : Frame) (W : List ℕ) → Placed A i f W → Fixing f W
+fixing A zero f W Q = absurd (omega (arith, Q .above))
+fixing A (suc k) f W Q = subst (λ f. Fixing f W) (sym (placed A k f W Q)) (subst (λ W. Fixing (frameAt A k) W) (sym (Q .words-are)) (record { stays = fixed-at A k (Q .below) }))
 
 pub visited : (A : Accepted) (i : ℕ) (f : Frame) (W : List ℕ) (rows : List (List ℕ)) → Placed A i f W → Told A i rows → Cycling f W rows
 visited A zero f W rows Q told = absurd (omega (arith, Q .above))

@@ -111,7 +111,7 @@ pub fn survey_level(
     let x = survey::count_numbers(low, first, leaders, numbers, f);
     let t = lines::up(f.top);
     let u = rows::word(rows, t, t);
-    survey::find_shifts(low, first, &u, shifts, f);
+    survey::find_shifts(low, first, leaders, &u, shifts, f);
     x
 }
 

@@ -12,7 +12,7 @@ ghost use Rattle.definitions.specs.Presentation.{toNF, pairNumber};
 ghost use Rattle.formulas.specs.Formulas.{walk, plus, landing, shift, start, extensionAt};
 ghost use Rattle.text.specs.Writing.{Wrote};
 ghost use Rattle.lines.specs.Lines.{Below};
-ghost use Rattle.survey.specs.Below.{firstOf, degOf, targetOf, sourceIn, Stands, Rows, Array, Lines};
+ghost use Rattle.survey.specs.Below.{firstOf, degOf, targetOf, sourceIn, Stands, Rows, Array, Leading, Fixing, Lines};
 ghost use Rattle.extend.specs.Extending.{conjugatedIn, referenceOf, Ready, Extends, matrixWords, extensionsWords};
 use collector::rows;
 use definitions::Entry;
@@ -104,7 +104,7 @@ pub fn landing(
     j: u32,
     r: u32,
 ) -> u32
-    requires { ⌜ Stands f (now low) × Lines f (now low) (now first) × Rows f (now low) (now rows) × Array f (now low) (now shifts) (shift (sourceIn f (now low) (now rows))) × (r < f .reps) × (f .top < j) × (j < f .gens) ⌝ }
+    requires { ⌜ Stands f (now low) × Lines f (now low) (now first) × Rows f (now low) (now rows) × Leading f (now low) (now shifts) (shift (sourceIn f (now low) (now rows))) × (r < f .reps) × (f .top < j) × (j < f .gens) × (targetOf f (now low) (f .top) r ≡ r) × Fixing f (now low) ⌝ }
     ensures { λ x. ⌜ (x ≡ landing (sourceIn f (now (low .entry)) (now (rows .entry))) j r) × (x ≤ f .m) ⌝ }
 {
     let w = rows::word(rows, lines::up(j), lines::up(f.top));
@@ -318,7 +318,7 @@ pub fn find_targets(
     f: Frame,
     r: u32,
 )
-    requires { ⌜ Stands f (now low) × Lines f (now low) (now first) × Rows f (now low) (now rows) × Array f (now low) (now numbers) (start (sourceIn f (now low) (now rows))) × Array f (now low) (now shifts) (shift (sourceIn f (now low) (now rows))) × (r < f .reps) × (f .gens ≤ length (now to)) × (f .gens ≤ length (now by)) ⌝ }
+    requires { ⌜ Stands f (now low) × Lines f (now low) (now first) × Rows f (now low) (now rows) × Array f (now low) (now numbers) (start (sourceIn f (now low) (now rows))) × Leading f (now low) (now shifts) (shift (sourceIn f (now low) (now rows))) × (r < f .reps) × (f .gens ≤ length (now to)) × (f .gens ≤ length (now by)) × (targetOf f (now low) (f .top) r ≡ r) × Fixing f (now low) ⌝ }
     ensures { λ _. ⌜ Ready f (now (low .entry)) (now (rows .entry)) (now (to .exit)) (now (by .exit)) r ⌝ }
 {
     let lo = f.top + 1;
@@ -366,7 +366,7 @@ pub fn append_extensions(
     at: usize,
     r: u32,
 ) -> usize
-    requires { ⌜ Stands f (take (8 * f .end) (now words)) × Lines f (take (8 * f .end) (now words)) (now first) × Rows f (take (8 * f .end) (now words)) (now rows) × Array f (take (8 * f .end) (now words)) (now numbers) (start (sourceIn f (take (8 * f .end) (now words)) (now rows))) × Array f (take (8 * f .end) (now words)) (now shifts) (shift (sourceIn f (take (8 * f .end) (now words)) (now rows))) × (r < f .reps) × (f .end ≤ at) × (8 * at + f .p * (8 * (f .gens * degOf f (take (8 * f .end) (now words)) r)) ≤ length (now words)) ⌝ }
+    requires { ⌜ Stands f (take (8 * f .end) (now words)) × Lines f (take (8 * f .end) (now words)) (now first) × Rows f (take (8 * f .end) (now words)) (now rows) × Array f (take (8 * f .end) (now words)) (now numbers) (start (sourceIn f (take (8 * f .end) (now words)) (now rows))) × Leading f (take (8 * f .end) (now words)) (now shifts) (shift (sourceIn f (take (8 * f .end) (now words)) (now rows))) × (r < f .reps) × (f .end ≤ at) × (8 * at + f .p * (8 * (f .gens * degOf f (take (8 * f .end) (now words)) r)) ≤ length (now words)) × (targetOf f (take (8 * f .end) (now words)) (f .top) r ≡ r) × Fixing f (take (8 * f .end) (now words)) ⌝ }
     ensures { λ x. ⌜ Wrote (now (words .entry)) (8 * at) (extensionsWords f (take (8 * f .end) (now (words .entry))) (now (rows .entry)) (start (sourceIn f (take (8 * f .end) (now (words .entry))) (now (rows .entry))) r) r) (now (words .exit)) (8 * x) ⌝ }
 {
     let n = 8 * f.end;

@@ -30,7 +30,7 @@ module _ (f : Frame) (W : List ℕ) (rows : List (List ℕ)) (first leaders plac
   module _ (g : ℕ) (scalars : List ℕ) (known : f .top < g → BlockScalars f W rows scalars g r) where
     factor-is : (b : ℕ) → b < f .p → factorIn f shifts scalars r g b ≡ blockBy S r g b
     unfolding factorIn blockBy
-    factor-is b h = ap₂ (λ x y. cond (ltb g (f .top)) 0 (cond (eqb g (f .top)) (cond (ltb (suc b) (f .p)) 0 x) y)) (I .shifts-are .at r (I .listed)) refl ∙ go (decLt (f .top) g)
+    factor-is b h = ap₂ (λ x y. cond (ltb g (f .top)) 0 (cond (eqb g (f .top)) (cond (ltb (suc b) (f .p)) 0 x) y)) (I .shifts-are .at r (I .listed) (I .led)) refl ∙ go (decLt (f .top) g)
       where
         go : Dec (f .top < g) → cond (ltb g (f .top)) 0 (cond (eqb g (f .top)) (cond (ltb (suc b) (f .p)) 0 (shift S r)) (getD scalars b 0)) ≡ cond (ltb g (f .top)) 0 (cond (eqb g (f .top)) (cond (ltb (suc b) (f .p)) 0 (shift S r)) (scalar S g r b))
         go (yes a) = ap (λ y. cond (ltb g (f .top)) 0 (cond (eqb g (f .top)) (cond (ltb (suc b) (f .p)) 0 (shift S r)) y)) (known a .at b h)

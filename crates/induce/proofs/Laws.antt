@@ -23,8 +23,7 @@ use Rattle.formulas.specs.Formulas as Fm
 use Rattle.lines.proofs.Laws.{iter-next}
 use Rattle.survey.specs.declared.Frame.{Frame}
 use Rattle.survey.specs.Below.{degOf, targetOf, sourceIn, leaderIn, positionIn, Stands}
-use Rattle.survey.proofs.Marking.{orbit-inside, lead-below}
-use Rattle.extend.proofs.Laws.{shift-below}
+use Rattle.survey.proofs.Marking.{orbit-inside, lead-below, lead-lead}
 use Rattle.induce.specs.declared.Moved.{Moved}
 use Rattle.induce.specs.Inducing.{Inducing, Held, Cycled, Righting, rightIn}
 
@@ -66,7 +65,7 @@ module _ (f : Frame) (W : List ℕ) (rows : List (List ℕ)) (r : ℕ) where
 
 module _ (f : Frame) (W : List ℕ) (rows : List (List ℕ)) (first leaders places shifts orbit : List ℕ) (r : ℕ) (I : Inducing f W rows first leaders places shifts orbit r) where
   pub shifts-below : (q : ℕ) → q < f .reps → getD shifts q 0 < f .m
-  shifts-below q l = subst (λ x. x < f .m) (sym (I .shifts-are .at q l)) (shift-below f W rows (I .stands .modulus .0) q)
+  shifts-below = I .shifts-are .below
 
   pub righting : Righting f W first leaders places shifts orbit
   righting = record {
@@ -88,7 +87,7 @@ module _ (f : Frame) (W : List ℕ) (rows : List (List ℕ)) (first leaders plac
       let inside : q < f .reps = I .stands .target τ (orbit-inside f W (I .stands) r b (I .listed)) j (omega arith) l .0 in
       let lead : leaderIn f W q < f .reps = omega (arith, inside, lead-below f W (I .stands) q inside) in
       ap (rightIn f W shifts j) (I .orbit-is .at b k)
-      ∙ ap (λ x. plus (f .m) (cond (ltb (suc (positionIn f W q)) (f .p)) 0 x) (act (f .m) (sourceIn f W [] .matrix q (f .top)) (act (f .m) (sourceIn f W [] .matrix τ j) (entry 0 0))) .exp) (I .shifts-are .at (leaderIn f W q) lead)
+      ∙ ap (λ x. plus (f .m) (cond (ltb (suc (positionIn f W q)) (f .p)) 0 x) (act (f .m) (sourceIn f W [] .matrix q (f .top)) (act (f .m) (sourceIn f W [] .matrix τ j) (entry 0 0))) .exp) (I .shifts-are .at (leaderIn f W q) lead (lead-lead f W (I .stands) q inside))
 
   pub left-is : (j : ℕ) (b : ℕ) (t : Moved) → Held f W r (Fm.conjugateEntry (sourceIn f W rows) j r b) t
       → act (f .m) (sourceIn f W [] .matrix (iter (targetOf f W (f .top)) (t .block) r) j) (t .x) .exp ≡ Fm.leftAt (sourceIn f W rows) j r b

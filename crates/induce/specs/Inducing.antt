@@ -27,7 +27,7 @@ use Rattle.formulas.specs.Formulas.{plus, shift, start, conjugateEntry, leftAt,
 use Rattle.formulas.specs.Formulas as Fm
 use Rattle.lines.specs.Lines.{Below, blockLines}
 use Rattle.survey.specs.declared.Frame.{Frame}
-use Rattle.survey.specs.Below.{degOf, targetOf, matrixOf, sourceIn, leaderIn, positionIn, Stands, Rows, Array, Lines}
+use Rattle.survey.specs.Below.{degOf, targetOf, matrixOf, sourceIn, leaderIn, positionIn, Stands, Rows, Array, Leading, Fixing, Lines}
 use Rattle.induce.specs.declared.Moved.{Moved}
 use Rattle.induce.specs.declared.Scaled.{Scaled}
 
@@ -52,8 +52,9 @@ module _ (f : Frame) (W : List ℕ) where
       pub words : Rows f W rows
       pub leaders-are : Array f W leaders (leaderIn f W)
       pub places-are : Array f W places (positionIn f W)
-      pub shifts-are : Array f W shifts (shift (sourceIn f W rows))
+      pub shifts-are : Leading f W shifts (shift (sourceIn f W rows))
       pub listed : r < f .reps
+      pub led : leaderIn f W r ≡ r
       pub orbit-is : OrbitArray orbit r
       pub cycles : (j : ℕ) → f .top < j → j < f .gens → Cycles j r
 
@@ -109,8 +110,9 @@ pub record Surveyed (f : Frame) (W : List ℕ) (rows : List (List ℕ)) (first l
   pub leaders-are : Array f W leaders (leaderIn f W)
   pub places-are : Array f W places (positionIn f W)
   pub numbers-are : Array f W numbers (start (sourceIn f W rows))
-  pub shifts-are : Array f W shifts (shift (sourceIn f W rows))
+  pub shifts-are : Leading f W shifts (shift (sourceIn f W rows))
   pub cycles : Cycling f W rows
+  pub fixes : Fixing f W
 
 -- what is known where generator g of the representation induced from r is written
 pub record Writing (f : Frame) (W : List ℕ) (first places shifts orbit scalars : List ℕ) (r g : ℕ) : Type 0 where

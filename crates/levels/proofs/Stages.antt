@@ -28,7 +28,7 @@ use Rattle.builder.specs.Level.{Sound}
 use Rattle.assembly.specs.Built.{upTo, Placed}
 use Rattle.assembly.proofs.Standing.{stands}
 use Rattle.assembly.proofs.Next.{rows-below}
-use Rattle.assembly.proofs.Cycles.{visited}
+use Rattle.assembly.proofs.Cycles.{visited, fixing}
 use Rattle.assembly.proofs.First.{exponents-below}
 use Rattle.assembly.proofs.Room.{prime-le}
 use Rattle.assembly.proofs.Climb.{next-upTo, next-room, next-reps, one-upTo, one-reps, one-room, one-placed}
@@ -94,6 +94,7 @@ module _ (A : Accepted) (rows : List (List ℕ)) (primes : List ℕ) (n m have :
       stands = stands A (G .small) i frame (take (8 * end) w) stage-placed;
       words = rows-below A i frame (take (8 * end) w) rows stage-placed (G .told i inside);
       cycles = visited A i frame (take (8 * end) w) rows stage-placed (G .told i inside);
+      fixes = fixing A i frame (take (8 * end) w) stage-placed;
     }
 
     pub stage-room : have ≤ length w₀ → 8 * end + length (levelWords n (suc i) (levelBy (sourceIn frame (take (8 * end) w) rows))) ≤ length w

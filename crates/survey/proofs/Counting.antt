@@ -3,6 +3,7 @@
 --   made-fixed, made-leader, made-none    what a representation gives
 --   number-zero, number-next, number-small      numbers
 --   around-zero, around-next   an entry along an orbit
+--   leading-least, leading-other, leading-below     the constants that are kept
 --   column-zero                column 0 is there
 use mathlib.Core.Path.{_≡_, refl, ap, sym, _∙_, subst}
 use mathlib.Core.List.{List, []}
@@ -10,16 +11,16 @@ use mathlib.Core.Bool.{Bool, true, false, cond}
 use Prim.Native.Nat.{ℕ, zero, suc, _+_, _*_, _<_, _≤_}
 use native.Mathlib.Omega.{arith}
 use native.Mathlib.Numerals.{add-one}
-use native.Mathlib.Nat.{mul-le-mul-right}
+use native.Mathlib.Nat.{mul-le-mul-right, mod-lt}
 use lib.Dec.{eqb}
 use Rattle.definitions.specs.declared.Entry.{Entry}
 use Rattle.definitions.specs.Lists.{sum, iter}
-use Rattle.definitions.specs.Monomial.{entry, act}
+use Rattle.definitions.specs.Monomial.{entry, less, act}
 use Rattle.numbers.proofs.Bools.{cond-eq, cond-ne}
 use Rattle.formulas.specs.Formulas.{made, start, around}
 use Rattle.lines.specs.Lines.{Below}
 use Rattle.survey.specs.declared.Frame.{Frame}
-use Rattle.survey.specs.Below.{degOf, targetOf, sourceIn, leaderIn, madeIn, numberIn, aroundIn, Stands}
+use Rattle.survey.specs.Below.{degOf, targetOf, sourceIn, leaderIn, madeIn, numberIn, aroundIn, closingIn, leadingIn, Stands}
 
 module _ (f : Frame) (W : List ℕ) where
   abbrev τ : ℕ → ℕ
@@ -38,6 +39,22 @@ module _ (f : Frame) (W : List ℕ) where
   pub made-none : (r : ℕ) → ¬ (τ r ≡ r) → ¬ (leaderIn f W r ≡ r) → 0 ≡ madeIn f W r
   unfolding made
   made-none r n n′ = sym (cond-ne (τ r) r (f .p) _ n ∙ cond-ne (leaderIn f W r) r 1 0 n′)
+
+  pub leading-least : (u : List ℕ) (r : ℕ) → leaderIn f W r ≡ r → leadingIn f W u r ≡ closingIn f W u r
+  unfolding leadingIn
+  leading-least u r e = cond-eq (leaderIn f W r) r _ 0 e
+
+  pub leading-other : (u : List ℕ) (r : ℕ) → ¬ (leaderIn f W r ≡ r) → leadingIn f W u r ≡ 0
+  unfolding leadingIn
+  leading-other u r n = cond-ne (leaderIn f W r) r (closingIn f W u r) 0 n
+
+  pub leading-below : 0 < f .m → (u : List ℕ) (r : ℕ) → leadingIn f W u r < f .m
+  unfolding leadingIn closingIn less
+  leading-below h u r = go (eqb (leaderIn f W r) r)
+    where
+      go : (b : Bool) → cond b (closingIn f W u r) 0 < f .m
+      go true = mod-lt _ h
+      go false = h
 
   pub number-zero : 0 ≡ numberIn f W 0
   unfolding start sum

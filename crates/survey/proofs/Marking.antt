@@ -17,7 +17,7 @@ use lib.Dec.{eqb}
 use borrow.Author.Tests.{eq-eqb}
 use Rattle.numbers.proofs.Lists.{iter-zero}
 use Rattle.numbers.proofs.Searches.{least-least}
-use Rattle.numbers.proofs.Orbits.{Orbits, leader, position, leader-least, leader-below, leader-iter, leader-leader, position-below, position-back, iter-below}
+use Rattle.numbers.proofs.Orbits.{Orbits, leader, position, leader-least, leader-below, leader-iter, leader-leader, leader-fixed, position-below, position-back, iter-below}
 use Rattle.lines.proofs.Laws.{iter-next}
 use Rattle.survey.specs.declared.Frame.{Frame}
 use Rattle.survey.specs.Below.{targetOf, leaderIn, positionIn, Stands, Array, Marked, MarkedTo}
@@ -46,6 +46,10 @@ module _ (f : Frame) (W : List ℕ) (S : Stands f W) where
   pub lead-lead : (q : ℕ) → q < f .reps → lead (lead q) ≡ lead q
   unfolding orbits leader
   lead-lead q l = leader-leader (orbits f W S) q l
+
+  pub lead-fixed : (q : ℕ) → q < f .reps → τ q ≡ q → lead q ≡ q
+  unfolding orbits leader
+  lead-fixed q l e = leader-fixed (orbits f W S) q l e
 
   pub pos-below : (q : ℕ) → q < f .reps → pos q < f .p
   unfolding orbits position leader

@@ -7,12 +7,16 @@
 --                              degree, and orbits of the generator on top that close after p steps
 --   Rows                       exponents of words in range
 --   Array                      an array that holds a function below the number of representations
---   madeIn, numberIn, aroundIn, closingIn      the formulas, of this level
+--   Leading                    one that holds it at the least of each orbit, and is below the modulus
+--   Fixing                     what the generator on top fixes is led to what it fixes
+--   madeIn, numberIn, aroundIn, closingIn, leadingIn      the formulas, of this level
 --   MarkedTo, Marked, Turned   orbits while they are marked; a step along one
 use mathlib.Core.Path.{_≡_}
 use Prim.Native.Nat.{ℕ, zero, suc, _+_, _*_, _/_, _≤_, _<_}
 use mathlib.Core.List.{List, []}
+use mathlib.Core.Bool.{cond}
 use lib.ListN.{length, getD, set}
+use lib.Dec.{eqb}
 use Rattle.definitions.specs.Lists.{iter}
 use Rattle.definitions.specs.Presentation.{toNF, pairNumber}
 use Rattle.definitions.specs.declared.Entry.{Entry}
@@ -73,6 +77,10 @@ module _ (f : Frame) (W : List ℕ) where
   unfoldable pub closingIn : List ℕ → ℕ → ℕ
   closingIn u r = less (f .m) (walk (f .m) (sourceIn [] .matrix r) (f .top) (toNF (f .top) u) (entry 0 0) .exp) (aroundIn r (f .p) .exp)
 
+  -- the same of the least of each orbit, and 0 elsewhere
+  unfoldable pub leadingIn : List ℕ → ℕ → ℕ
+  leadingIn u r = cond (eqb (leaderIn r) r) (closingIn u r) 0
+
   pub record Stands : Type 0 where
     pub few : f .reps ≤ 4096
     pub gens : (f .top < f .gens) × (f .gens ≤ 12)
@@ -94,6 +102,15 @@ module _ (f : Frame) (W : List ℕ) where
   pub record Array (a : List ℕ) (g : ℕ → ℕ) : Type 0 where
     pub long : f .reps ≤ length a
     pub at : (r : ℕ) → r < f .reps → getD a r 0 ≡ g r
+
+  pub record Leading (a : List ℕ) (g : ℕ → ℕ) : Type 0 where
+    pub long : f .reps ≤ length a
+    pub at : (r : ℕ) → r < f .reps → leaderIn r ≡ r → getD a r 0 ≡ g r
+    pub below : (r : ℕ) → r < f .reps → getD a r 0 < f .m
+
+  -- generators above the one on top lead what that fixes to what it fixes
+  pub record Fixing : Type 0 where
+    pub stays : (r : ℕ) → r < f .reps → targetOf (f .top) r ≡ r → (j : ℕ) → f .top < j → j < f .gens → targetOf (f .top) (targetOf j r) ≡ targetOf j r
 
   abbrev pub Lines : List ℕ → Type 0
   Lines first = Array first firstOf

@@ -4,7 +4,7 @@ ghost use mathlib.Core.Path.{_≡_};
 ghost use Prim.Native.Nat.{ℕ, _+_, _*_, _%_, _≤_, _<_};
 ghost use lib.ListN.{length, getD, set};
 ghost use Rattle.definitions.specs.Presentation.{Presentation};
-ghost use Rattle.survey.specs.Below.{firstOf, degOf, matrixOf, targetOf, leaderIn, positionIn, madeIn, numberIn, aroundIn, closingIn, Stands, Array, Lines, Marked, MarkedTo, Turned};
+ghost use Rattle.survey.specs.Below.{firstOf, degOf, matrixOf, targetOf, leaderIn, positionIn, madeIn, numberIn, aroundIn, closingIn, leadingIn, Stands, Array, Lines, Marked, MarkedTo, Turned};
 ghost use Rattle.lines.specs.Lines.{Below};
 use definitions::Entry;
 
@@ -268,14 +268,32 @@ pub fn closing(low: &[u32], first: &[u32], u: &[u32; 12], f: Frame, r: u32) -> u
     lines::sub_mod(b.exp, a.exp, f.m)
 }
 
+// The same if r is the least of its orbit, and 0 else.
+pub fn leading(low: &[u32], first: &[u32], leaders: &[u32], u: &[u32; 12], f: Frame, r: u32) -> u32
+    requires { ⌜ Stands f (now low) × Lines f (now low) (now first) × Array f (now low) (now leaders) (leaderIn f (now low)) × (r < f .reps) ⌝ }
+    ensures { λ x. ⌜ (x ≡ leadingIn f (now (low .entry)) (now (u .entry)) r) × (x < f .m) ⌝ }
+{
+    if element(leaders, r) != r {
+        return 0;
+    }
+    closing(low, first, u, f, r)
+}
+
 // Fills the array of these constants.
-pub fn find_shifts(low: &[u32], first: &[u32], u: &[u32; 12], shifts: &mut [u32], f: Frame)
-    requires { ⌜ Stands f (now low) × Lines f (now low) (now first) × (f .reps ≤ length (now shifts)) ⌝ }
-    ensures { λ _. ⌜ Array f (now (low .entry)) (now (shifts .exit)) (closingIn f (now (low .entry)) (now (u .entry))) × (length (now (shifts .exit)) ≡ length (now (shifts .entry))) ⌝ }
+pub fn find_shifts(
+    low: &[u32],
+    first: &[u32],
+    leaders: &[u32],
+    u: &[u32; 12],
+    shifts: &mut [u32],
+    f: Frame,
+)
+    requires { ⌜ Stands f (now low) × Lines f (now low) (now first) × Array f (now low) (now leaders) (leaderIn f (now low)) × (f .reps ≤ length (now shifts)) ⌝ }
+    ensures { λ _. ⌜ Array f (now (low .entry)) (now (shifts .exit)) (leadingIn f (now (low .entry)) (now (u .entry))) × (length (now (shifts .exit)) ≡ length (now (shifts .entry))) ⌝ }
 {
     let reps = f.reps;
     for r in 0..reps {
-        let x = closing(low, first, u, f, r);
+        let x = leading(low, first, leaders, u, f, r);
         store(shifts, r, x);
     }
 }

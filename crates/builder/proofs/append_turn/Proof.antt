@@ -31,7 +31,7 @@ append-extensions-requires c κs = let z = c .before .before .before .before .be
     let Y = z .pre .0 in
     let t = c .before .before .target .ensures .0 in
     let fixed : targetOf (z .args .f) (take (8 * z .args .f .end) (now (z .args .words))) (z .args .f .top) (z .args .r) ≡ z .args .r = omega (arith, t, c .before .if1 .taken) in
-    (Y .stands, Y .lines, Y .words, Y .numbers-are, Y .shifts-are, z .pre .1, z .pre .2, omega (arith, extensions-length (z .args .f) (take (8 * z .args .f .end) (now (z .args .words))) (now (z .args .rows)) (z .args .r) fixed, z .pre .3))
+    (Y .stands, Y .lines, Y .words, Y .numbers-are, Y .shifts-are, z .pre .1, z .pre .2, omega (arith, extensions-length (z .args .f) (take (8 * z .args .f .end) (now (z .args .words))) (now (z .args .rows)) (z .args .r) fixed, z .pre .3), fixed, Y .fixes)
 
 same-length : tie.Need-same-length
 same-length c = search needs

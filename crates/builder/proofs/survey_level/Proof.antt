@@ -24,10 +24,10 @@ up-requires : tie.Need-up-requires
 up-requires c κs = search needs
 
 word-requires : tie.Need-word-requires
-word-requires c κs = search needs
+word-requires c κs = let z = c .before .before .before .before .before .before .before .before .before .before .before .before .before .before .before .before .before .before .before .before .before .before .before .before .before in (omega (arith, c .up .ensures), omega (arith, c .up .ensures, z .pre .0 .stands .gens))
 
 find-shifts-requires : tie.Need-find-shifts-requires
-find-shifts-requires c κs = let z = c .before .before .before .before .before .before .before .before .before .before .before .before .before .before .before .before .before .before .before .before .before .before .before .before .before .before .before .before .before in (z .pre .0 .stands, c .before .before .before .before .before .before .before .before .before .before .before .before .before .before .before .before .before .before .before .before .before .find-lines .ensures .0, omega (arith, z .pre .0 .stands .few, z .pre .5))
+find-shifts-requires c κs = let z = c .before .before .before .before .before .before .before .before .before .before .before .before .before .before .before .before .before .before .before .before .before .before .before .before .before .before .before .before .before .before in (z .pre .0 .stands, c .before .before .before .before .before .before .before .before .before .before .before .before .before .before .before .before .before .before .before .before .before .before .find-lines .ensures .0, c .before .before .before .before .before .before .before .before .before .before .before .before .before .before .before .before .mark-orbits .ensures .0, omega (arith, z .pre .5))
 
 same-length : tie.Need-same-length
 same-length c = search needs
@@ -45,19 +45,20 @@ same-length-5 : tie.Need-same-length-5
 same-length-5 c = search needs
 
 returns : tie.Need-returns
-returns c = let z = c .before .before .before .before .before .before .before .before .before .before .before .before .before .before .before .before .before .before .before .before .before .before .before .before .before .before .before .before .before .before .before .before in
+returns c = let z = c .before .before .before .before .before .before .before .before .before .before .before .before .before .before .before .before .before .before .before .before .before .before .before .before .before .before .before .before .before .before .before .before .before in
     let Y = z .pre .0 in
-    let u = c .before .before .before .before .before .before .word .ensures ∙ ap (λ t. getD (now (z .args .rows)) (pairNumber t t) []) (c .before .before .before .before .before .before .before .up .ensures) in (
-      c .before .before .before .before .before .before .before .before .before .before .count-numbers .ensures .0,
+    let u = c .before .before .before .before .before .before .before .word .ensures ∙ ap (λ t. getD (now (z .args .rows)) (pairNumber t t) []) (c .before .before .before .before .before .before .before .before .up .ensures) in (
+      c .before .before .before .before .before .before .before .before .before .before .before .count-numbers .ensures .0,
       record {
         stands = Y .stands;
-        lines = c .before .before .before .before .before .before .before .before .before .before .before .before .before .before .before .before .before .before .before .before .before .before .before .before .find-lines .ensures .0;
+        lines = c .before .before .before .before .before .before .before .before .before .before .before .before .before .before .before .before .before .before .before .before .before .before .before .before .before .find-lines .ensures .0;
         words = Y .words;
-        leaders-are = c .before .before .before .before .before .before .before .before .before .before .before .before .before .before .before .before .before .before .mark-orbits .ensures .0;
-        places-are = c .before .before .before .before .before .before .before .before .before .before .before .before .before .before .before .before .before .before .mark-orbits .ensures .1;
-        numbers-are = numbers-named (z .args .f) (now (z .args .low)) (now (z .args .rows)) _ (c .before .before .before .before .before .before .before .before .before .before .count-numbers .ensures .1);
-        shifts-are = shifts-named (z .args .f) (now (z .args .low)) (now (z .args .rows)) _ _ u (c .before .before .find-shifts .ensures .0);
+        leaders-are = c .before .before .before .before .before .before .before .before .before .before .before .before .before .before .before .before .before .before .before .mark-orbits .ensures .0;
+        places-are = c .before .before .before .before .before .before .before .before .before .before .before .before .before .before .before .before .before .before .before .mark-orbits .ensures .1;
+        numbers-are = numbers-named (z .args .f) (now (z .args .low)) (now (z .args .rows)) _ (c .before .before .before .before .before .before .before .before .before .before .before .count-numbers .ensures .1);
+        shifts-are = shifts-named (z .args .f) (now (z .args .low)) (now (z .args .rows)) _ (Y .stands) _ u (c .before .before .find-shifts .ensures .0);
         cycles = Y .cycles;
+        fixes = Y .fixes;
       },
     )
 

@@ -7,7 +7,8 @@ use lib.Seq.{length-take-le}
 use denote.Ref.{now}
 use Rattle.text.proofs.Writing.{wrote-as}
 use Rattle.extend.specs.Extending.{extensionsWords}
-use Rattle.extend.proofs.Laws.{shift-below, start-fits}
+use Rattle.extend.proofs.Laws.{start-fits}
+use Rattle.survey.proofs.Marking.{lead-fixed}
 use borrow.Author.Needs.{needs}
 use Rattle.extend.proofs.append_extensions.Statement.{statement}
 use Rattle.extend.proofs.append_extensions.Tie as tie
@@ -38,7 +39,7 @@ slice-aggregate-find-origin c = let z = c .before .before .before .before .befor
 
 find-origin-requires : tie.Need-find-origin-requires
 find-origin-requires c κs = let z = c .before .before .before .before .before .before .before .before .before .before .before .before in
-    (z .pre .0, z .pre .1, z .pre .5, omega (arith, z .pre .4 .long, z .pre .5), subst (λ x. x < z .args .f .m) (sym (z .pre .4 .at (z .args .r) (z .pre .5))) (shift-below (z .args .f) (take (8 * z .args .f .end) (now (z .args .words))) (now (z .args .rows)) (z .pre .0 .modulus .0) (z .args .r)))
+    (z .pre .0, z .pre .1, z .pre .5, omega (arith, z .pre .4 .long, z .pre .5), z .pre .4 .below (z .args .r) (z .pre .5))
 
 element-requires : tie.Need-element-requires
 element-requires c κs = search needs
@@ -53,7 +54,7 @@ append-each-requires : tie.Need-append-each-requires
 append-each-requires c κs = let z = c .before .before .before .before .before .before .before .before .before .before .before .before .before .before .before .before .before in
     let e = c .before .before .before .element .ensures ∙ z .pre .3 .at (z .args .r) (z .pre .5) in
     let o = c .before .before .before .before .find-origin .ensures in
-    (c .before .before .before .before .before .before .before .before .find-targets .ensures, record { line-is = o .0; deg-is = o .1; root-is = o .2 ∙ ap (λ x. x / z .args .f .p) (z .pre .4 .at (z .args .r) (z .pre .5)); step-is = o .3 }, subst (λ x. x ≤ 268435456) (sym e) (start-fits (z .args .f) (take (8 * z .args .f .end) (now (z .args .words))) (now (z .args .rows)) (z .pre .0) (z .args .r) (omega (arith, z .pre .5))), z .pre .6, z .pre .7)
+    (c .before .before .before .before .before .before .before .before .find-targets .ensures, record { line-is = o .0; deg-is = o .1; root-is = o .2 ∙ ap (λ x. x / z .args .f .p) (z .pre .4 .at (z .args .r) (z .pre .5) (lead-fixed (z .args .f) (take (8 * z .args .f .end) (now (z .args .words))) (z .pre .0) (z .args .r) (z .pre .5) (z .pre .8))); step-is = o .3 }, subst (λ x. x ≤ 268435456) (sym e) (start-fits (z .args .f) (take (8 * z .args .f .end) (now (z .args .words))) (now (z .args .rows)) (z .pre .0) (z .args .r) (omega (arith, z .pre .5))), z .pre .6, z .pre .7)
 
 same-length : tie.Need-same-length
 same-length c = search needs

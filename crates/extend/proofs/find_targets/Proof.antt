@@ -37,7 +37,7 @@ store-requires c κs = let z = c .before .before .before .before .before .before
 landing-requires : tie.Need-landing-requires Inv-loop μ-loop
 landing-requires c κs = let z = c .before .before .before .before .before .before .before .before .before .before .before .before .before .before .before in
     let l = c .before .before .before .before .before .before .before .loop in
-    (z .pre .0, z .pre .1, z .pre .2, z .pre .4, z .pre .5, omega (arith, l .inv .0, l .inv .1), search needs)
+    (z .pre .0, z .pre .1, z .pre .2, z .pre .4, z .pre .5, omega (arith, l .inv .0, l .inv .1), search needs, z .pre .8, z .pre .9)
 
 store-requires-2 : tie.Need-store-requires-2 Inv-loop μ-loop
 store-requires-2 c κs = let z = c .before .before .before .before .before .before .before .before .before .before .before .before .before .before .before .before .before in omega (arith, c .before .before .before .before .before .before .before .before .before .loop .inv .5, z .pre .7)

@@ -16,7 +16,8 @@ use Rattle.definitions.specs.Presentation.{pairNumber}
 use Rattle.formulas.specs.Formulas.{shift, landing}
 use Rattle.survey.specs.Below.{targetOf}
 use Rattle.extend.specs.Extending.{conjugatedIn}
-use Rattle.extend.proofs.Laws.{shift-below, landing-is, step-positive}
+use Rattle.extend.proofs.Laws.{landing-is, step-positive}
+use Rattle.survey.proofs.Marking.{lead-fixed}
 use borrow.Author.Needs.{needs}
 use Rattle.extend.proofs.landing.Statement.{statement}
 use Rattle.extend.proofs.landing.Tie as tie
@@ -32,7 +33,7 @@ word-requires c κs = search needs
 
 root-requires : tie.Need-root-requires
 root-requires c κs = let z = c .before .before .before .before .before .before in
-    (omega (arith, z .pre .3 .long, z .pre .4), omega (arith, z .pre .0 .prime .0), subst (λ x. x < z .args .f .m) (sym (z .pre .3 .at (z .args .r) (z .pre .4))) (shift-below (z .args .f) (now (z .args .low)) (now (z .args .rows)) (z .pre .0 .modulus .0) (z .args .r)))
+    (omega (arith, z .pre .3 .long, z .pre .4), omega (arith, z .pre .0 .prime .0), z .pre .3 .below (z .args .r) (z .pre .4))
 
 conjugated-requires : tie.Need-conjugated-requires
 conjugated-requires c κs = let z = c .before .before .before .before .before .before .before .before in
@@ -48,7 +49,7 @@ target-requires c κs = search needs
 root-requires-2 : tie.Need-root-requires-2
 root-requires-2 c κs = let z = c .before .before .before .before .before .before .before .before .before .before .before in
     let q = c .target .ensures .1 in
-    (omega (arith, z .pre .3 .long, q), omega (arith, z .pre .0 .prime .0), subst (λ x. x < z .args .f .m) (sym (z .pre .3 .at _ q)) (shift-below (z .args .f) (now (z .args .low)) (now (z .args .rows)) (z .pre .0 .modulus .0) _))
+    (omega (arith, z .pre .3 .long, q), omega (arith, z .pre .0 .prime .0), z .pre .3 .below _ q)
 
 right-requires : tie.Need-right-requires
 right-requires c κs = let z = c .before .before .before .before .before .before .before .before .before .before .before .before in
@@ -72,9 +73,12 @@ returns c = let z = c .before .before .before .before .before .before .before .b
     let r = z .args .r in
     let j = z .args .j in
     let sh : ℕ → ℕ = shift (sourceIn (z .args .f) (now (z .args .low)) (now (z .args .rows))) in
-    let x : c .before .before .before .before .before .before .before .before .root .result ≡ sh r / z .args .f .p = c .before .before .before .before .before .before .before .before .root .ensures .0 ∙ ap (λ t. t / z .args .f .p) (z .pre .3 .at r (z .pre .4)) in
+    let x : c .before .before .before .before .before .before .before .before .root .result ≡ sh r / z .args .f .p = c .before .before .before .before .before .before .before .before .root .ensures .0 ∙ ap (λ t. t / z .args .f .p) (z .pre .3 .at r (z .pre .4) (lead-fixed (z .args .f) (now (z .args .low)) (z .pre .0) r (z .pre .4) (z .pre .7))) in
     let q = c .before .before .before .before .target .ensures in
-    let y : c .before .before .before .root2 .result ≡ sh (targetOf (z .args .f) (now (z .args .low)) j r) / z .args .f .p = c .before .before .before .root2 .ensures .0 ∙ ap (λ t. t / z .args .f .p) (z .pre .3 .at _ (q .1) ∙ ap sh (q .0)) in
+    let t = targetOf (z .args .f) (now (z .args .low)) j r in
+    let inside : t < z .args .f .reps = subst (λ x. x < z .args .f .reps) (q .0) (q .1) in
+    let led = lead-fixed (z .args .f) (now (z .args .low)) (z .pre .0) t inside (z .pre .8 .stays r (z .pre .4) (z .pre .7) j (z .pre .5) (z .pre .6)) in
+    let y : c .before .before .before .root2 .result ≡ sh (targetOf (z .args .f) (now (z .args .low)) j r) / z .args .f .p = c .before .before .before .root2 .ensures .0 ∙ ap (λ t. t / z .args .f .p) (ap (λ x. getD (now (z .args .shifts)) x 0) (q .0) ∙ z .pre .3 .at t inside led) in
     let a = ap (λ (t : Entry). t .exp) (c .before .before .before .before .before .moved .ensures .0 ∙ ap (act m (sourceIn (z .args .f) (now (z .args .low)) [] .matrix r j)) (c .before .before .before .before .before .before .conjugated .ensures .0 ∙ ap₂ (λ v t. conjugatedIn (z .args .f) (now (z .args .low)) v r t) w x)) in
     let b = c .before .before .right .ensures .0 ∙ ap₂ (λ t v. plus m t (act m (sourceIn (z .args .f) (now (z .args .low)) [] .matrix v (z .args .f .top)) (act m (sourceIn (z .args .f) (now (z .args .low)) [] .matrix r j) (entry 0 0))) .exp) y (q .0) in (
       ap (λ t. t / (m / z .args .f .p)) (c .before .sub-mod .ensures .0) ∙ landing-is (z .args .f) (now (z .args .low)) (now (z .args .rows)) j r _ _ a b,

@@ -58,6 +58,7 @@ append-one-requires c κs = let z = c .before .before .before .before .before .b
       places-are = Y .places-are;
       shifts-are = Y .shifts-are;
       listed = z .pre .1;
+      led = z .pre .3;
       orbit-is = c .before .before .before .before .before .before .before .before .list-orbit .ensures;
       cycles = Y .cycles (z .args .r) (z .pre .1) (z .pre .2) (z .pre .3);
     } in

@@ -54,7 +54,7 @@ returns c = let z = c .before .before .before .before .before .before .before .b
     let I = z .pre .0 in
     let w = c .before .before .before .before .before .before .before .word .ensures ∙ ap₂ (λ a b. getD (now (z .args .rows)) (pairNumber a b) []) (c .before .before .before .before .before .before .before .before .before .up .ensures) (c .before .before .before .before .before .before .before .before .up2 .ensures) in
     let e = c .before .before .before .before .before .before .element .ensures in
-    let H = c .before .before .before .before .conjugate .ensures .0 (now (z .args .rows)) (z .args .j) (sym (e ∙ I .shifts-are .at (z .args .r) (I .listed))) (sym w) in
+    let H = c .before .before .before .before .conjugate .ensures .0 (now (z .args .rows)) (z .args .j) (sym (e ∙ I .shifts-are .at (z .args .r) (I .listed) (I .led))) (sym w) in
     let l = c .before .before .before .left .ensures .0 ∙ left-is (z .args .f) (now (z .args .low)) (now (z .args .rows)) (now (z .args .first)) (now (z .args .leaders)) (now (z .args .places)) (now (z .args .shifts)) (now (z .args .orbit)) (z .args .r) (z .pre .0) (z .args .j) (z .args .s .block) _ H in
     let y = c .before .before .right .ensures .0 ∙ right-is (z .args .f) (now (z .args .low)) (now (z .args .rows)) (now (z .args .first)) (now (z .args .leaders)) (now (z .args .places)) (now (z .args .shifts)) (now (z .args .orbit)) (z .args .r) (z .pre .0) (z .args .j) (z .args .s .block) (z .pre .1) (z .pre .2) (z .pre .3) in
     record {
