@@ -5,7 +5,8 @@ ghost use lib.ListN.{length};
 
 fn answer(title: &[u8], text: &[u8]) {
     let number = chieftables::accept::accept(text);
-    cases::print(number as u64);
+    io::print_decimal(1, number as u64);
+    io::write_all(1, b" ");
     io::write_all(1, title);
 }
 

@@ -12,11 +12,42 @@ ghost use lib.ListN.{length};
 // Words of the buffer: what twelve generators of prime 2 want.
 const WORDS: usize = 786240;
 
-// The number at the start of a line.
-fn lent(line: &[u8]) -> u32 {
-    let mut numbers = [0u32; 1];
-    cases::parse(line, &mut numbers);
-    numbers[0]
+// A number with one more decimal digit.
+fn grown(number: u32, digit: u8) -> u32 {
+    (((number as u64) * 10 + (digit as u64) % 16) % 4294967296) as u32
+}
+
+fn is_digit(b: u8) -> bool {
+    if b < 48 {
+        return false;
+    }
+    b <= 57
+}
+
+// The decimal number at the start of a line.
+fn number_at_start(line: &[u8]) -> u32 {
+    let mut number: u32 = 0;
+    let mut i: usize = 0;
+    while i < line.len() {
+        let b = line[i];
+        if !is_digit(b) {
+            return number;
+        }
+        number = grown(number, b);
+        i += 1;
+    }
+    number
+}
+
+fn print(number: u64) {
+    io::print_decimal(1, number);
+    io::write_all(1, b" ");
+}
+
+fn report(answer: u32, count: usize, sum: u32) {
+    print(answer as u64);
+    print(count as u64);
+    print(sum as u64);
 }
 
 // The call, with the first words of a buffer lent.
@@ -27,8 +58,8 @@ fn build_first(text: &[u8], words: &mut [u32], have: u32) -> Counted {
 
 fn answer(line: &[u8], text: &[u8]) {
     let mut words = [7u32; WORDS];
-    let a = build_first(text, &mut words, lent(line));
-    cases::report(a.answer, a.count, cases::mix_words(&words));
+    let a = build_first(text, &mut words, number_at_start(line));
+    report(a.answer, a.count, cases::mix_words(&words));
     io::write_all(1, b"| ");
     io::write_all(1, line);
 }

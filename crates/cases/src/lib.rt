@@ -1,12 +1,12 @@
 // Cases of a program's standard input, and sums over buffers: what the programs that run cases share.
 //
 //   Case, case_at              the parts of a case: its line, its text, a form feed
-//   parse                      decimal numbers
 //   words_lent, bytes_lent     how much of a buffer is lent
 //   mix_words, mix_bytes       a sum over a whole buffer
-//   print, report              numbers, each with a space behind it
+ghost use mathlib.Core.Path.{_≡_};
 ghost use Prim.Native.Nat.{_<_, _≤_};
 ghost use lib.ListN.{length};
+ghost use Rattle.cases.specs.Sums.{mixed, mixedTo};
 
 // The first position from `start` on where the byte stands, or the end.
 fn find(s: &[u8], start: usize, byte: u8) -> usize
@@ -53,43 +53,6 @@ pub fn case_at(input: &[u8], at: usize) -> Case
     Case { text, end, next }
 }
 
-// A word with one more decimal digit.
-fn grown(word: u32, digit: u8) -> u32 {
-    (((word as u64) * 10 + (digit as u64) % 16) % 4294967296) as u32
-}
-
-fn is_digit(b: u8) -> bool {
-    if b < 48 {
-        return false;
-    }
-    b <= 57
-}
-
-// Adds a digit to word k, or ends it; the number of the word to go on with.
-fn parse_byte(words: &mut [u32], k: usize, b: u8) -> usize
-    requires { ⌜ k < length (now words) ⌝ }
-    ensures { λ r. ⌜ r ≤ length (now (words .entry)) ⌝ }
-{
-    if is_digit(b) {
-        words[k] = grown(words[k], b);
-        return k;
-    }
-    k + 1
-}
-
-// Reads decimal words, each with a byte behind it, into words that are zeros, until these are full.
-pub fn parse(s: &[u8], words: &mut [u32]) {
-    let mut k: usize = 0;
-    let mut i: usize = 0;
-    while i < s.len() {
-        if k == words.len() {
-            return;
-        }
-        k = parse_byte(words, k, s[i]);
-        i += 1;
-    }
-}
-
 // The number, or how many words there are if that is less.
 pub fn words_lent(a: u32, words: &[u32]) -> usize
     ensures { λ r. ⌜ r ≤ length (now (words .entry)) ⌝ }
@@ -113,15 +76,22 @@ pub fn bytes_lent(a: u32, bytes: &[u8]) -> usize
 }
 
 // A sum, with one more number.
-fn mix(sum: u32, more: u32) -> u32 {
+fn mix(sum: u32, more: u32) -> u32
+    ensures { λ r. ⌜ r ≡ mixed sum more ⌝ }
+{
     (((sum as u64) * 31 + (more as u64)) % 4294967291) as u32
 }
 
-fn up(b: u8) -> u32 {
+fn up(b: u8) -> u32
+    ensures { λ r. ⌜ r ≡ b ⌝ }
+{
     b as u32
 }
 
-pub fn mix_words(words: &[u32]) -> u32 {
+// A sum over all of them.
+pub fn mix_words(words: &[u32]) -> u32
+    ensures { λ r. ⌜ r ≡ mixedTo (now (words .entry)) (length (now (words .entry))) ⌝ }
+{
     let mut sum: u32 = 0;
     let mut i: usize = 0;
     while i < words.len() {
@@ -131,7 +101,10 @@ pub fn mix_words(words: &[u32]) -> u32 {
     sum
 }
 
-pub fn mix_bytes(bytes: &[u8]) -> u32 {
+// A sum over all of them.
+pub fn mix_bytes(bytes: &[u8]) -> u32
+    ensures { λ r. ⌜ r ≡ mixedTo (now (bytes .entry)) (length (now (bytes .entry))) ⌝ }
+{
     let mut sum: u32 = 0;
     let mut i: usize = 0;
     while i < bytes.len() {
@@ -139,16 +112,4 @@ pub fn mix_bytes(bytes: &[u8]) -> u32 {
         i += 1;
     }
     sum
-}
-
-pub fn print(number: u64) {
-    io::print_decimal(1, number);
-    io::write_all(1, b" ");
-}
-
-// An answer, a count, and a sum over a buffer.
-pub fn report(answer: u32, count: usize, sum: u32) {
-    print(answer as u64);
-    print(count as u64);
-    print(sum as u64);
 }

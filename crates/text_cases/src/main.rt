@@ -11,6 +11,54 @@ use chieftables::counted::Counted;
 ghost use Prim.Native.Nat.{_<_, _≤_};
 ghost use lib.ListN.{length};
 
+// A word with one more decimal digit.
+fn grown(word: u32, digit: u8) -> u32 {
+    (((word as u64) * 10 + (digit as u64) % 16) % 4294967296) as u32
+}
+
+fn is_digit(b: u8) -> bool {
+    if b < 48 {
+        return false;
+    }
+    b <= 57
+}
+
+// Adds a digit to word k, or ends it; the number of the word to go on with.
+fn parse_byte(words: &mut [u32], k: usize, b: u8) -> usize
+    requires { ⌜ k < length (now words) ⌝ }
+    ensures { λ r. ⌜ r ≤ length (now (words .entry)) ⌝ }
+{
+    if is_digit(b) {
+        words[k] = grown(words[k], b);
+        return k;
+    }
+    k + 1
+}
+
+// Reads decimal words, each with a byte behind it, into words that are zeros, until these are full.
+fn parse(s: &[u8], words: &mut [u32]) {
+    let mut k: usize = 0;
+    let mut i: usize = 0;
+    while i < s.len() {
+        if k == words.len() {
+            return;
+        }
+        k = parse_byte(words, k, s[i]);
+        i += 1;
+    }
+}
+
+fn print(number: u64) {
+    io::print_decimal(1, number);
+    io::write_all(1, b" ");
+}
+
+fn report(answer: u32, count: usize, sum: u32) {
+    print(answer as u64);
+    print(count as u64);
+    print(sum as u64);
+}
+
 // Whether the first bytes are those of a text, and as many.
 fn is_text(bytes: &[u8], count: usize, text: &[u8]) -> bool {
     if count != text.len() {
@@ -43,7 +91,7 @@ fn write(words: &[u32], room: u32, text: &[u8]) -> bool {
     let mut out = [7u8; 4096];
     let a = write_first(words, &mut out, room);
     let count = a.count;
-    cases::report(a.answer, count, cases::mix_bytes(&out));
+    report(a.answer, count, cases::mix_bytes(&out));
     is_text(&out, count, text)
 }
 
@@ -59,7 +107,7 @@ fn read_case(text: &[u8], have: u32, room: u32) {
     let a = read_first(text, &mut words, have);
     let answer = a.answer;
     let count = a.count;
-    cases::report(answer, count, cases::mix_words(&words));
+    report(answer, count, cases::mix_words(&words));
     if answer == 0 {
         write_back(&words, count, room, text);
     }
@@ -67,14 +115,14 @@ fn read_case(text: &[u8], have: u32, room: u32) {
 
 fn write_case(text: &[u8], have: u32, room: u32) {
     let mut words = [0u32; 512];
-    cases::parse(text, &mut words);
+    parse(text, &mut words);
     let n = cases::words_lent(have, &words);
     write(&words[..n], room, text);
 }
 
 fn answer(line: &[u8], text: &[u8]) {
     let mut numbers = [0u32; 3];
-    cases::parse(line, &mut numbers);
+    parse(line, &mut numbers);
     let have = numbers[1];
     let room = numbers[2];
     if numbers[0] == 0 {

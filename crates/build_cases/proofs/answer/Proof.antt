@@ -9,8 +9,8 @@ use Rattle.build_cases.proofs.answer.Tie as tie
 slice-aggregate-build-first : tie.Need-slice-aggregate-build-first
 slice-aggregate-build-first c = sym (length-replicate {0} {A = ℕ} 786240 7)
 
-lent-requires : tie.Need-lent-requires
-lent-requires c κs = search needs
+number-at-start-requires : tie.Need-number-at-start-requires
+number-at-start-requires c κs = search needs
 
 build-first-requires : tie.Need-build-first-requires
 build-first-requires c κs = search needs
@@ -41,7 +41,7 @@ answer-spec =
     tie.close
     (tie.spec
     slice-aggregate-build-first
-    lent-requires
+    number-at-start-requires
     build-first-requires
     slice-aggregate-mix-words
     mix-words-requires

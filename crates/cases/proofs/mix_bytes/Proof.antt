@@ -1,18 +1,22 @@
--- `mix_bytes` is safe and ends.
+-- `mix_bytes`: after i numbers, the sum over them.
+use mathlib.Core.Path.{_≡_, refl, sym, ap, _∙_}
 use Prim.Native.Nat.{_-_, _≤_}
+use native.Mathlib.Omega.{arith}
 use lib.ListN.{length}
 use borrow.Author.Needs.{needs}
+use Rattle.cases.specs.Sums.{mixedTo}
+use Rattle.cases.proofs.Sums.{mixed-none, mixed-more}
 use Rattle.cases.proofs.mix_bytes.Statement.{statement}
 use Rattle.cases.proofs.mix_bytes.Tie as tie
 
 abbrev Inv-loop : tie.InvT-loop
-Inv-loop bytes sum₀ i₀ sum i = i ≤ length bytes
+Inv-loop bytes sum₀ i₀ sum i = (sum ≡ mixedTo bytes i) × (i ≤ length bytes)
 
 abbrev μ-loop : tie.MeasureT-loop
 μ-loop bytes sum₀ i₀ sum i = length bytes - i
 
 loop-holds : tie.Need-loop-holds Inv-loop μ-loop
-loop-holds c = search needs
+loop-holds c = (sym (mixed-none _), search needs)
 
 shared-slice-read-up : tie.Need-shared-slice-read-up Inv-loop μ-loop
 shared-slice-read-up c = search needs
@@ -30,22 +34,16 @@ loop-less : tie.Need-loop-less Inv-loop μ-loop
 loop-less c = search needs
 
 loop-again : tie.Need-loop-again Inv-loop μ-loop
-loop-again c = search needs
+loop-again c =
+    let l = c .before .before .before .before .loop in
+    (mixed-more (c .before .before .before .before .before .before .args .bytes .now) (l .i) (l .sum) _ _ (l .inv .0) (c .before .up .ensures) (c .mix .ensures), search needs)
 
 returns : tie.Need-returns Inv-loop μ-loop
-returns c = search needs
+returns c =
+    let z = c .before .before .before in
+    let l = c .before .loop in
+    let all : l .i ≡ length (z .args .bytes .now) = omega (arith, l .inv .1) in
+    l .inv .0 ∙ ap (mixedTo (z .args .bytes .now)) all
 
 pub mix-bytes-spec : {M : Type 1} → statement M
-mix-bytes-spec =
-    tie.close
-    (tie.spec
-    Inv-loop
-    μ-loop
-    loop-holds
-    shared-slice-read-up
-    up-requires
-    mix-requires
-    add-i
-    loop-less
-    loop-again
-    returns)
+mix-bytes-spec = tie.close (tie.spec Inv-loop μ-loop loop-holds shared-slice-read-up up-requires mix-requires add-i loop-less loop-again returns)

@@ -3,8 +3,8 @@ use mathlib.Core.Path.{_≡_}
 use Prim.Native.Nat.{_-_, _≤_}
 use lib.ListN.{length}
 use borrow.Author.Needs.{needs}
-use Rattle.cases.proofs.parse.Statement.{statement}
-use Rattle.cases.proofs.parse.Tie as tie
+use Rattle.text_cases.proofs.parse.Statement.{statement}
+use Rattle.text_cases.proofs.parse.Tie as tie
 
 abbrev Inv-loop : tie.InvT-loop
 Inv-loop s words₀ k₀ i₀ words k i = (i ≤ length s) × (k ≤ length words) × (length words ≡ length words₀)

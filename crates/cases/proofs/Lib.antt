@@ -1,0 +1,2 @@
+-- Laws of sums over buffers.
+pub mod Sums

@@ -1,0 +1,2 @@
+-- Sums over buffers.
+pub mod Sums
