@@ -1,2 +1,2 @@
 -- Laws of sums over buffers.
-pub mod Sums
+pub mod Mixed

@@ -1,2 +1,2 @@
 -- Sums over buffers.
-pub mod Sums
+pub mod Mixed

@@ -1,0 +1,36 @@
+-- `build_case` is safe: the buffer keeps its length, which a law tells, since computing it takes too long.
+use mathlib.Core.Path.{sym, _∙_}
+use Prim.Native.Nat.{ℕ}
+use lib.ListN.{length-replicate}
+use borrow.Author.Needs.{needs}
+use Rattle.cases.proofs.build_case.Statement.{statement}
+use Rattle.cases.proofs.build_case.Tie as tie
+
+slice-aggregate-build-first : tie.Need-slice-aggregate-build-first
+slice-aggregate-build-first c = sym (length-replicate {0} {A = ℕ} 786240 7)
+
+build-first-requires : tie.Need-build-first-requires
+build-first-requires c κs = search needs
+
+slice-aggregate-mix-words : tie.Need-slice-aggregate-mix-words
+slice-aggregate-mix-words c = sym (c .before .before .build-first .kept .1 .0 ∙ length-replicate {0} {A = ℕ} 786240 7)
+
+mix-words-requires : tie.Need-mix-words-requires
+mix-words-requires c κs = search needs
+
+report-requires : tie.Need-report-requires
+report-requires c κs = search needs
+
+returns : tie.Need-returns
+returns c = search needs
+
+pub build-case-spec : {M : Type 1} → statement M
+build-case-spec =
+    tie.close
+    (tie.spec
+    slice-aggregate-build-first
+    build-first-requires
+    slice-aggregate-mix-words
+    mix-words-requires
+    report-requires
+    returns)

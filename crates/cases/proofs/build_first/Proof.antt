@@ -1,0 +1,36 @@
+-- `build_first` is safe: as many words are lent as there are, at most.
+use mathlib.Core.Path.{sym}
+use native.Mathlib.Omega.{arith}
+use lib.Seq.{length-take-le}
+use borrow.Author.Needs.{needs}
+use Rattle.cases.proofs.build_first.Statement.{statement}
+use Rattle.cases.proofs.build_first.Tie as tie
+
+words-lent-requires : tie.Need-words-lent-requires
+words-lent-requires c κs = search needs
+
+slice-relend-prefix-build : tie.Need-slice-relend-prefix-build
+slice-relend-prefix-build c = search needs
+
+slice-aggregate-build : tie.Need-slice-aggregate-build
+slice-aggregate-build c = sym (length-take-le _ _ (omega arith))
+
+build-requires : tie.Need-build-requires
+build-requires c κs = search needs
+
+same-length : tie.Need-same-length
+same-length c = search needs
+
+returns : tie.Need-returns
+returns c = search needs
+
+pub build-first-spec : {M : Type 1} → statement M
+build-first-spec =
+    tie.close
+    (tie.spec
+    words-lent-requires
+    slice-relend-prefix-build
+    slice-aggregate-build
+    build-requires
+    same-length
+    returns)

@@ -1,0 +1,36 @@
+-- `write_back` is safe: the lines stand within the words.
+use mathlib.Core.Path.{sym}
+use native.Mathlib.Omega.{arith}
+use lib.Seq.{length-take-le}
+use borrow.Author.Needs.{needs}
+use Rattle.cases.proofs.write_back.Statement.{statement}
+use Rattle.cases.proofs.write_back.Tie as tie
+
+mul-write : tie.Need-mul-write
+mul-write c = search needs
+
+slice-aggregate-write : tie.Need-slice-aggregate-write
+slice-aggregate-write c = sym (length-take-le _ _ (omega arith))
+
+write-requires : tie.Need-write-requires
+write-requires c κs = search needs
+
+report-same-requires : tie.Need-report-same-requires
+report-same-requires c κs = search needs
+
+returns : tie.Need-returns
+returns c = search needs
+
+returns-2 : tie.Need-returns-2
+returns-2 c = search needs
+
+pub write-back-spec : {M : Type 1} → statement M
+write-back-spec =
+    tie.close
+    (tie.spec
+    mul-write
+    slice-aggregate-write
+    write-requires
+    report-same-requires
+    returns
+    returns-2)

@@ -1,0 +1,73 @@
+// The parts of a case of the standard input, and of the buffers that are lent.
+//
+//   Case, case_at              the parts of a case: its line, its text, a form feed
+//   words_lent, bytes_lent     how much of a buffer is lent
+ghost use Prim.Native.Nat.{_<_, _≤_};
+ghost use lib.ListN.{length};
+
+// The first position from `start` on where the byte stands, or the end.
+fn find(s: &[u8], start: usize, byte: u8) -> usize
+    requires { ⌜ start ≤ length (now s) ⌝ }
+    ensures { λ r. ⌜ (start ≤ r) × (r ≤ length (now (s .entry))) ⌝ }
+{
+    let mut at = start;
+    while at < s.len() {
+        if s[at] == byte {
+            return at;
+        }
+        at += 1;
+    }
+    at
+}
+
+// The position behind a position, or the end.
+fn behind(s: &[u8], at: usize) -> usize
+    requires { ⌜ at ≤ length (now s) ⌝ }
+    ensures { λ r. ⌜ (at ≤ r) × (r ≤ length (now (s .entry))) ⌝ }
+{
+    if at < s.len() {
+        return at + 1;
+    }
+    at
+}
+
+// Where the text of a case begins and ends, and where the next case begins.
+pub struct Case {
+    pub text: usize,
+    pub end: usize,
+    pub next: usize,
+}
+
+// The case from `at` on: a line that is not empty, a text, and a form feed.
+pub fn case_at(input: &[u8], at: usize) -> Case
+    requires { ⌜ at < length (now input) ⌝ }
+    ensures { λ c. ⌜ (at < c .text) × (c .text ≤ c .end) × (c .end ≤ c .next) × (c .next ≤ length (now (input .entry))) ⌝ }
+{
+    let line = find(input, at + 1, 10);
+    let text = behind(input, line);
+    let end = find(input, text, 12);
+    let next = behind(input, end);
+    Case { text, end, next }
+}
+
+// The number, or how many words there are if that is less.
+pub fn words_lent(a: u32, words: &[u32]) -> usize
+    ensures { λ r. ⌜ r ≤ length (now (words .entry)) ⌝ }
+{
+    let n = a as usize;
+    if n < words.len() {
+        return n;
+    }
+    words.len()
+}
+
+// The same of bytes.
+pub fn bytes_lent(a: u32, bytes: &[u8]) -> usize
+    ensures { λ r. ⌜ r ≤ length (now (bytes .entry)) ⌝ }
+{
+    let n = a as usize;
+    if n < bytes.len() {
+        return n;
+    }
+    bytes.len()
+}
