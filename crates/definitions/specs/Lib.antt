@@ -8,3 +8,4 @@ pub mod Table
 pub mod Steps
 pub mod Judgement
 pub mod Answers
+pub mod Programs

@@ -4,9 +4,11 @@
 --   refused             a refused build
 --   text-is, text-within     what a finished write_table leaves
 --   written             a finished build, whose words are always written
-use mathlib.Core.Path.{_≡_, sym, ap, ap₂, _∙_, subst}
+--   file-long, file-short     the bytes of a file: too many, and not too many
+use mathlib.Core.Path.{_≡_, refl, sym, ap, ap₂, _∙_, subst}
+use mathlib.Core.Logic.{inl, inr}
 use mathlib.Core.List.{List}
-use Prim.Native.Nat.{ℕ, _*_, _≤_}
+use Prim.Native.Nat.{ℕ, _*_, _≤_, _<_}
 use native.Mathlib.Nat.{div-add-mod'}
 use native.Mathlib.Omega.{arith}
 use lib.ListN.{length, take, drop, length-append}
@@ -19,7 +21,8 @@ use Rattle.definitions.specs.Table.{lineCount, tableText}
 use Rattle.definitions.specs.Steps.{tableOf}
 use Rattle.definitions.specs.Answers.{First, buildRefusals, over, Build, WriteTable}
 use Rattle.clifford.proofs.Calls.{left-behind}
-use Rattle.reptable.specs.Tabulated.{lent, room, Tabulated}
+use Rattle.definitions.specs.Programs.{lentWords, groupBytes, Reptable}
+use Rattle.reptable.specs.Tabulated.{room, Tabulated}
 use Rattle.reptable.proofs.Finished.{accepts, never-refused}
 
 -- what is written over a buffer is no longer than the buffer after it
@@ -38,11 +41,11 @@ lines-within {before = before} e B =
     omega (arith, k, ap length w, over-within before (tableOf (presentation R)), div-add-mod' (length (tableOf (presentation R))) 8)
 
 pub refused :
-    {t : Bytes} {before after : List ℕ} {answer count : ℕ} (out : Bytes) → length before ≡ lent → ¬ (answer ≡ 0) → Build t before answer count after
+    {t : Bytes} {before after : List ℕ} {answer count : ℕ} (out : Bytes) → length before ≡ lentWords → ¬ (answer ≡ 0) → Build t before answer count after
     → Tabulated t answer (take count out) × Counts count out
 refused {t} {answer = answer} {count} out l ne B =
     let z : count ≡ 0 = B .leaves .refused ne .0 in
-    ((subst (λ k. First (buildRefusals t k) answer) l (B .answered), λ e. absurd (ne e)), counts count out (omega arith))
+    (record { answered = subst (λ k. First (buildRefusals t k) answer) l (B .answered); written = λ e. absurd (ne e) }, counts count out (omega arith))
 
 -- ---- A finished build
 
@@ -54,13 +57,21 @@ text-within : {T : List ℕ} {out after : Bytes} {answer count : ℕ} → WriteT
 text-within {T} {out} W e = let (k, w) = W .leaves .finished e in omega (arith, k, ap length w, over-within out (tableText T))
 
 pub written :
-    {t : Bytes} {before after : List ℕ} {status lines answer count : ℕ} {out text : Bytes} → length before ≡ lent → room ≤ length out → status ≡ 0
+    {t : Bytes} {before after : List ℕ} {status lines answer count : ℕ} {out text : Bytes} → length before ≡ lentWords → room ≤ length out → status ≡ 0
     → Build t before status lines after → WriteTable (take (8 * lines) after) out answer count text → Tabulated t answer (take count text) × Counts count text
 unfolding lineWords
 written {t} {before} {after} {status} {lines} {answer} {count} {out} {text} l b z B W =
     let (R, s, (k, w)) = B .leaves .finished z in
-    let f : First (buildRefusals t lent) 0 = subst (First (buildRefusals t lent)) z (subst (λ h. First (buildRefusals t h) status) l (B .answered)) in
+    let f : First (buildRefusals t lentWords) 0 = subst (First (buildRefusals t lentWords)) z (subst (λ h. First (buildRefusals t h) status) l (B .answered)) in
     let q : take (8 * lines) after ≡ tableOf (presentation R) = ap₂ (λ (n : ℕ) (v : List ℕ). take (8 * n) v) k w ∙ left-behind t (accepts f) R s before in
     let X : WriteTable (tableOf (presentation R)) out answer count text = subst (λ T. WriteTable T out answer count text) q W in
     let e : answer ≡ 0 = never-refused f R s b (X .answered) in
-    ((subst (First (buildRefusals t lent)) (sym e) f, λ a. (R, s, text-is X e)), counts count text (text-within X e))
+    (record { answered = subst (First (buildRefusals t lentWords)) (sym e) f; written = λ a. (R, s, text-is X e) }, counts count text (text-within X e))
+
+-- ---- Files
+
+pub file-long : {t : Bytes} (out : Bytes) → groupBytes < length t → Reptable t 11 (take 0 out) × Counts 0 out
+file-long out l = (record { answered = inl (l, refl); printed = λ e. absurd (omega (arith, e)) }, counts 0 out (omega arith))
+
+pub file-short : {t o : Bytes} {answer : ℕ} → length t ≤ groupBytes → Tabulated t answer o → Reptable t answer o
+file-short l T = record { answered = inr (λ h. omega arith, T .answered); printed = T .written }

@@ -23,18 +23,19 @@ use Rattle.clifford.proofs.Calls.{Unrefused, unrefused}
 use Rattle.clifford.proofs.Calls as said
 use Rattle.assembly.proofs.Stated as stated
 use Rattle.table.proofs.Calls.{writable-whole}
-use Rattle.reptable.specs.Tabulated.{lent, room}
+use Rattle.definitions.specs.Programs.{lentWords}
+use Rattle.reptable.specs.Tabulated.{room}
 use Rattle.reptable.proofs.Values.{table-small}
 use Rattle.reptable.proofs.Lengths.{text-length}
 
 -- 16, the one refusal behind those of the text
 abbrev short : Bytes → List (ℕ × Type 0)
-short t = (16, says t (λ R. lent < buildWords (presentation R))) ∷ []
+short t = (16, says t (λ R. lentWords < buildWords (presentation R))) ∷ []
 
-pub accepts : {t : Bytes} → First (buildRefusals t lent) 0 → Unrefused t
+pub accepts : {t : Bytes} → First (buildRefusals t lentWords) 0 → Unrefused t
 accepts {t} f = unrefused t (short t) f
 
-module _ {t : Bytes} (f : First (buildRefusals t lent) 0) (R : Relations) (s : Says t R) where
+module _ {t : Bytes} (f : First (buildRefusals t lentWords) 0) (R : Relations) (s : Says t R) where
   abbrev U : Unrefused t
   U = accepts f
 
@@ -49,12 +50,12 @@ module _ {t : Bytes} (f : First (buildRefusals t lent) 0) (R : Relations) (s : S
   unfolding lineWords
   table-writable = let (k, e) = table-words R (s .formed) (said.primes t U R s) (said.words-used t U R s) (said.consistent t U R s) in writable-whole (tableOf (presentation R)) (omega arith) words-small
 
-  enough : buildWords (presentation R) ≤ lent
+  enough : buildWords (presentation R) ≤ lentWords
   enough = go (first-past (presentationRefusals t) (short t) (omega arith, (omega arith, (omega arith, (omega arith, (omega arith, tt))))) f)
     where
-      go : First (short t) 0 → buildWords (presentation R) ≤ lent
+      go : First (short t) 0 → buildWords (presentation R) ≤ lentWords
       go (inl h) = absurd (omega (arith, h .1))
-      go (inr h) = let few : ¬ (lent < buildWords (presentation R)) = λ l. h .0 (R, s, l) in omega arith
+      go (inr h) = let few : ¬ (lentWords < buildWords (presentation R)) = λ l. h .0 (R, s, l) in omega arith
 
   table-room : length (tableText (tableOf (presentation R))) ≤ room
   unfolding lineCount lineWords

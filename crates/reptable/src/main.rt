@@ -5,6 +5,7 @@ use libc::STDOUT_FILENO;
 ghost use Prim.Native.Nat.{_≤_};
 ghost use lib.ListN.{length, take};
 ghost use Rattle.io.specs.Counts.{Counts};
+ghost use Rattle.definitions.specs.Programs.{Reptable};
 ghost use Rattle.reptable.specs.Tabulated.{room, Tabulated};
 
 // Bytes of a presentation text, at most.
@@ -32,16 +33,31 @@ fn tabulate(text: &[u8], out: &mut [u8]) -> Counted
     chieftables::write_table::write_table(&words[..8 * count], out)
 }
 
+// The same for the bytes of a file, of which there may be too many.
+fn tabulate_file(bytes: &[u8], out: &mut [u8]) -> Counted
+    requires { ⌜ room ≤ length (now out) ⌝ }
+    ensures { λ r. ⌜ Reptable (now (bytes .entry)) (r .answer) (take (r .count) (now (out .exit))) ⌝ }
+    ensures { λ r. ⌜ Counts (r .count) (now (out .exit)) ⌝ }
+{
+    if bytes.len() > TEXT {
+        return Counted {
+            answer: 11,
+            count: 0,
+        };
+    }
+    tabulate(bytes, out)
+}
+
 fn print_answer(number: u32) {
     io::write_all(STDOUT_FILENO, b"answer\n");
     io::print_decimal(STDOUT_FILENO, number as u64);
     io::write_all(STDOUT_FILENO, b"\n");
 }
 
-// Prints the table that a presentation text asks for, or the answer of a refusal.
-fn print_table(text: &[u8]) {
+// Prints the table that the bytes of a file ask for, or the answer of a refusal.
+fn print_table(bytes: &[u8]) {
     let mut out = [0u8; ROOM];
-    let written = tabulate(text, &mut out);
+    let written = tabulate_file(bytes, &mut out);
     let number = written.answer;
     if number != 0 {
         print_answer(number);
@@ -68,9 +84,5 @@ fn read_group(text: &mut [u8]) -> usize
 fn main() {
     let mut text = [0u8; TEXT + 1];
     let count = read_group(&mut text);
-    if count > TEXT {
-        print_answer(11);
-        return;
-    }
     print_table(&text[..count]);
 }
