@@ -5,21 +5,20 @@
 --   Star, holds                a row, and what it claims
 --   starred                    the rows
 --   starred-hold               every row holds, and the example of 15 is not consistent
-use mathlib.Core.Path.{_≡_, refl, sym, _∙_, ap}
-use Prim.Native.Nat.{ℕ, zero, suc, _+_, _*_, _<_}
+use mathlib.Core.Path.{_≡_, refl, ap}
+use Prim.Native.Nat.{ℕ, zero, suc, _+_, _*_}
 use Prim.Native.Char.{code}
 use Prim.Native.String.{String, [] as ε, _∷_ as _▹_}
 use mathlib.Core.Bool.{Bool, true, false, _&&_, not}
-use mathlib.Core.List.{List, [], _∷_, _++_, map, zipWith, flatMap}
-use lib.ListN.{length, set, take}
+use mathlib.Core.List.{List, [], _∷_, map, zipWith, flatMap}
+use lib.ListN.{set, take}
 use lib.Dec.{eqb}
 use native.Mathlib.Omega.{arith}
-use Rattle.definitions.specs.declared.Entry.{Entry}
 use Rattle.definitions.specs.Lists.{upto, blocks, sum, allBelow, anyBelow, all, any, least, leastFrom, iter, same}
 use Rattle.definitions.specs.Text.{Bytes, largest, digits, decimal, spaced, line, valueLine, render, small}
 use Rattle.definitions.specs.Presentation.{maxGenerators, maxOrder, lineWords, toNF, trivial, Presentation, order, buildWords, power, value, Row, Relations, pairsOf, pairs, pairNumber, presentationNames, textOf, wellFormed, rowOf, presentation, isPrime, someNotPrime, tooLarge, allowed, rowWell, misused}
-use Rattle.definitions.specs.Consistency.{Letter, gen, inv, Word, word, Step, forth, back, Sides, power-relation, commutator-relation, gen-inv, inv-gen, Chain, done, link, Consistent, carry, mulStep, conjStep, arithmeticStep, arithmetic, generator, sameForm, keepsPowers, keepsCommutators, fixesPower, powerIsInner, levelTest, test}
-use Rattle.definitions.specs.Monomial.{Matrix, entry, col, identity, less, act, product, scale, inverse, valid, sameEntry, sameMatrix, Rep, repOf, image, conjugate}
+use Rattle.definitions.specs.Consistency.{gen, inv, word, forth, back, power-relation, commutator-relation, gen-inv, Chain, done, link, Consistent, carry, mulStep, conjStep, arithmeticStep, arithmetic, generator, sameForm, keepsPowers, keepsCommutators, fixesPower, powerIsInner, levelTest, test}
+use Rattle.definitions.specs.Monomial.{Matrix, col, identity, less, act, product, scale, inverse, valid, sameEntry, sameMatrix, Rep, repOf, image, conjugate}
 use Rattle.definitions.specs.Table.{lineOf, repWords, levelWords, wordAt, lineCount, begins, degrees, columns, firstLine, repAt, levelZero, levelAt, complete, tableNames, rowsOf, tableText, writable}
 use Rattle.definitions.specs.Steps.{lift, fixed, orbit, leader, position, made, start, s, extended, l, a, extension, along, lastBlock, blockDiagonal, blockCycle, blockIntertwiner, leftSide, rightSide, nextBlock, blockAfter, scalarAfter, c, induction, givenBy, nextLevel, levels, tableWith, tableOf}
 use Rattle.definitions.specs.Judgement.{allForms, cutsFrom, cuts, wholeBlock, everywhere, everyLevel, matricesValid, blocksWhole, targetsListed, malformed, powerHolds, commutatorHolds, relationsHold, relationFails, blockRestricts, restricts, restrictionFails, intertwines, intertwinersHold, intertwinerFails, reaches, tells, separates, notSeparated, squares, squaresFail}
@@ -62,7 +61,7 @@ holds (builds R t) = writable (tableOf (presentation R)) && same (tableText (tab
 holds (has-degrees R i ds) = same (map (λ (D : Rep). D .deg) (built R i)) ds
 holds (has-matrix R i r zero xs) = false
 holds (has-matrix R i r (suc g) xs) = same (flat (repOf (built R i) r .matrix g)) xs
-holds (judged R T a) = eqb (judgement (presentation R) T) a
+holds (judged R T a) = eqb (judgement (presentation R) (order (presentation R) (R .n)) T) a
 
 -- ---- The groups
 
