@@ -1,4 +1,5 @@
 -- Theorems about the definitions.
+pub mod Groups
 pub mod Refusals
 pub mod Rendering
 pub mod Starred

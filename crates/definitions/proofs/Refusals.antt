@@ -7,6 +7,7 @@
 --   none-front, none-back      none of a list and what stands behind it: none of either
 --   first-refused         a refusal is one of every call whose refusals begin so
 --   first-behind          where none of them applies, such a call answers by what stands behind
+--   refusal-numbers       the numbers of each list, in the order in which they are tried
 --   first-tests           conditions that are decided by tests: the first is that of the tests
 --   unsaid                a test that no relations said by a text meet
 --   Unrefused             none of 11 to 15 applies to a text
@@ -22,7 +23,7 @@ use lib.Dec.{ltb}
 use borrow.Author.Tests.{ltb-true}
 use Rattle.definitions.specs.Text.{Bytes}
 use Rattle.definitions.specs.Presentation.{Presentation, Relations, Says, presentation}
-use Rattle.definitions.specs.Answers.{First, firstOf, says, presentationRefusals, short, buildRefusals, judgements, tableRefusals, checkRefusals, judgement, Accept}
+use Rattle.definitions.specs.Answers.{First, firstOf, says, presentationRefusals, short, buildRefusals, judgements, tableRefusals, checkRefusals, judgement, readRefusals, writeRefusals, Accept}
 use Rattle.definitions.proofs.Rendering.{and-left, and-right, says-unique}
 
 pub first-unique : (cs : List (ℕ × Type 0)) (a b : ℕ) → First cs a → First cs b → a ≡ b
@@ -31,6 +32,20 @@ first-unique (c ∷ cs) a b (inl p) (inl q) = p .1 ∙ sym (q .1)
 first-unique (c ∷ cs) a b (inl p) (inr q) = absurd (q .0 (p .0))
 first-unique (c ∷ cs) a b (inr p) (inl q) = absurd (p .0 (q .0))
 first-unique (c ∷ cs) a b (inr p) (inr q) = first-unique cs a b (p .1) (q .1)
+
+-- ---- The numbers
+
+abbrev numbers : List (ℕ × Type 0) → List ℕ
+numbers cs = map (λ (c : ℕ × Type 0). c .0) cs
+
+pub refusal-numbers : (t : Bytes) (have : ℕ) (modulus : Presentation → ℕ) (T : List ℕ)
+    → (numbers (presentationRefusals t) ≡ 11 ∷ 12 ∷ 13 ∷ 14 ∷ 15 ∷ [])
+    × (numbers (buildRefusals t have) ≡ 11 ∷ 12 ∷ 13 ∷ 14 ∷ 15 ∷ 16 ∷ [])
+    × (numbers (checkRefusals t modulus T) ≡ 11 ∷ 12 ∷ 13 ∷ 14 ∷ 15 ∷ 21 ∷ 22 ∷ 23 ∷ 24 ∷ 25 ∷ 26 ∷ [])
+    × (numbers (readRefusals t have) ≡ 16 ∷ 20 ∷ [])
+    × (numbers (writeRefusals T have) ≡ 21 ∷ 16 ∷ [])
+    × (map (λ (q : ℕ × (Presentation → ℕ → List ℕ → Bool)). q .0) judgements ≡ 21 ∷ 22 ∷ 23 ∷ 24 ∷ 25 ∷ 26 ∷ [])
+refusal-numbers t have modulus T = (refl, refl, refl, refl, refl, refl)
 
 -- ---- None applies
 

@@ -5,6 +5,7 @@
 --   First conditions a         a is the number of the first condition that applies, or 0
 --   firstOf tests              the same for conditions that compute
 --   says t Q                   the text t says relations of which Q holds
+--   relationTests              12 to 14, each with its test
 --   textRefusals, inconsistent, presentationRefusals      11 to 14; 15; 11 to 15
 --   short, buildRefusals       16; 11 to 16
 --   judgements                 21 to 26, each with its test
@@ -45,13 +46,11 @@ says t Q = (R : Relations) × Says t R × Q R
 
 -- ---- The conditions
 
+abbrev pub relationTests : List (ℕ × (Relations → Bool))
+relationTests = (12, someNotPrime) ∷ (13, tooLarge) ∷ (14, misused) ∷ []
+
 abbrev pub textRefusals : Bytes → List (ℕ × Type 0)
-textRefusals t =
-    (11, ¬ InForm t)
-    ∷ (12, says t (λ R. someNotPrime R ≡ true))
-    ∷ (13, says t (λ R. tooLarge R ≡ true))
-    ∷ (14, says t (λ R. misused R ≡ true))
-    ∷ []
+textRefusals t = (11, ¬ InForm t) ∷ map (λ (q : ℕ × (Relations → Bool)). (q .0, says t (λ R. q .1 R ≡ true))) relationTests
 
 abbrev pub inconsistent : Bytes → List (ℕ × Type 0)
 inconsistent t = (15, says t (λ R. ¬ Consistent (presentation R))) ∷ []
