@@ -1,5 +1,6 @@
 -- Presentations and tables for the rows of `Starred`, in a short notation that computes.
 --
+--   equal                  two lists are equal, apart from the test of the definitions, which the rows try
 --   bytes                  the bytes of a string
 --   words                  the numbers in strings, each ended by a byte that is no digit or by the end of its string
 --   row, relations         a line of a text; relations by their primes and the words that are not empty
@@ -12,7 +13,7 @@
 use Prim.Native.Nat.{ℕ, suc, _+_, _*_, _-_}
 use Prim.Native.Char.{code}
 use Prim.Native.String.{String, [] as ε, _∷_ as _▹_}
-use mathlib.Core.Bool.{_&&_, cond}
+use mathlib.Core.Bool.{Bool, true, false, _&&_, cond}
 use mathlib.Core.List.{List, [], _∷_, _++_, map, flatMap}
 use lib.ListN.{length, getD, set}
 use lib.Dec.{eqb, leb}
@@ -22,6 +23,12 @@ use Rattle.definitions.specs.Presentation.{lineWords, Row, Relations, pa
 use Rattle.definitions.specs.Steps.{tableOf}
 
 -- ---- Notation
+
+unfoldable pub equal : List ℕ → List ℕ → Bool
+equal [] [] = true
+equal [] (y ∷ ys) = false
+equal (x ∷ xs) [] = false
+equal (x ∷ xs) (y ∷ ys) = cond (eqb x y) (equal xs ys) false
 
 unfoldable pub bytes : String → Bytes
 bytes ε = []
@@ -225,6 +232,13 @@ unfoldable pub doubled-V4 : List String
 doubled-V4 =
     "1 0 1 1 0 0 0 0,1 0 1 2 0 0 0 0,1 1 1 1 0 0 0 2,1 1 1 2 1 0 0 0,1 2 1 1 0 0 0 2,1 2 1 2 1 0 0 0,2 0 1 1 0 0 0 0,2 0 1 2 0 0 0 0"
     ∷ "2 1 1 1 0 0 0 0,2 1 1 2 0 0 0 2,2 2 1 1 1 0 0 2,2 2 1 2 1 0 0 0,2 3 1 1 1 0 0 2,2 3 1 2 1 0 0 2"
+    ∷ []
+
+-- V4: the trivial representation stands last on level 2, and its last line is missing
+unfoldable pub cut-V4 : List String
+cut-V4 =
+    "1 0 1 1 0 0 0 0,1 0 1 2 0 0 0 0,1 1 1 1 0 0 0 2,1 1 1 2 1 0 0 0,2 0 1 1 0 0 0 0,2 0 1 2 0 0 0 2,2 1 1 1 1 0 0 2,2 1 1 2 1 0 0 0"
+    ∷ "2 2 1 1 1 0 0 2,2 2 1 2 1 0 0 2,2 3 1 1 0 0 0 0"
     ∷ []
 
 -- for level 3 of S3-C2: degree 1, and refers to degree 2

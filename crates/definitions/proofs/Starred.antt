@@ -4,11 +4,12 @@
 --
 --   Star, holds                a row, and what it claims
 --   groups, presentations, tables, checks      the rows
---   starred, starred-hold      all of them; every row holds, and the example of 15 is not consistent
+--   starred, every             all of them; a list of which each holds
+--   starred-hold               every row holds, and the example of 15 is not consistent
 use mathlib.Core.Path.{_≡_, refl, ap}
 use Prim.Native.Nat.{ℕ, zero, suc, _+_, _*_}
 use Prim.Native.String.{String}
-use mathlib.Core.Bool.{Bool, true, false, _&&_, not}
+use mathlib.Core.Bool.{Bool, true, false, _&&_, not, cond}
 use mathlib.Core.List.{List, [], _∷_, _++_, map, zipWith, flatMap}
 use lib.ListN.{take}
 use lib.Dec.{eqb}
@@ -22,7 +23,7 @@ use Rattle.definitions.specs.Table.{lineOf, repWords, levelWords, wordAt
 use Rattle.definitions.specs.Steps.{lift, fixed, orbit, leader, position, made, start, s, extended, l, a, extension, along, lastBlock, blockDiagonal, blockCycle, blockIntertwiner, leftSide, rightSide, nextBlock, blockAfter, scalarAfter, c, induction, givenBy, nextLevel, levels, tableWith, tableOf}
 use Rattle.definitions.specs.Judgement.{allForms, cutsFrom, cuts, wholeBlock, everywhere, everyLevel, matricesValid, blocksWhole, targetsListed, malformed, powerHolds, commutatorHolds, relationsHold, relationFails, blockRestricts, restricts, restrictionFails, intertwines, intertwinersHold, intertwinerFails, reaches, tells, separates, notSeparated, squares, squaresFail}
 use Rattle.definitions.specs.Answers.{firstOf, relationTests, judgement}
-use Rattle.definitions.proofs.Groups.{bytes, numbersFrom, words, row, wordIn, relations, table, change, S3-line, S3-with, S3, V4, C4, Q8, C2-cubed, S3-C2, dense12, dense20, dense54, long-carry, twisted, twisted-table, rooted, rooted-table, affine, affine-table, linked, linked-table, wide-S3, swapped-C4, unequal-C2-cubed, diagonal-V4, exchanging-V4, doubled-V4, short-block, mixed-block, shifted}
+use Rattle.definitions.proofs.Groups.{equal, bytes, numbersFrom, words, row, wordIn, relations, table, change, S3-line, S3-with, S3, V4, C4, Q8, C2-cubed, S3-C2, dense12, dense20, dense54, long-carry, twisted, twisted-table, rooted, rooted-table, affine, affine-table, linked, linked-table, wide-S3, swapped-C4, unequal-C2-cubed, diagonal-V4, exchanging-V4, doubled-V4, cut-V4, short-block, mixed-block, shifted}
 
 -- ---- Rows
 
@@ -37,6 +38,8 @@ pub data Star : Type 0 where
   builds : Relations → List String → Star
   -- the words of the built table
   tabulates : Relations → List String → Star
+  -- whether the words can be written as table text
+  writes : List ℕ → Bool → Star
   -- the built degrees of level i
   has-degrees : Relations → (i : ℕ) → List ℕ → Star
   -- generator g (from 1) in representation r of the built level i: row and exponent, column by column
@@ -56,13 +59,14 @@ refusal R = firstOf (map (λ (q : ℕ × (Relations → Bool)). (q .0, q .1 R)) 
 
 unfoldable pub holds : Star → Bool
 holds (answers R a) = wellFormed R && eqb (refusal R) a
-holds (reads R t a) = same (textOf R) (bytes t) && wellFormed R && eqb (refusal R) a
+holds (reads R t a) = equal (textOf R) (bytes t) && wellFormed R && eqb (refusal R) a
 holds (wants R k) = eqb (buildWords (presentation R)) k
-holds (builds R texts) = writable (table R) && same (tableText (table R)) (flatMap bytes texts)
-holds (tabulates R texts) = same (table R) (words texts)
-holds (has-degrees R i ds) = same (map (λ (D : Rep). D .deg) (built R i)) ds
+holds (builds R texts) = writable (table R) && equal (tableText (table R)) (flatMap bytes texts)
+holds (tabulates R texts) = equal (table R) (words texts)
+holds (writes T b) = cond b (writable T) (not (writable T))
+holds (has-degrees R i ds) = equal (map (λ (D : Rep). D .deg) (built R i)) ds
 holds (has-matrix R i r zero xs) = false
-holds (has-matrix R i r (suc g) xs) = same (flat (repOf (built R i) r .matrix g)) xs
+holds (has-matrix R i r (suc g) xs) = equal (flat (repOf (built R i) r .matrix g)) xs
 holds (judged R T a) = eqb (judgement (presentation R) (order (presentation R) (R .n)) T) a
 
 -- the starred groups, and the examples of the refusal table
@@ -127,23 +131,30 @@ presentations =
     ∷ answers long-carry 0
     ∷ []
 
--- clauses of the steps
+-- clauses of the steps, and of what can be written
 unfoldable pub tables : List Star
 tables =
     tabulates twisted twisted-table
     ∷ tabulates rooted rooted-table
     ∷ tabulates affine affine-table
     ∷ tabulates linked linked-table
+    ∷ writes (words ("1 2 3 4 5 6 7 999999999" ∷ [])) true
+    ∷ writes (words ("1 2 3 4 5 6 7 1000000000" ∷ [])) false
+    ∷ writes (words ("1 2 3 4 5 6 7" ∷ [])) false
     ∷ []
 
 -- clauses of refusals 21 to 26
 unfoldable pub checks : List Star
 checks =
-    judged S3 (change 13 7 6 (table S3)) 21
+    judged S3 (take (lineWords * 6) (table S3)) 21
+    ∷ judged S3 (change 1 5 1 (table S3)) 21
+    ∷ judged S3 (table S3 ++ words ("3 0 1 1 0 0 0 0" ∷ [])) 21
+    ∷ judged V4 (words cut-V4) 21
+    ∷ judged S3 (change 13 7 6 (table S3)) 21
     ∷ judged S3 (change 12 6 0 (table S3)) 21
     ∷ judged S3-C2 (table S3-C2 ++ words short-block) 21
     ∷ judged S3-C2 (table S3-C2 ++ words mixed-block) 21
-    ∷ judged S3 (change 8 4 7 (change 9 4 7 (table S3))) 21
+    ∷ judged S3 (change 8 4 3 (change 9 4 3 (table S3))) 21
     ∷ judged S3 (change 1 4 3 (table S3)) 21
     ∷ judged S3 (words wide-S3) 21
     ∷ judged S3 (change 12 4 2 (change 13 4 1 (table S3))) 21
@@ -159,6 +170,10 @@ checks =
 
 unfoldable pub starred : List Star
 starred = groups ++ presentations ++ tables ++ checks
+
+unfoldable pub every : List Star → Bool
+every [] = true
+every (x ∷ xs) = cond (holds x) (every xs) false
 
 -- ---- The example of 15
 
@@ -187,9 +202,9 @@ module _ where
 
 -- ---- The lemma
 
-pub starred-hold : (all holds starred ≡ true) × (¬ Consistent (presentation (S3-with 2)))
-unfolding starred groups presentations tables checks holds refusal flat built bytes numbersFrom words wordIn relations table change twisted-table
-    rooted-table affine-table linked-table wide-S3 swapped-C4 unequal-C2-cubed diagonal-V4 exchanging-V4 doubled-V4 short-block mixed-block
+pub starred-hold : (every starred ≡ true) × (¬ Consistent (presentation (S3-with 2)))
+unfolding starred every groups presentations tables checks holds refusal flat built equal bytes numbersFrom words wordIn relations table change twisted-table
+    rooted-table affine-table linked-table wide-S3 swapped-C4 unequal-C2-cubed diagonal-V4 exchanging-V4 doubled-V4 cut-V4 short-block mixed-block
     shifted maxGenerators maxOrder lineWords largest digits decimal spaced line valueLine render small zipWith flatMap textOf wellFormed
     presentationNames pairs pairsOf isPrime someNotPrime tooLarge allowed rowWell misused buildWords presentation rowOf pairNumber toNF power
     value trivial order carry mulStep conjStep arithmeticStep arithmetic generator sameForm keepsPowers keepsCommutators fixesPower powerIsInner

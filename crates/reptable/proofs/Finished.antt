@@ -6,7 +6,6 @@
 --   table-room          its text is no longer than the room
 --   never-refused       so writing it is never refused
 use mathlib.Core.Path.{_≡_, refl, sym, ap, _∙_, subst}
-use mathlib.Core.Logic.{inl, inr}
 use mathlib.Core.Bool.{true, true≢false}
 use Prim.Native.Nat.{ℕ, _≤_, _<_}
 use native.Mathlib.Omega.{arith}
@@ -16,7 +15,7 @@ use Rattle.definitions.specs.Presentation.{lineWords, buildWords, Relations, Sa
 use Rattle.definitions.specs.Table.{lineCount, tableText, writable}
 use Rattle.definitions.specs.Steps.{tableOf}
 use Rattle.definitions.specs.Answers.{First, presentationRefusals, short, buildRefusals, writeRefusals}
-use Rattle.definitions.proofs.Refusals.{first-none, none-back, Unrefused, build-unrefused}
+use Rattle.definitions.proofs.Refusals.{first-unique, first-none, none-first, none-back, Unrefused, build-unrefused}
 use Rattle.clifford.proofs.Theorem.{accepted, accepted-is, table-words}
 use Rattle.clifford.proofs.Calls as said
 use Rattle.assembly.proofs.Stated as stated
@@ -59,6 +58,6 @@ module _ {t : Bytes} (f : First (buildRefusals t lent) 0) (R : Relations) (s : S
       omega arith
 
   pub never-refused : {have answer : ℕ} → room ≤ have → First (writeRefusals (tableOf (presentation R)) have) answer → answer ≡ 0
-  never-refused l (inl h) = absurd (true≢false (sym table-writable ∙ h .0))
-  never-refused l (inr (h, inl k)) = absurd (omega (arith, k .0, table-room))
-  never-refused l (inr (h, inr (k, e))) = e
+  never-refused {have} {answer} l f =
+      first-unique (writeRefusals (tableOf (presentation R)) have) answer 0 f
+      (none-first (writeRefusals (tableOf (presentation R)) have) (λ h. true≢false (sym table-writable ∙ h), (λ h. omega (arith, table-room), tt)))
