@@ -6,26 +6,22 @@
 use mathlib.Core.Path.{_≡_, refl, sym, subst, _∙_}
 use mathlib.Core.Logic.{inl, inr}
 use mathlib.Core.Bool.{Bool, true, false, false≢true}
-use mathlib.Core.List.{List, [], _∷_}
+use mathlib.Core.List.{List}
 use Prim.Native.Nat.{ℕ}
 use native.Mathlib.Omega.{arith}
 use Rattle.definitions.specs.Text.{Bytes}
-use Rattle.definitions.specs.Presentation.{Relations, Says, maxGenerators, presentation, someNotPrime, tooLarge, misused}
+use Rattle.definitions.specs.Presentation.{Relations, maxGenerators, presentation, someNotPrime, tooLarge, misused}
 use Rattle.definitions.specs.Consistency.{Consistent}
-use Rattle.definitions.specs.Answers.{First, says}
+use Rattle.definitions.specs.Answers.{First, says, textRefusals, inconsistent}
+use Rattle.definitions.proofs.Refusals.{None, first-none, first-refused, first-behind, unsaid}
 use Rattle.definitions.proofs.Rendering.{says-unique}
 use Rattle.presentation.specs.declared.Presentation.{Presentation}
 use Rattle.presentation.specs.declared.Outcome.{Outcome}
-use Rattle.presentation.specs.Outcome.{Holds, textRefusals, ReadText}
-use Rattle.presentation.proofs.Refusals.{Numbered, first-refused, first-behind}
+use Rattle.presentation.specs.Outcome.{Holds, ReadText}
 use Rattle.collector.specs.Rows.{Ready}
 use Rattle.collector.specs.Answers.{Holds as Held, Decides}
 use Rattle.collector.proofs.Relations.{holds-ready, decides-consistent}
-use Rattle.chieftables.specs.Accepted.{Passed, Sound, Accepted}
-
--- 15, the one refusal behind the reader's
-abbrev inconsistent : Bytes → List (ℕ × Type 0)
-inconsistent t = (15, says t (λ (R : Relations). ¬ Consistent (presentation R))) ∷ []
+use Rattle.chieftables.specs.Accepted.{Passed, Accepted}
 
 -- ---- What is known behind the reader
 
@@ -38,24 +34,9 @@ held-of h = record {
   exponent = λ j i k a l b. h .word-held j i (omega (arith, h .count)) a k (omega (arith, h .count, h .few));
 }
 
-unless : (b : Bool) → ¬ (b ≡ true) → b ≡ false
-unless true h = absurd (h refl)
-unless false h = refl
-
-numbered : (t : Bytes) → Numbered (textRefusals t)
-numbered t = (omega arith, (omega arith, (omega arith, (omega arith, tt))))
-
 module _ {t : Bytes} where
-  -- a test that no relations said by t pass fails for those that it says
-  unsaid : (f : Relations → Bool) {R : Relations} → Says t R → ¬ says t (λ (Q : Relations). f Q ≡ true) → f R ≡ false
-  unsaid f {R} s h = unless (f R) (λ e. h (R, s, e))
-
-  passed-first : First (textRefusals t) 0 → {P : Presentation} → says t (λ (R : Relations). Holds R P) → Passed t P
-  passed-first (inl h) s = absurd (omega (arith, h .1))
-  passed-first (inr (h, inl k)) s = absurd (omega (arith, k .1))
-  passed-first (inr (h, inr (k, inl l))) s = absurd (omega (arith, l .1))
-  passed-first (inr (h, inr (k, inr (l, inl m)))) s = absurd (omega (arith, m .1))
-  passed-first (inr (h, inr (k, inr (l, inr (m, e))))) (R, s, d) =
+  passed-none : None (textRefusals t) → {P : Presentation} → says t (λ (R : Relations). Holds R P) → Passed t P
+  passed-none (h, (k, (l, (m, e)))) (R, s, d) =
       record { R = R; said = s; primes = unsaid someNotPrime s k; fits = unsaid tooLarge s l; used = unsaid misused s m; held = d }
 
   module _ {o : Outcome} (read : ReadText t o) where
@@ -63,11 +44,11 @@ module _ {t : Bytes} where
     accepted-refused h = record { answered = first-refused (inconsistent t) (o .status) (textRefusals t) (read .answered) h; sound = λ z. absurd (h z) }
 
     module _ (zero-read : o .status ≡ 0) where
-      none-first : First (textRefusals t) 0
-      none-first = subst (First (textRefusals t)) zero-read (read .answered)
+      none : None (textRefusals t)
+      none = first-none (textRefusals t) refl (subst (First (textRefusals t)) zero-read (read .answered))
 
       pub passed : Passed t (o .presentation)
-      passed = passed-first none-first (read .held zero-read)
+      passed = passed-none none (read .held zero-read)
 
       module _ {words : List (List ℕ)} (same : words ≡ o .presentation .words) where
         held-words : Held (passed .R) (o .presentation .n) (o .presentation .primes) words
@@ -83,7 +64,7 @@ module _ {t : Bytes} where
           pub accepted-consistent : r ≡ true → Accepted t (record { status = 0; presentation = o .presentation })
           accepted-consistent e =
               record {
-                answered = first-behind (inconsistent t) 0 (textRefusals t) (numbered t) none-first (inr (allowed, refl));
+                answered = first-behind (inconsistent t) 0 (textRefusals t) none (inr (allowed, refl));
                 sound = λ z. record { passed = passed; consistent = decided .0 e };
               }
             where
@@ -92,6 +73,6 @@ module _ {t : Bytes} where
 
           pub accepted-inconsistent : r ≡ false → Accepted t (record { status = 15; presentation = o .presentation })
           accepted-inconsistent e = record {
-            answered = first-behind (inconsistent t) 15 (textRefusals t) (numbered t) none-first (inl ((passed .R, passed .said, λ c. false≢true (sym e ∙ decided .1 c)), refl));
+            answered = first-behind (inconsistent t) 15 (textRefusals t) none (inl ((passed .R, passed .said, λ c. false≢true (sym e ∙ decided .1 c)), refl));
             sound = λ z. absurd (omega arith);
           }

@@ -8,8 +8,8 @@
 --   build-done            the levels are the table
 use mathlib.Core.Path.{_≡_, refl, sym, ap, ap₂, subst, _∙_}
 use mathlib.Core.Logic.{inl, inr}
-use mathlib.Core.List.{List, [], _∷_, _++_}
-use Prim.Native.Nat.{ℕ, zero, suc, _+_, _*_, _/_, _≤_, _<_}
+use mathlib.Core.List.{List, [], _++_}
+use Prim.Native.Nat.{ℕ, suc, _+_, _*_, _/_, _≤_, _<_}
 use native.Mathlib.Nat.{mul-div-right}
 use native.Mathlib.Omega.{arith}
 use lib.ListN.{length, getD, drop}
@@ -18,7 +18,8 @@ use Rattle.definitions.specs.Text.{Bytes}
 use Rattle.definitions.specs.Presentation.{Relations, maxGenerators, maxOrder, lineWords, order, buildWords, pairNumber, rowOf, presentation}
 use Rattle.definitions.specs.Table.{lineCount}
 use Rattle.definitions.specs.Steps.{tableOf}
-use Rattle.definitions.specs.Answers.{First, says, presentationRefusals, over, Accept, Build}
+use Rattle.definitions.specs.Answers.{says, presentationRefusals, short, over, Accept, Build}
+use Rattle.definitions.proofs.Refusals.{first-refused, first-behind, accept-unrefused}
 use Rattle.definitions.proofs.Rendering.{says-unique}
 use Rattle.numbers.proofs.Sums.{sum-below}
 use Rattle.presentation.specs.declared.Presentation.{Presentation}
@@ -27,7 +28,6 @@ use Rattle.presentation.specs.declared.size.Size.{Size}
 use Rattle.presentation.specs.Conditions.{product}
 use Rattle.presentation.specs.Size.{Measured}
 use Rattle.presentation.proofs.Conditions.{product-order}
-use Rattle.presentation.proofs.Refusals.{Numbered, first-refused, first-behind}
 use Rattle.text.specs.Writing.{put, Wrote}
 use Rattle.text.proofs.Writing.{wrote-as}
 use Rattle.clifford.specs.Accepted.{Accepted as Group}
@@ -37,13 +37,6 @@ use Rattle.assembly.proofs.Room.{order-le}
 use Rattle.assembly.proofs.Stated.{small, told, table-of}
 use Rattle.levels.specs.Given.{Given}
 use Rattle.chieftables.specs.Accepted.{Sound, Accepted}
-
--- 16, the one refusal behind those of the text
-abbrev short : Bytes → ℕ → List (ℕ × Type 0)
-short t have = (16, says t (λ (R : Relations). have < buildWords (presentation R))) ∷ []
-
-numbered : (t : Bytes) → Numbered (presentationRefusals t)
-numbered t = (omega arith, (omega arith, (omega arith, (omega arith, (omega arith, tt)))))
 
 pub build-refused : {t : Bytes} {o : Outcome} (before : List ℕ) → Accepted t o → ¬ (o .status ≡ 0) → Build t before (o .status) 0 before
 build-refused {t} {o} before a h = record {
@@ -102,7 +95,9 @@ module _ {t : Bytes} {P : Presentation} (S : Sound t P) where
 
     pub build-short : (before : List ℕ) → Accept t 0 → length before < s .words → Build t before 16 0 before
     build-short before f l = record {
-      answered = first-behind (short t (length before)) 16 (presentationRefusals t) (numbered t) f (inl ((R, S .passed .said, subst (λ x. length before < x) size-words l), refl));
+      answered =
+          first-behind (short t (length before)) 16 (presentationRefusals t) (accept-unrefused t f)
+          (inl ((R, S .passed .said, subst (λ x. length before < x) size-words l), refl));
       leaves = record { finished = λ z. absurd (omega arith); refused = λ n. (refl, refl) };
     }
 
@@ -127,7 +122,7 @@ module _ {t : Bytes} {P : Presentation} (S : Sound t P) where
           let w : Wrote before 0 T after (8 * count) = wrote-as W (table-of (S .passed .R) (S .passed .said .formed) (S .passed .primes) (S .passed .used) (S .consistent)) in
           let e : 0 + length T ≡ length T = omega arith in
           record {
-            answered = first-behind (short t (length before)) 0 (presentationRefusals t) (numbered t) f (inr (enough, refl));
+            answered = first-behind (short t (length before)) 0 (presentationRefusals t) (accept-unrefused t f) (inr (enough, refl));
             leaves = record {
               finished = λ z. (R, S .passed .said, (sym (ap (λ x. x / 8) (sym (w .end ∙ e)) ∙ mul-div-right count (omega arith)), w .content ∙ ap (λ m. T ++ drop m before) e));
               refused = λ n. absurd (n refl);

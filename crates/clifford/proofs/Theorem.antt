@@ -161,10 +161,10 @@ module _ (A : Accepted) where
 
   -- ---- The judgement
 
-  pub table-passes : judgement (A .C .P) (tableOf (A .C .P)) ≡ 0
+  pub table-passes : judgement (A .C .P) (order (A .C .P) (A .C .P .n)) (tableOf (A .C .P)) ≡ 0
   unfolding judgement firstOf
   table-passes =
-      ap (judgement P) table-is
+      ap (judgement P m) table-is
       ∙ cond-false (Judgement.malformed P m T) _ _ not-malformed ∙ cond-false (Judgement.relationFails P m T) _ _ relations-pass
       ∙ cond-false (Judgement.restrictionFails P m T) _ _ restrictions-pass ∙ cond-false (Judgement.intertwinerFails P m T) _ _ intertwiners-pass
       ∙ cond-false (Judgement.notSeparated P m T) _ _ separation-passes ∙ cond-false (Judgement.squaresFail P m T) _ _ squares-pass
@@ -192,8 +192,8 @@ module _ (R : Relations) (formed : wellFormed R ≡ true) (primes : someNotPrime
   unfolding accepted context
   accepted-is = refl
 
-  pub built-passes : judgement (presentation R) (tableOf (presentation R)) ≡ 0
-  built-passes = subst (λ P. judgement P (tableOf P) ≡ 0) accepted-is (table-passes accepted)
+  pub built-passes : judgement (presentation R) (order (presentation R) (presentation R .n)) (tableOf (presentation R)) ≡ 0
+  built-passes = subst (λ P. judgement P (order P (P .n)) (tableOf P) ≡ 0) accepted-is (table-passes accepted)
 
   -- the words of the table are whole lines
   pub table-words : (k : ℕ) × (length (tableOf (presentation R)) ≡ lineWords * k)

@@ -1,49 +1,51 @@
--- The starred groups of the specification ("Starred and edge groups", and the examples of its refusal table), as rows of
--- one table over the definitions, and one lemma that covers the rows together. The definitions compute each row. Three
--- dense presentations stand with them, since S3, C4 and Q8 do not show every slip.
+-- Rows over the definitions, in one table, and one lemma that covers them together: the starred groups of the specification
+-- ("Starred and edge groups", and the examples of its refusal table), and for single clauses of the definitions a
+-- presentation or a table that shows them. The definitions compute each row.
 --
 --   Star, holds                a row, and what it claims
---   starred                    the rows
+--   groups, presentations, tables, checks      the rows
+--   starred, every             all of them; a list of which each holds
 --   starred-hold               every row holds, and the example of 15 is not consistent
-use mathlib.Core.Path.{_≡_, refl, sym, _∙_, ap}
-use Prim.Native.Nat.{ℕ, zero, suc, _+_, _*_, _<_}
-use Prim.Native.Char.{code}
-use Prim.Native.String.{String, [] as ε, _∷_ as _▹_}
-use mathlib.Core.Bool.{Bool, true, false, _&&_, not}
+use mathlib.Core.Path.{_≡_, refl, ap}
+use Prim.Native.Nat.{ℕ, zero, suc, _+_, _*_}
+use Prim.Native.String.{String}
+use mathlib.Core.Bool.{Bool, true, false, _&&_, not, cond}
 use mathlib.Core.List.{List, [], _∷_, _++_, map, zipWith, flatMap}
-use lib.ListN.{length, set, take}
+use lib.ListN.{take}
 use lib.Dec.{eqb}
 use native.Mathlib.Omega.{arith}
-use Rattle.definitions.specs.declared.Entry.{Entry}
 use Rattle.definitions.specs.Lists.{upto, blocks, sum, allBelow, anyBelow, all, any, least, leastFrom, iter, same}
-use Rattle.definitions.specs.Text.{Bytes, largest, digits, decimal, spaced, line, valueLine, render, small}
-use Rattle.definitions.specs.Presentation.{maxGenerators, maxOrder, lineWords, toNF, trivial, Presentation, order, buildWords, power, value, Row, Relations, pairsOf, pairs, pairNumber, presentationNames, textOf, wellFormed, rowOf, presentation, isPrime, someNotPrime, tooLarge, allowed, rowWell, misused}
-use Rattle.definitions.specs.Consistency.{Letter, gen, inv, Word, word, Step, forth, back, Sides, power-relation, commutator-relation, gen-inv, inv-gen, Chain, done, link, Consistent, carry, mulStep, conjStep, arithmeticStep, arithmetic, generator, sameForm, keepsPowers, keepsCommutators, fixesPower, powerIsInner, levelTest, test}
-use Rattle.definitions.specs.Monomial.{Matrix, entry, col, identity, less, act, product, scale, inverse, valid, sameEntry, sameMatrix, Rep, repOf, image, conjugate}
+use Rattle.definitions.specs.Text.{largest, digits, decimal, spaced, line, valueLine, render, small}
+use Rattle.definitions.specs.Presentation.{maxGenerators, maxOrder, lineWords, toNF, trivial, Presentation, order, buildWords, power, value, Relations, pairsOf, pairs, pairNumber, presentationNames, textOf, wellFormed, rowOf, presentation, isPrime, someNotPrime, tooLarge, allowed, rowWell, misused}
+use Rattle.definitions.specs.Consistency.{gen, inv, word, forth, back, power-relation, commutator-relation, gen-inv, Chain, done, link, Consistent, carry, mulStep, conjStep, arithmeticStep, arithmetic, generator, sameForm, keepsPowers, keepsCommutators, fixesPower, powerIsInner, levelTest, test}
+use Rattle.definitions.specs.Monomial.{Matrix, col, identity, less, act, product, scale, inverse, valid, sameEntry, sameMatrix, Rep, repOf, image, conjugate}
 use Rattle.definitions.specs.Table.{lineOf, repWords, levelWords, wordAt, lineCount, begins, degrees, columns, firstLine, repAt, levelZero, levelAt, complete, tableNames, rowsOf, tableText, writable}
 use Rattle.definitions.specs.Steps.{lift, fixed, orbit, leader, position, made, start, s, extended, l, a, extension, along, lastBlock, blockDiagonal, blockCycle, blockIntertwiner, leftSide, rightSide, nextBlock, blockAfter, scalarAfter, c, induction, givenBy, nextLevel, levels, tableWith, tableOf}
 use Rattle.definitions.specs.Judgement.{allForms, cutsFrom, cuts, wholeBlock, everywhere, everyLevel, matricesValid, blocksWhole, targetsListed, malformed, powerHolds, commutatorHolds, relationsHold, relationFails, blockRestricts, restricts, restrictionFails, intertwines, intertwinersHold, intertwinerFails, reaches, tells, separates, notSeparated, squares, squaresFail}
-use Rattle.definitions.specs.Answers.{firstOf, judgement}
+use Rattle.definitions.specs.Answers.{firstOf, relationTests, judgement}
+use Rattle.definitions.proofs.Groups.{equal, bytes, numbersFrom, words, row, wordIn, relations, table, change, S3-line, S3-with, S3, V4, C4, Q8, C2-cubed, S3-C2, dense12, dense20, dense54, long-carry, twisted, twisted-table, rooted, rooted-table, affine, affine-table, linked, linked-table, wide-S3, swapped-C4, unequal-C2-cubed, diagonal-V4, exchanging-V4, doubled-V4, cut-V4, short-block, mixed-block, shifted}
 
 -- ---- Rows
 
 pub data Star : Type 0 where
-  -- the text says the relations, and of 12, 13, 14 and 15 (by the known test) the first that applies is the number
+  -- of 12, 13, 14 and 15 (by the known test) the first that applies to the relations is the number
+  answers : Relations → ℕ → Star
+  -- and the text says the relations
   reads : Relations → String → ℕ → Star
   -- the build wants so many words
   wants : Relations → ℕ → Star
   -- the text of the built table
-  builds : Relations → String → Star
+  builds : Relations → List String → Star
+  -- the words of the built table
+  tabulates : Relations → List String → Star
+  -- whether the words can be written as table text
+  writes : List ℕ → Bool → Star
   -- the built degrees of level i
   has-degrees : Relations → (i : ℕ) → List ℕ → Star
   -- generator g (from 1) in representation r of the built level i: row and exponent, column by column
   has-matrix : Relations → (i r g : ℕ) → List ℕ → Star
   -- the check's number for a table
   judged : Relations → List ℕ → ℕ → Star
-
-unfoldable pub bytes : String → Bytes
-bytes ε = []
-bytes (x ▹ t) = code x ∷ bytes t
 
 unfoldable pub flat : Matrix → List ℕ
 flat [] = []
@@ -52,111 +54,35 @@ flat (x ∷ M) = x .row ∷ x .exp ∷ flat M
 unfoldable pub built : Relations → ℕ → List Rep
 built R i = levels (presentation R) (order (presentation R) (R .n)) i
 
+unfoldable pub refusal : Relations → ℕ
+refusal R = firstOf (map (λ (q : ℕ × (Relations → Bool)). (q .0, q .1 R)) relationTests ++ ((15, not (test (presentation R))) ∷ []))
+
 unfoldable pub holds : Star → Bool
-holds (reads R t a) =
-    same (textOf R) (bytes t)
-    && wellFormed R
-    && eqb (firstOf ((12, someNotPrime R) ∷ (13, tooLarge R) ∷ (14, misused R) ∷ (15, not (test (presentation R))) ∷ [])) a
+holds (answers R a) = wellFormed R && eqb (refusal R) a
+holds (reads R t a) = equal (textOf R) (bytes t) && wellFormed R && eqb (refusal R) a
 holds (wants R k) = eqb (buildWords (presentation R)) k
-holds (builds R t) = writable (tableOf (presentation R)) && same (tableText (tableOf (presentation R))) (bytes t)
-holds (has-degrees R i ds) = same (map (λ (D : Rep). D .deg) (built R i)) ds
+holds (builds R texts) = writable (table R) && equal (tableText (table R)) (flatMap bytes texts)
+holds (tabulates R texts) = equal (table R) (words texts)
+holds (writes T b) = cond b (writable T) (not (writable T))
+holds (has-degrees R i ds) = equal (map (λ (D : Rep). D .deg) (built R i)) ds
 holds (has-matrix R i r zero xs) = false
-holds (has-matrix R i r (suc g) xs) = same (flat (repOf (built R i) r .matrix g)) xs
-holds (judged R T a) = eqb (judgement (presentation R) T) a
+holds (has-matrix R i r (suc g) xs) = equal (flat (repOf (built R i) r .matrix g)) xs
+holds (judged R T a) = eqb (judgement (presentation R) (order (presentation R) (R .n)) T) a
 
--- ---- The groups
-
-abbrev row : ℕ → List ℕ → Row
-row q w = record { p = q; word = w }
-
-abbrev one : ℕ → List ℕ → Relations
-one q w = record { n = 1; rows = row q w ∷ [] }
-
--- S3 with the word x of its one commutator
-abbrev S3-with : ℕ → Relations
-S3-with x = record { n = 2; rows = row 3 (0 ∷ 0 ∷ []) ∷ row 2 (0 ∷ 0 ∷ []) ∷ row 0 (x ∷ 0 ∷ []) ∷ [] }
-
-abbrev S3 : Relations
-S3 = S3-with 1
-
-abbrev C4 : Relations
-C4 = record { n = 2; rows = row 2 (0 ∷ 0 ∷ []) ∷ row 2 (1 ∷ 0 ∷ []) ∷ row 0 (0 ∷ 0 ∷ []) ∷ [] }
-
-abbrev Q8 : Relations
-Q8 = record {
-  n = 3;
-  rows =
-      row 2 (0 ∷ 0 ∷ 0 ∷ [])
-      ∷ row 2 (1 ∷ 0 ∷ 0 ∷ [])
-      ∷ row 0 (0 ∷ 0 ∷ 0 ∷ [])
-      ∷ row 2 (1 ∷ 0 ∷ 0 ∷ [])
-      ∷ row 0 (0 ∷ 0 ∷ 0 ∷ [])
-      ∷ row 0 (1 ∷ 0 ∷ 0 ∷ [])
-      ∷ [];
-}
-
--- S3 times a group of order 2, whose third generator is not central
-abbrev dense12 : Relations
-dense12 = record {
-  n = 3;
-  rows =
-      row 3 (0 ∷ 0 ∷ 0 ∷ [])
-      ∷ row 2 (0 ∷ 0 ∷ 0 ∷ [])
-      ∷ row 0 (1 ∷ 0 ∷ 0 ∷ [])
-      ∷ row 2 (0 ∷ 0 ∷ 0 ∷ [])
-      ∷ row 0 (1 ∷ 0 ∷ 0 ∷ [])
-      ∷ row 0 (2 ∷ 0 ∷ 0 ∷ [])
-      ∷ [];
-}
-
--- the affine group over five elements, on generators with long words
-abbrev dense20 : Relations
-dense20 = record {
-  n = 3;
-  rows =
-      row 5 (0 ∷ 0 ∷ 0 ∷ [])
-      ∷ row 2 (0 ∷ 0 ∷ 0 ∷ [])
-      ∷ row 0 (3 ∷ 0 ∷ 0 ∷ [])
-      ∷ row 2 (3 ∷ 1 ∷ 0 ∷ [])
-      ∷ row 0 (2 ∷ 0 ∷ 0 ∷ [])
-      ∷ row 0 (4 ∷ 0 ∷ 0 ∷ [])
-      ∷ [];
-}
-
--- order 27 and an inversion: the scalars of an induction are found along 0, 2, 1
-abbrev dense54 : Relations
-dense54 = record {
-  n = 4;
-  rows =
-      row 3 (0 ∷ 0 ∷ 0 ∷ 0 ∷ [])
-      ∷ row 3 (0 ∷ 0 ∷ 0 ∷ 0 ∷ [])
-      ∷ row 0 (0 ∷ 0 ∷ 0 ∷ 0 ∷ [])
-      ∷ row 3 (0 ∷ 0 ∷ 0 ∷ 0 ∷ [])
-      ∷ row 0 (0 ∷ 0 ∷ 0 ∷ 0 ∷ [])
-      ∷ row 0 (1 ∷ 0 ∷ 0 ∷ 0 ∷ [])
-      ∷ row 2 (0 ∷ 0 ∷ 0 ∷ 0 ∷ [])
-      ∷ row 0 (0 ∷ 0 ∷ 0 ∷ 0 ∷ [])
-      ∷ row 0 (0 ∷ 1 ∷ 0 ∷ 0 ∷ [])
-      ∷ row 0 (2 ∷ 0 ∷ 1 ∷ 0 ∷ [])
-      ∷ [];
-}
-
-unfoldable pub table : Relations → List ℕ
-table R = tableOf (presentation R)
-
--- word k of line l changed to x
-unfoldable pub change : ℕ → ℕ → ℕ → List ℕ → List ℕ
-change l k x T = set T (lineWords * l + k) x
-
-unfoldable pub starred : List Star
-starred =
+-- the starred groups, and the examples of the refusal table
+unfoldable pub groups : List Star
+groups =
     reads S3 "j i p e1 e2\n1 1 3 0 0\n2 2 2 0 0\n2 1 0 1 0\n" 0
-    ∷ builds S3 "level rep deg gen ref col row exp\n1 0 1 1 0 0 0 0\n1 0 1 2 0 0 0 0\n1 1 1 1 0 0 0 2\n1 1 1 2 2 0 0 0\n1 2 1 1 0 0 0 4\n1 2 1 2 1 0 0 0\n2 0 1 1 0 0 0 0\n2 0 1 2 0 0 0 0\n2 1 1 1 0 0 0 0\n2 1 1 2 0 0 0 3\n2 2 2 1 1 0 0 2\n2 2 2 1 2 1 1 4\n2 2 2 2 1 0 1 0\n2 2 2 2 2 1 0 0\n"
+    ∷ builds S3
+    ("level rep deg gen ref col row exp\n1 0 1 1 0 0 0 0\n1 0 1 2 0 0 0 0\n1 1 1 1 0 0 0 2\n1 1 1 2 2 0 0 0\n1 2 1 1 0 0 0 4\n"
+    ∷ "1 2 1 2 1 0 0 0\n2 0 1 1 0 0 0 0\n2 0 1 2 0 0 0 0\n2 1 1 1 0 0 0 0\n2 1 1 2 0 0 0 3\n2 2 2 1 1 0 0 2\n2 2 2 1 2 1 1 4\n"
+    ∷ "2 2 2 2 1 0 1 0\n2 2 2 2 2 1 0 0\n"
+    ∷ [])
     ∷ judged S3 (table S3) 0
     ∷ judged S3 (change 12 7 1 (change 13 7 5 (table S3))) 0
-    ∷ reads (one 4 (0 ∷ [])) "j i p e1\n1 1 4 0\n" 12
-    ∷ reads (one 4099 (0 ∷ [])) "j i p e1\n1 1 4099 0\n" 13
-    ∷ reads (one 3 (1 ∷ [])) "j i p e1\n1 1 3 1\n" 14
+    ∷ reads (relations (4 ∷ []) []) "j i p e1\n1 1 4 0\n" 12
+    ∷ reads (relations (4099 ∷ []) []) "j i p e1\n1 1 4099 0\n" 13
+    ∷ reads (relations (3 ∷ []) ((1, 1, 1 ∷ []) ∷ [])) "j i p e1\n1 1 3 1\n" 14
     ∷ reads (S3-with 2) "j i p e1 e2\n1 1 3 0 0\n2 2 2 0 0\n2 1 0 2 0\n" 15
     ∷ judged S3 [] 21
     ∷ judged S3 (change 13 7 1 (table S3)) 22
@@ -178,8 +104,8 @@ starred =
     ∷ has-matrix Q8 3 4 1 (0 ∷ 4 ∷ 1 ∷ 4 ∷ [])
     ∷ has-matrix Q8 3 4 2 (0 ∷ 2 ∷ 1 ∷ 6 ∷ [])
     ∷ has-matrix Q8 3 4 3 (1 ∷ 0 ∷ 0 ∷ 4 ∷ [])
-    ∷ reads (one 2 (0 ∷ [])) "j i p e1\n1 1 2 0\n" 0
-    ∷ wants (one 2 (0 ∷ [])) 16
+    ∷ reads (relations (2 ∷ []) []) "j i p e1\n1 1 2 0\n" 0
+    ∷ wants (relations (2 ∷ []) []) 16
     ∷ reads dense12 "j i p e1 e2 e3\n1 1 3 0 0 0\n2 2 2 0 0 0\n2 1 0 1 0 0\n3 3 2 0 0 0\n3 1 0 1 0 0\n3 2 0 2 0 0\n" 0
     ∷ judged dense12 (table dense12) 0
     ∷ has-matrix dense12 3 5 3 (1 ∷ 10 ∷ 0 ∷ 2 ∷ [])
@@ -187,6 +113,67 @@ starred =
     ∷ has-matrix dense20 3 4 3 (3 ∷ 0 ∷ 2 ∷ 4 ∷ 0 ∷ 4 ∷ 1 ∷ 12 ∷ [])
     ∷ has-matrix dense54 3 9 4 (0 ∷ 0 ∷ 2 ∷ 36 ∷ 1 ∷ 18 ∷ [])
     ∷ []
+
+-- clauses of refusals 12 to 15, and of the size of a build
+unfoldable pub presentations : List Star
+presentations =
+    wants S3 144
+    ∷ answers (relations (1 ∷ []) []) 12
+    ∷ answers (relations (2 ∷ 2 ∷ 2 ∷ 2 ∷ 2 ∷ 2 ∷ 2 ∷ 2 ∷ 2 ∷ 2 ∷ 2 ∷ 2 ∷ []) []) 0
+    ∷ answers (relations (67 ∷ 67 ∷ []) []) 13
+    ∷ answers (S3-line (row 2 (1 ∷ 0 ∷ []))) 14
+    ∷ answers (S3-with 3) 14
+    ∷ answers (S3-line (row 0 (0 ∷ 1 ∷ []))) 14
+    ∷ answers (relations (3 ∷ 2 ∷ 2 ∷ []) ((2, 2, 1 ∷ []) ∷ (3, 3, 0 ∷ 1 ∷ []) ∷ (3, 1, 1 ∷ []) ∷ [])) 15
+    ∷ answers (relations (3 ∷ 2 ∷ 2 ∷ 2 ∷ []) ((2, 1, 1 ∷ []) ∷ (4, 3, 0 ∷ 1 ∷ []) ∷ [])) 15
+    ∷ answers (relations (3 ∷ 2 ∷ []) ((2, 1, 1 ∷ []) ∷ (2, 2, 1 ∷ []) ∷ [])) 15
+    ∷ answers (relations (3 ∷ 2 ∷ 2 ∷ 2 ∷ []) ((2, 1, 1 ∷ []) ∷ (4, 4, 2 ∷ []) ∷ (4, 2, 2 ∷ []) ∷ [])) 0
+    ∷ answers long-carry 0
+    ∷ []
+
+-- clauses of the steps, and of what can be written
+unfoldable pub tables : List Star
+tables =
+    tabulates twisted twisted-table
+    ∷ tabulates rooted rooted-table
+    ∷ tabulates affine affine-table
+    ∷ tabulates linked linked-table
+    ∷ writes (words ("1 2 3 4 5 6 7 999999999" ∷ [])) true
+    ∷ writes (words ("1 2 3 4 5 6 7 1000000000" ∷ [])) false
+    ∷ writes (words ("1 2 3 4 5 6 7" ∷ [])) false
+    ∷ []
+
+-- clauses of refusals 21 to 26
+unfoldable pub checks : List Star
+checks =
+    judged S3 (take (lineWords * 6) (table S3)) 21
+    ∷ judged S3 (change 1 5 1 (table S3)) 21
+    ∷ judged S3 (table S3 ++ words ("3 0 1 1 0 0 0 0" ∷ [])) 21
+    ∷ judged V4 (words cut-V4) 21
+    ∷ judged S3 (change 13 7 6 (table S3)) 21
+    ∷ judged S3 (change 12 6 0 (table S3)) 21
+    ∷ judged S3-C2 (table S3-C2 ++ words short-block) 21
+    ∷ judged S3-C2 (table S3-C2 ++ words mixed-block) 21
+    ∷ judged S3 (change 8 4 3 (change 9 4 3 (table S3))) 21
+    ∷ judged S3 (change 1 4 3 (table S3)) 21
+    ∷ judged S3 (words wide-S3) 21
+    ∷ judged S3 (change 12 4 2 (change 13 4 1 (table S3))) 21
+    ∷ judged S3-C2 (change 20 4 0 (table S3-C2)) 21
+    ∷ judged C4 (words swapped-C4) 22
+    ∷ judged S3 (change 12 6 0 (change 13 6 1 (table S3))) 22
+    ∷ judged C2-cubed (words unequal-C2-cubed) 24
+    ∷ judged V4 (words diagonal-V4) 25
+    ∷ judged V4 (words exchanging-V4) 25
+    ∷ judged S3 (table S3 ++ words shifted) 25
+    ∷ judged V4 (words doubled-V4) 25
+    ∷ []
+
+unfoldable pub starred : List Star
+starred = groups ++ presentations ++ tables ++ checks
+
+unfoldable pub every : List Star → Bool
+every [] = true
+every (x ∷ xs) = cond (holds x) (every xs) false
 
 -- ---- The example of 15
 
@@ -215,6 +202,17 @@ module _ where
 
 -- ---- The lemma
 
-pub starred-hold : (all holds starred ≡ true) × (¬ Consistent (presentation (S3-with 2)))
-unfolding starred holds bytes flat built table change maxGenerators maxOrder lineWords largest digits decimal spaced line valueLine render small zipWith flatMap textOf wellFormed presentationNames pairs pairsOf isPrime someNotPrime tooLarge allowed rowWell misused buildWords presentation rowOf pairNumber toNF power value trivial order carry mulStep conjStep arithmeticStep arithmetic generator sameForm keepsPowers keepsCommutators fixesPower powerIsInner levelTest test upto blocks sum allBelow anyBelow all any least leastFrom iter same identity col less act product scale inverse valid sameEntry sameMatrix repOf image conjugate lineOf repWords levelWords levelZero wordAt lineCount begins degrees columns firstLine repAt levelAt complete tableNames rowsOf tableText writable lift fixed orbit leader position made start s extended l a extension along lastBlock blockDiagonal blockCycle blockIntertwiner leftSide rightSide nextBlock blockAfter scalarAfter c induction givenBy nextLevel levels tableWith tableOf allForms cutsFrom cuts wholeBlock everywhere everyLevel matricesValid blocksWhole targetsListed malformed powerHolds commutatorHolds relationsHold relationFails blockRestricts restricts restrictionFails intertwines intertwinersHold intertwinerFails reaches tells separates notSeparated squares squaresFail firstOf judgement
+pub starred-hold : (every starred ≡ true) × (¬ Consistent (presentation (S3-with 2)))
+unfolding starred every groups presentations tables checks holds refusal flat built equal bytes numbersFrom words wordIn relations table change twisted-table
+    rooted-table affine-table linked-table wide-S3 swapped-C4 unequal-C2-cubed diagonal-V4 exchanging-V4 doubled-V4 cut-V4 short-block mixed-block
+    shifted maxGenerators maxOrder lineWords largest digits decimal spaced line valueLine render small zipWith flatMap textOf wellFormed
+    presentationNames pairs pairsOf isPrime someNotPrime tooLarge allowed rowWell misused buildWords presentation rowOf pairNumber toNF power
+    value trivial order carry mulStep conjStep arithmeticStep arithmetic generator sameForm keepsPowers keepsCommutators fixesPower powerIsInner
+    levelTest test upto blocks sum allBelow anyBelow all any least leastFrom iter same identity col less act product scale inverse valid
+    sameEntry sameMatrix repOf image conjugate lineOf repWords levelWords levelZero wordAt lineCount begins degrees columns firstLine repAt
+    levelAt complete tableNames rowsOf tableText writable lift fixed orbit leader position made start s extended l a extension along lastBlock
+    blockDiagonal blockCycle blockIntertwiner leftSide rightSide nextBlock blockAfter scalarAfter c induction givenBy nextLevel levels tableWith
+    tableOf allForms cutsFrom cuts wholeBlock everywhere everyLevel matricesValid blocksWhole targetsListed malformed powerHolds commutatorHolds
+    relationsHold relationFails blockRestricts restricts restrictionFails intertwines intertwinersHold intertwinerFails reaches tells separates
+    notSeparated squares squaresFail firstOf judgement
 starred-hold = (refl, not-consistent)

@@ -1,13 +1,12 @@
 -- One input has at most one result, for each of the five calls: answer, count and the caller's whole buffer. (That there
 -- is a result is what the proved functions show.)
 --
---   first-unique               the first condition that applies has one number
+--   leaves-unique, call-unique what a call leaves; its answer and what it leaves
 --   words-of-rows              the words of whole lines are those of their rows
 --   table-says-unique          a table text is that of one table
 --   accept-unique, build-unique, check-unique, read-unique, write-unique      the calls
-use mathlib.Core.Path.{_≡_, refl, sym, _∙_, ap, subst}
-use mathlib.Core.Logic.{_⊎_, inl, inr}
-use mathlib.Core.Bool.{Bool, true, false}
+use mathlib.Core.Path.{_≡_, refl, sym, _∙_, ap}
+use mathlib.Core.Bool.{true}
 use mathlib.Core.List.{List, [], _∷_, _++_, map, append-nil, append-assoc}
 use Prim.Native.Nat.{ℕ, zero, suc, _+_, _*_, _/_, _%_, _<_}
 use native.Mathlib.Nat.{div-add-mod'}
@@ -18,36 +17,38 @@ use lib.Seq.{take-add, take-all}
 use lib.Dec.{eqb}
 use borrow.Author.Tests.{eqb-true}
 use Rattle.definitions.specs.Lists.{upto, blocks}
-use Rattle.definitions.specs.Text.{Bytes, render, small}
-use Rattle.definitions.specs.Presentation.{lineWords, Relations, Says, presentation}
+use Rattle.definitions.specs.Text.{Bytes, small}
+use Rattle.definitions.specs.Presentation.{lineWords, order, presentation}
 use Rattle.definitions.specs.Table.{lineCount, tableNames, rowsOf, tableText, writable}
 use Rattle.definitions.specs.Steps.{tableOf}
 use Rattle.definitions.specs.Answers.{First, says, presentationRefusals, buildRefusals, checkRefusals, readRefusals, writeRefusals, TableSays, over, Leaves, Accept, Build, Check, ReadTable, WriteTable}
-use Rattle.definitions.proofs.Rendering.{Plain, Field, Fields, Each, and-left, render-injective, says-unique}
+use Rattle.definitions.proofs.Refusals.{first-unique}
+use Rattle.definitions.proofs.Rendering.{Plain, Fields, and-left, render-injective, says-unique}
 
--- ---- Answers
-
-pub first-unique : (cs : List (ℕ × Type 0)) (a b : ℕ) → First cs a → First cs b → a ≡ b
-first-unique [] a b p q = p ∙ sym q
-first-unique (c ∷ cs) a b (inl p) (inl q) = p .1 ∙ sym (q .1)
-first-unique (c ∷ cs) a b (inl p) (inr q) = absurd (q .0 (p .0))
-first-unique (c ∷ cs) a b (inr p) (inl q) = absurd (p .0 (q .0))
-first-unique (c ∷ cs) a b (inr p) (inr q) = first-unique cs a b (p .1) (q .1)
+-- ---- Answers and buffers
 
 -- what a finished call leaves
-abbrev Determined : (ℕ → List ℕ → Type 0) → Type 0
-Determined F = (k k′ : ℕ) (w w′ : List ℕ) → F k w → F k′ w′ → (k ≡ k′) × (w ≡ w′)
+abbrev Determined : {H B : Type 0} → (H → B → Type 0) → Type 0
+Determined {H} {B} F = (h h′ : H) (w w′ : B) → F h w → F h′ w′ → (h ≡ h′) × (w ≡ w′)
 
-leaves-unique : (F : ℕ → List ℕ → Type 0) → Determined F → (before : List ℕ) (a a′ : ℕ) → a ≡ a′ → (k k′ : ℕ) (w w′ : List ℕ)
-    → Leaves F before a k w → Leaves F before a′ k′ w′ → (k ≡ k′) × (w ≡ w′)
-leaves-unique F det before a a′ e k k′ w w′ p q = go (ℕ-discrete a 0)
-  where
-    go : Dec (a ≡ 0) → (k ≡ k′) × (w ≡ w′)
-    go (yes z) = det k k′ w w′ (p .finished z) (q .finished (sym e ∙ z))
-    go (no z) =
-        let x = p .refused z in
-        let y = q .refused (λ z′. z (e ∙ z′)) in
-        (x .0 ∙ sym (y .0), x .1 ∙ sym (y .1))
+module _ {H B : Type 0} {F : H → B → Type 0} (det : Determined F) {nothing : H} {before : B} {a a′ : ℕ} {h h′ : H} {w w′ : B} where
+  leaves-unique : a ≡ a′ → Leaves F nothing before a h w → Leaves F nothing before a′ h′ w′ → (h ≡ h′) × (w ≡ w′)
+  leaves-unique e p q = go (ℕ-discrete a 0)
+    where
+      go : Dec (a ≡ 0) → (h ≡ h′) × (w ≡ w′)
+      go (yes z) = det h h′ w w′ (p .finished z) (q .finished (sym e ∙ z))
+      go (no z) =
+          let x = p .refused z in
+          let y = q .refused (λ z′. z (e ∙ z′)) in
+          (x .0 ∙ sym (y .0), x .1 ∙ sym (y .1))
+
+  -- answer, what is handed over, and buffers
+  call-unique : (cs : List (ℕ × Type 0)) → First cs a → First cs a′ → Leaves F nothing before a h w → Leaves F nothing before a′ h′ w′
+      → (a ≡ a′) × (h ≡ h′) × (w ≡ w′)
+  call-unique cs f f′ p q =
+      let e = first-unique cs a a′ f f′ in
+      let r = leaves-unique e p q in
+      (e, r .0, r .1)
 
 -- ---- Table text
 
@@ -107,30 +108,22 @@ pub accept-unique : (t : Bytes) (a a′ : ℕ) → Accept t a → Accept t a′ 
 accept-unique t a a′ = first-unique (presentationRefusals t) a a′
 
 pub check-unique : (t : Bytes) (T : List ℕ) (a a′ : ℕ) → Check t T a → Check t T a′ → a ≡ a′
-check-unique t T a a′ = first-unique (checkRefusals t T) a a′
-
--- answer, count and buffer
-abbrev Same : (a a′ k k′ : ℕ) (w w′ : List ℕ) → Type 0
-Same a a′ k k′ w w′ = (a ≡ a′) × (k ≡ k′) × (w ≡ w′)
+check-unique t T a a′ = first-unique (checkRefusals t (λ P. order P (P .n)) T) a a′
 
 pub build-unique : (t : Bytes) (before : List ℕ) (a a′ k k′ : ℕ) (w w′ : List ℕ) → Build t before a k w → Build t before a′ k′ w′
-    → Same a a′ k k′ w w′
+    → (a ≡ a′) × (k ≡ k′) × (w ≡ w′)
 build-unique t before a a′ k k′ w w′ p q =
-    let e = first-unique (buildRefusals t (length before)) a a′ (p .answered) (q .answered) in
-    let r = leaves-unique _ determined before a a′ e k k′ w w′ (p .leaves) (q .leaves) in
-    (e, r .0, r .1)
+    call-unique determined (buildRefusals t (length before)) (p .answered) (q .answered) (p .leaves) (q .leaves)
   where
     determined : Determined (λ k w. says t (λ R. let T = tableOf (presentation R) in (k ≡ lineCount T) × (w ≡ over before T)))
     determined k k′ w w′ x y =
-        let e : tableOf (presentation (x .0)) ≡ tableOf (presentation (y .0)) = ap (λ R. tableOf (presentation R)) (says-unique t (x .0) (y .0) (x .1) (y .1)) in
+        let e = ap (λ R. tableOf (presentation R)) (says-unique t (x .0) (y .0) (x .1) (y .1)) in
         (x .2 .0 ∙ ap lineCount e ∙ sym (y .2 .0), x .2 .1 ∙ ap (over before) e ∙ sym (y .2 .1))
 
 pub read-unique : (t : Bytes) (before : List ℕ) (a a′ k k′ : ℕ) (w w′ : List ℕ) → ReadTable t before a k w → ReadTable t before a′ k′ w′
-    → Same a a′ k k′ w w′
+    → (a ≡ a′) × (k ≡ k′) × (w ≡ w′)
 read-unique t before a a′ k k′ w w′ p q =
-    let e = first-unique (readRefusals t (length before)) a a′ (p .answered) (q .answered) in
-    let r = leaves-unique _ determined before a a′ e k k′ w w′ (p .leaves) (q .leaves) in
-    (e, r .0, r .1)
+    call-unique determined (readRefusals t (length before)) (p .answered) (q .answered) (p .leaves) (q .leaves)
   where
     determined : Determined (λ k w. (T : List ℕ) × TableSays t T × (k ≡ lineCount T) × (w ≡ over before T))
     determined k k′ w w′ x y =
@@ -138,8 +131,7 @@ read-unique t before a a′ k k′ w w′ p q =
         (x .2 ∙ ap lineCount e ∙ sym (y .2), x .3 ∙ ap (over before) e ∙ sym (y .3))
 
 pub write-unique : (T : List ℕ) (before : Bytes) (a a′ k k′ : ℕ) (w w′ : Bytes) → WriteTable T before a k w → WriteTable T before a′ k′ w′
-    → Same a a′ k k′ w w′
+    → (a ≡ a′) × (k ≡ k′) × (w ≡ w′)
 write-unique T before a a′ k k′ w w′ p q =
-    let e = first-unique (writeRefusals T (length before)) a a′ (p .answered) (q .answered) in
-    let r = leaves-unique _ (λ k k′ w w′ x y. (x .0 ∙ sym (y .0), x .1 ∙ sym (y .1))) before a a′ e k k′ w w′ (p .leaves) (q .leaves) in
-    (e, r .0, r .1)
+    call-unique (λ k k′ w w′ x y. (x .0 ∙ sym (y .0), x .1 ∙ sym (y .1))) (writeRefusals T (length before))
+    (p .answered) (q .answered) (p .leaves) (q .leaves)

@@ -3,15 +3,21 @@
 -- buffer as it was and counts 0.
 --
 --   First conditions a         a is the number of the first condition that applies, or 0
+--   firstOf tests              the same for conditions that compute
 --   says t Q                   the text t says relations of which Q holds
---   presentationRefusals t     11 to 15
---   judgements                 21 to 26, each with its condition
---   judgement P T              the number that the check of T answers for an accepted P
+--   relationTests              12 to 14, each with its test
+--   textRefusals, inconsistent, presentationRefusals      11 to 14; 15; 11 to 15
+--   short, buildRefusals       16; 11 to 16
+--   judgements                 21 to 26, each with its test
+--   judgement P m T            the number of the first test that T fails for P, with exponents modulo m
+--   tableRefusals, checkRefusals     21 to 26 for what a text says, modulo a number that depends on it; 11 to 15 before them
+--   readRefusals, writeRefusals      16 and 20; 21 and 16
 --   over before s              a buffer after s was written at its start
+--   Leaves                     what a call hands over and leaves in its buffers: all of a finished call, or nothing
 --   Accept, Build, Check, ReadTable, WriteTable      the five calls
 use mathlib.Core.Path.{_≡_}
 use mathlib.Core.Logic.{_⊎_}
-use Prim.Native.Nat.{ℕ, zero, suc, _+_, _*_, _-_, _<_}
+use Prim.Native.Nat.{ℕ, _+_, _*_, _-_, _<_}
 use mathlib.Core.Bool.{Bool, true, false, cond}
 use mathlib.Core.List.{List, [], _∷_, _++_, map}
 use lib.ListN.{length, drop}
@@ -40,18 +46,24 @@ says t Q = (R : Relations) × Says t R × Q R
 
 -- ---- The conditions
 
-abbrev pub presentationRefusals : Bytes → List (ℕ × Type 0)
-presentationRefusals t =
-    (11, ¬ InForm t)
-    ∷ (12, says t (λ R. someNotPrime R ≡ true))
-    ∷ (13, says t (λ R. tooLarge R ≡ true))
-    ∷ (14, says t (λ R. misused R ≡ true))
-    ∷ (15, says t (λ R. ¬ Consistent (presentation R)))
-    ∷ []
+abbrev pub relationTests : List (ℕ × (Relations → Bool))
+relationTests = (12, someNotPrime) ∷ (13, tooLarge) ∷ (14, misused) ∷ []
 
--- 16: fewer words than a build wants
+abbrev pub textRefusals : Bytes → List (ℕ × Type 0)
+textRefusals t = (11, ¬ InForm t) ∷ map (λ (q : ℕ × (Relations → Bool)). (q .0, says t (λ R. q .1 R ≡ true))) relationTests
+
+abbrev pub inconsistent : Bytes → List (ℕ × Type 0)
+inconsistent t = (15, says t (λ R. ¬ Consistent (presentation R))) ∷ []
+
+abbrev pub presentationRefusals : Bytes → List (ℕ × Type 0)
+presentationRefusals t = textRefusals t ++ inconsistent t
+
+-- fewer words than a build wants
+abbrev pub short : Bytes → ℕ → List (ℕ × Type 0)
+short t have = (16, says t (λ R. have < buildWords (presentation R))) ∷ []
+
 abbrev pub buildRefusals : Bytes → ℕ → List (ℕ × Type 0)
-buildRefusals t have = presentationRefusals t ++ ((16, says t (λ R. have < buildWords (presentation R))) ∷ [])
+buildRefusals t have = presentationRefusals t ++ short t have
 
 abbrev pub judgements : List (ℕ × (Presentation → ℕ → List ℕ → Bool))
 judgements =
@@ -63,14 +75,16 @@ judgements =
     ∷ (26, squaresFail)
     ∷ []
 
--- exponents are modulo the order of the group
-abbrev pub checkRefusals : Bytes → List ℕ → List (ℕ × Type 0)
-checkRefusals t T =
-    presentationRefusals t
-    ++ map (λ (q : ℕ × (Presentation → ℕ → List ℕ → Bool)). (q .0, says t (λ R. let P = presentation R in q .1 P (order P (P .n)) T ≡ true))) judgements
+-- a test applies to the presentation that the text says, with exponents modulo the number that belongs to it
+abbrev pub tableRefusals : Bytes → (Presentation → ℕ) → List ℕ → List (ℕ × Type 0)
+tableRefusals t modulus T =
+    map (λ (q : ℕ × (Presentation → ℕ → List ℕ → Bool)). (q .0, says t (λ R. let P = presentation R in q .1 P (modulus P) T ≡ true))) judgements
 
-unfoldable pub judgement : Presentation → List ℕ → ℕ
-judgement P T = firstOf (map (λ (q : ℕ × (Presentation → ℕ → List ℕ → Bool)). (q .0, q .1 P (order P (P .n)) T)) judgements)
+abbrev pub checkRefusals : Bytes → (Presentation → ℕ) → List ℕ → List (ℕ × Type 0)
+checkRefusals t modulus T = presentationRefusals t ++ tableRefusals t modulus T
+
+unfoldable pub judgement : Presentation → ℕ → List ℕ → ℕ
+judgement P m T = firstOf (map (λ (q : ℕ × (Presentation → ℕ → List ℕ → Bool)). (q .0, q .1 P m T)) judgements)
 
 -- bytes 10 of a text
 unfoldable pub newlines : Bytes → ℕ
@@ -95,10 +109,10 @@ writeRefusals T have = (21, writable T ≡ false) ∷ (16, have < length (tableT
 unfoldable pub over : List ℕ → List ℕ → List ℕ
 over before s = s ++ drop (length s) before
 
--- a buffer and a count after a call: what a finished call leaves, or nothing changed
-pub record Leaves (Finished : ℕ → List ℕ → Type 0) (before : List ℕ) (answer count : ℕ) (after : List ℕ) : Type 0 where
-  pub finished : answer ≡ 0 → Finished count after
-  pub refused : ¬ (answer ≡ 0) → (count ≡ 0) × (after ≡ before)
+-- what is handed over and the buffers after a call: those of a finished call, or nothing handed over and nothing changed
+pub record Leaves {H B : Type 0} (Finished : H → B → Type 0) (nothing : H) (before : B) (answer : ℕ) (handed : H) (after : B) : Type 0 where
+  pub finished : answer ≡ 0 → Finished handed after
+  pub refused : ¬ (answer ≡ 0) → (handed ≡ nothing) × (after ≡ before)
 
 abbrev pub Accept : Bytes → ℕ → Type 0
 Accept t answer = First (presentationRefusals t) answer
@@ -106,15 +120,16 @@ Accept t answer = First (presentationRefusals t) answer
 pub record Build (t : Bytes) (before : List ℕ) (answer count : ℕ) (after : List ℕ) : Type 0 where
   pub answered : First (buildRefusals t (length before)) answer
   pub leaves :
-      Leaves (λ k w. says t (λ R. let T = tableOf (presentation R) in (k ≡ lineCount T) × (w ≡ over before T))) before answer count after
+      Leaves (λ k w. says t (λ R. let T = tableOf (presentation R) in (k ≡ lineCount T) × (w ≡ over before T))) 0 before answer count after
 
+-- exponents are modulo the order of the group
 abbrev pub Check : Bytes → List ℕ → ℕ → Type 0
-Check t T answer = First (checkRefusals t T) answer
+Check t T answer = First (checkRefusals t (λ P. order P (P .n)) T) answer
 
 pub record ReadTable (t : Bytes) (before : List ℕ) (answer count : ℕ) (after : List ℕ) : Type 0 where
   pub answered : First (readRefusals t (length before)) answer
-  pub leaves : Leaves (λ k w. (T : List ℕ) × TableSays t T × (k ≡ lineCount T) × (w ≡ over before T)) before answer count after
+  pub leaves : Leaves (λ k w. (T : List ℕ) × TableSays t T × (k ≡ lineCount T) × (w ≡ over before T)) 0 before answer count after
 
 pub record WriteTable (T : List ℕ) (before : Bytes) (answer count : ℕ) (after : Bytes) : Type 0 where
   pub answered : First (writeRefusals T (length before)) answer
-  pub leaves : Leaves (λ k w. (k ≡ length (tableText T)) × (w ≡ over before (tableText T))) before answer count after
+  pub leaves : Leaves (λ k w. (k ≡ length (tableText T)) × (w ≡ over before (tableText T))) 0 before answer count after

@@ -9,4 +9,3 @@ pub mod Rows
 pub mod Reading
 pub mod Conditions
 pub mod Judged
-pub mod Refusals

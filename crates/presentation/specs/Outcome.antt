@@ -1,18 +1,17 @@
 -- What reading a presentation text leaves.
 --
 --   Holds                 the read presentation holds the relations R
---   textRefusals          11 to 14
 --   ReadText              the answer to a text, and the presentation beside answer 0
 --   Concluded             the answer to what was kept of at most twelve generators
 use mathlib.Core.Path.{_≡_}
-use mathlib.Core.Bool.{true, cond}
-use mathlib.Core.List.{List, [], _∷_}
+use mathlib.Core.Bool.{cond}
+use mathlib.Core.List.{List, []}
 use Prim.Native.Nat.{ℕ, _<_, _≤_}
 use lib.ListN.{getD}
 use lib.Dec.{leb}
 use Rattle.definitions.specs.Text.{Bytes}
-use Rattle.definitions.specs.Presentation.{Relations, InForm, maxGenerators, maxOrder, pairNumber, rowOf, someNotPrime, tooLarge, misused}
-use Rattle.definitions.specs.Answers.{First, says}
+use Rattle.definitions.specs.Presentation.{Relations, maxGenerators, maxOrder, pairNumber, rowOf}
+use Rattle.definitions.specs.Answers.{First, says, textRefusals}
 use Rattle.presentation.specs.declared.Presentation.{Presentation}
 use Rattle.presentation.specs.declared.Outcome.{Outcome}
 use Rattle.presentation.specs.Conditions.{product, allWell, Primes}
@@ -24,14 +23,6 @@ pub record Holds (R : Relations) (P : Presentation) : Type 0 where
   pub prime-held : (j : ℕ) → j < R .n → getD (P .primes) j 0 ≡ rowOf R j j .p
   pub word-held : (j i : ℕ) → j < R .n → i ≤ j → (k : ℕ) → k < maxGenerators
       → getD (getD (P .words) (pairNumber j i) []) k 0 ≡ getD (rowOf R j i .word) k 0
-
-abbrev pub textRefusals : Bytes → List (ℕ × Type 0)
-textRefusals t =
-    (11, ¬ InForm t)
-    ∷ (12, says t (λ R. someNotPrime R ≡ true))
-    ∷ (13, says t (λ R. tooLarge R ≡ true))
-    ∷ (14, says t (λ R. misused R ≡ true))
-    ∷ []
 
 pub record ReadText (t : Bytes) (o : Outcome) : Type 0 where
   pub answered : First (textRefusals t) (o .status)

@@ -6,9 +6,7 @@
 --   table-room          its text is no longer than the room
 --   never-refused       so writing it is never refused
 use mathlib.Core.Path.{_≡_, refl, sym, ap, _∙_, subst}
-use mathlib.Core.Logic.{inl, inr}
 use mathlib.Core.Bool.{true, true≢false}
-use mathlib.Core.List.{List, [], _∷_}
 use Prim.Native.Nat.{ℕ, _≤_, _<_}
 use native.Mathlib.Omega.{arith}
 use lib.ListN.{length}
@@ -16,10 +14,9 @@ use Rattle.definitions.specs.Text.{Bytes, small}
 use Rattle.definitions.specs.Presentation.{lineWords, buildWords, Relations, Says, presentation}
 use Rattle.definitions.specs.Table.{lineCount, tableText, writable}
 use Rattle.definitions.specs.Steps.{tableOf}
-use Rattle.definitions.specs.Answers.{First, says, presentationRefusals, buildRefusals, writeRefusals}
-use Rattle.presentation.proofs.Refusals.{first-past}
+use Rattle.definitions.specs.Answers.{First, presentationRefusals, short, buildRefusals, writeRefusals}
+use Rattle.definitions.proofs.Refusals.{first-unique, first-none, none-first, none-back, Unrefused, build-unrefused}
 use Rattle.clifford.proofs.Theorem.{accepted, accepted-is, table-words}
-use Rattle.clifford.proofs.Calls.{Unrefused, unrefused}
 use Rattle.clifford.proofs.Calls as said
 use Rattle.assembly.proofs.Stated as stated
 use Rattle.table.proofs.Calls.{writable-whole}
@@ -28,12 +25,8 @@ use Rattle.reptable.specs.Tabulated.{room}
 use Rattle.reptable.proofs.Values.{table-small}
 use Rattle.reptable.proofs.Lengths.{text-length}
 
--- 16, the one refusal behind those of the text
-abbrev short : Bytes → List (ℕ × Type 0)
-short t = (16, says t (λ R. lentWords < buildWords (presentation R))) ∷ []
-
 pub accepts : {t : Bytes} → First (buildRefusals t lentWords) 0 → Unrefused t
-accepts {t} f = unrefused t (short t) f
+accepts {t} f = build-unrefused t lentWords f
 
 module _ {t : Bytes} (f : First (buildRefusals t lentWords) 0) (R : Relations) (s : Says t R) where
   abbrev U : Unrefused t
@@ -51,11 +44,10 @@ module _ {t : Bytes} (f : First (buildRefusals t lentWords) 0) (R : Relations) (
   table-writable = let (k, e) = table-words R (s .formed) (said.primes t U R s) (said.words-used t U R s) (said.consistent t U R s) in writable-whole (tableOf (presentation R)) (omega arith) words-small
 
   enough : buildWords (presentation R) ≤ lentWords
-  enough = go (first-past (presentationRefusals t) (short t) (omega arith, (omega arith, (omega arith, (omega arith, (omega arith, tt))))) f)
-    where
-      go : First (short t) 0 → buildWords (presentation R) ≤ lentWords
-      go (inl h) = absurd (omega (arith, h .1))
-      go (inr h) = let few : ¬ (lentWords < buildWords (presentation R)) = λ l. h .0 (R, s, l) in omega arith
+  enough =
+      let none = none-back (presentationRefusals t) (short t lentWords) (first-none (buildRefusals t lentWords) refl f) in
+      let few : ¬ (lentWords < buildWords (presentation R)) = λ l. none .0 (R, s, l) in
+      omega arith
 
   table-room : length (tableText (tableOf (presentation R))) ≤ room
   unfolding lineCount lineWords
@@ -67,6 +59,6 @@ module _ {t : Bytes} (f : First (buildRefusals t lentWords) 0) (R : Relations) (
       omega arith
 
   pub never-refused : {have answer : ℕ} → room ≤ have → First (writeRefusals (tableOf (presentation R)) have) answer → answer ≡ 0
-  never-refused l (inl h) = absurd (true≢false (sym table-writable ∙ h .0))
-  never-refused l (inr (h, inl k)) = absurd (omega (arith, k .0, table-room))
-  never-refused l (inr (h, inr (k, e))) = e
+  never-refused {have} {answer} l f =
+      first-unique (writeRefusals (tableOf (presentation R)) have) answer 0 f
+      (none-first (writeRefusals (tableOf (presentation R)) have) (λ h. true≢false (sym table-writable ∙ h), (λ h. omega (arith, table-room), tt)))

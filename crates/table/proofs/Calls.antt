@@ -9,7 +9,7 @@
 --   written-read, write-then-read, read-then-write       there and back
 use mathlib.Core.Path.{_≡_, refl, sym, ap, ap₂, _∙_}
 use mathlib.Core.Logic.{inl, inr}
-use mathlib.Core.Bool.{Bool, true, false, not, true≢false}
+use mathlib.Core.Bool.{Bool, true, false, not, true≢false, not-eq-not}
 use mathlib.Core.List.{List, _++_}
 use Prim.Native.Nat.{ℕ, _+_, _*_, _-_, _/_, _%_, _<_, _≤_}
 use native.Mathlib.Nat.{div-add-mod'}
@@ -21,7 +21,8 @@ use borrow.Author.Tests.{eqb-true, eq-eqb, ltb-true, ltb-false, leb-false, not-t
 use Rattle.definitions.specs.Text.{Bytes, small}
 use Rattle.definitions.specs.Presentation.{lineWords}
 use Rattle.definitions.specs.Table.{lineCount, tableText, writable}
-use Rattle.definitions.specs.Answers.{First, newlines, over, TableSays, writeRefusals, ReadTable, WriteTable}
+use Rattle.definitions.specs.Answers.{newlines, over, TableSays, writeRefusals, ReadTable, WriteTable}
+use Rattle.definitions.proofs.Refusals.{first-none}
 use Rattle.definitions.proofs.Unique.{table-says-unique}
 use Rattle.numbers.proofs.Bools.{and-left, and-right, and-intro}
 use Rattle.text.specs.Reading.{StartsAt}
@@ -124,16 +125,12 @@ module _ (T : List ℕ) (before : Bytes) where
   refuse-21 : writable T ≡ false → WriteTable T before 21 0 before
   refuse-21 h = record { answered = inl (h, refl); leaves = record { finished = λ q. absurd (omega arith); refused = λ n. (refl, refl) } }
 
-  unwritable : (b : Bool) → writable T ≡ b → (writable T ≡ true → ⊥) → b ≡ false
-  unwritable true q n = absurd (n q)
-  unwritable false q n = refl
-
   pub write-part : (length T % 8 ≡ 0 → ⊥) → WriteTable T before 21 0 before
   unfolding lineWords
-  write-part n = refuse-21 (unwritable (writable T) refl (λ q. n (writable-parts T q .0)))
+  write-part n = refuse-21 (not-eq-not .0 (λ q. n (writable-parts T q .0)))
 
   pub write-large : small T ≡ false → WriteTable T before 21 0 before
-  write-large h = refuse-21 (unwritable (writable T) refl (λ q. true≢false (sym (writable-parts T q .1) ∙ h)))
+  write-large h = refuse-21 (not-eq-not .0 (λ q. true≢false (sym (writable-parts T q .1) ∙ h)))
 
   module _ (whole : length T % 8 ≡ 0) (few : small T ≡ true) where
     text-is : tableText T ≡ names ++ pieces 0 T
@@ -172,14 +169,9 @@ unfolding over
 written-read T before k after h =
     let f = h .leaves .finished refl in
     record {
-      formed = writes (writable T) refl (h .answered);
+      formed = not-eq-not .0 (first-none (writeRefusals T (length before)) refl (h .answered) .0);
       written = ap₂ take (f .0) (f .1) ∙ take-append-seam (tableText T) (drop (length (tableText T)) before);
     }
-  where
-    writes : (b : Bool) → writable T ≡ b → First (writeRefusals T (length before)) 0 → b ≡ true
-    writes true q w = refl
-    writes false q (inl w) = absurd (omega (arith, w .1))
-    writes false q (inr w) = absurd (w .0 q)
 
 -- the words of a table that was written are read back, whatever buffer they are read into
 pub write-then-read : (T : List ℕ) (out : Bytes) (k : ℕ) (written : Bytes) (before : List ℕ) (m : ℕ) (after : List ℕ)
