@@ -8,7 +8,7 @@ use Prim.Native.Nat.{ℕ, suc, _+_, _*_, _/_, _≤_, _<_}
 use native.Mathlib.Omega.{arith}
 use Rattle.definitions.specs.Lists.{sum}
 use Rattle.definitions.specs.Presentation.{maxGenerators, pairCount, pairNumber}
-use Rattle.numbers.proofs.Lists.{triangle, sum-mono}
+use Rattle.numbers.proofs.Lists.{triangle}
 use Rattle.group.proofs.Pairs.{pairNumber-power, pairNumber-commutator, pairNumber-below}
 
 pub pair-below : (j i : ℕ) → i ≤ j → j < maxGenerators → pairNumber j i < pairCount
