@@ -25,14 +25,8 @@ use rows::copied;
 use rows::same;
 use rows::stacked;
 use rows::top;
+use rows::wide;
 use rows::word;
-
-// A number as one of 64 bits.
-fn wide(x: u32) -> u64
-    ensures { λ r. ⌜ (r ≡ x) × (r < 4294967296) ⌝ }
-{
-    x as u64
-}
 
 // The product of a and e, divided by p: the remainder.
 pub fn remainder(a: u32, e: u32, p: u32) -> u32

@@ -4,6 +4,7 @@
 //
 //   GENERATORS, PAIRS, ORDER     the ceilings on generators and on the order, and the pairs of so many generators
 //   Row, Words                   an exponent, or a prime, for each generator; a row for each pair
+//   wide                         a number as one of 64 bits
 //   pair                         the number of a pair
 //   word                         the word of a pair
 //   generator                    the row of a generator
@@ -30,6 +31,13 @@ pub type Row = [u32; GENERATORS];
 
 // A row for each pair of generators, picked by the number of the pair.
 pub type Words = [[u32; GENERATORS]; PAIRS];
+
+// A number as one of 64 bits.
+pub fn wide(x: u32) -> u64
+    ensures { λ r. ⌜ (r ≡ x) × (r < 4294967296) ⌝ }
+{
+    x as u64
+}
 
 // The number of the pair (j, i), i ≤ j, in the order of the lines of a text.
 pub fn pair(j: usize, i: usize) -> usize
