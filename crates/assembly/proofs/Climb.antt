@@ -12,7 +12,7 @@ use native.Mathlib.Omega.{arith}
 use lib.ListN.{length, length-append}
 use Rattle.definitions.specs.Lists.{blocks, sum}
 use Rattle.definitions.specs.Presentation.{Presentation, order, buildWords}
-use Rattle.definitions.specs.Monomial.{Level, repOf}
+use Rattle.definitions.specs.Monomial.{repOf}
 use Rattle.definitions.specs.Table.{levelWords, levelZero}
 use Rattle.definitions.specs.Steps
 use Rattle.definitions.specs.Steps.{levels}
@@ -24,12 +24,13 @@ use Rattle.clifford.proofs.Standing.{rung}
 use Rattle.clifford.proofs.Numbering.{next-length, made-fixed}
 use Rattle.closed.proofs.Sources.{Twins, made-same}
 use Rattle.closed.proofs.Table.{rungs, twins}
+use Rattle.rows.specs.Rows.{Reads}
 use Rattle.first.specs.Roots.{firstWords}
 use Rattle.first.proofs.Laws.{firstWords-length}
 use Rattle.lines.specs.Lines.{matrixIn}
 use Rattle.survey.specs.declared.Frame.{Frame}
 use Rattle.survey.specs.Below.{sourceIn, degOf, matrixOf, targetOf, madeIn, numberIn}
-use Rattle.assembly.specs.Built.{upTo, frameAt, Placed, Told}
+use Rattle.assembly.specs.Built.{upTo, frameAt, Placed}
 use Rattle.assembly.proofs.Places.{upTo-suc}
 use Rattle.assembly.proofs.Room.{room}
 use Rattle.assembly.proofs.Words.{reads}
@@ -49,14 +50,17 @@ module _ (A : Accepted) where
 
   -- ---- Words
 
-  pub next-upTo : (i : ℕ) (f : Frame) (W : List ℕ) (rows : List (List ℕ)) → Placed A i f W → Told A i rows → W ++ levelWords (A .C .P .n) (suc i) (levelBy (sourceIn f W rows)) ≡ upTo A (suc i)
+  pub next-upTo : (i : ℕ) (f : Frame) (W : List ℕ) (rows : List (List ℕ)) {primes : List ℕ} → Placed A i f W → Reads (A .C .P) (A .C .P .n) primes rows
+      → W ++ levelWords (A .C .P .n) (suc i) (levelBy (sourceIn f W rows)) ≡ upTo A (suc i)
   next-upTo i f W rows Q told = ap₂ (_++_) (Q .words-are) (sym (next-words A i f W rows Q told)) ∙ sym (upTo-suc A i)
 
-  pub next-lines : (i : ℕ) (f : Frame) (W : List ℕ) (rows : List (List ℕ)) → Placed A i f W → Told A i rows
+  pub next-lines : (i : ℕ) (f : Frame) (W : List ℕ) (rows : List (List ℕ)) {primes : List ℕ}
+      → Placed A i f W → Reads (A .C .P) (A .C .P .n) primes rows
       → levelWords (f .gens) (suc (f .top)) (levelBy (sourceIn f W rows)) ≡ levelWords (A .C .P .n) (suc i) (levels (A .C .P) (order (A .C .P) (A .C .P .n)) (suc i))
   next-lines i f W rows Q told = ap₂ (λ g t. levelWords g (suc t) (levelBy (sourceIn f W rows))) (Q .gens-is) (Q .top-is) ∙ sym (next-words A i f W rows Q told)
 
-  pub next-room : (i : ℕ) (f : Frame) (W : List ℕ) (rows : List (List ℕ)) → Placed A i f W → Told A i rows
+  pub next-room : (i : ℕ) (f : Frame) (W : List ℕ) (rows : List (List ℕ)) {primes : List ℕ}
+      → Placed A i f W → Reads (A .C .P) (A .C .P .n) primes rows
       → 8 * f .end + length (levelWords (f .gens) (suc (f .top)) (levelBy (sourceIn f W rows))) ≤ buildWords (A .C .P)
   next-room i f W rows Q told =
       subst (λ x. x ≤ buildWords P) (ap length (upTo-suc A i) ∙ length-append (upTo A i) (levelWords n (suc i) (levels P m (suc i))) ∙ ap₂ (_+_) (sym (Q .end-is)) (ap length (sym (next-lines i f W rows Q told))))
@@ -88,8 +92,9 @@ module _ (A : Accepted) where
   -- ---- Frames
 
   -- the level after begins where this one ends, and ends where its lines end
-  pub next-placed : (i : ℕ) (f : Frame) (W : List ℕ) (rows : List (List ℕ)) → Placed A i f W → Told A i rows → suc i < A .C .P .n
-      → (end : ℕ) → 8 * end ≡ 8 * f .end + length (levelWords (A .C .P .n) (suc i) (levelBy (sourceIn f W rows)))
+  pub next-placed : (i : ℕ) (f : Frame) (W : List ℕ) (rows : List (List ℕ)) {primes : List ℕ}
+      → Placed A i f W → Reads (A .C .P) (A .C .P .n) primes rows
+      → suc i < A .C .P .n → (end : ℕ) → 8 * end ≡ 8 * f .end + length (levelWords (A .C .P .n) (suc i) (levelBy (sourceIn f W rows)))
       → Placed A (suc i) (record { m = f .m; top = suc i; gens = f .gens; p = A .C .P .p (suc i); base = f .end; reps = numberIn f W (f .reps); end = end }) (W ++ levelWords (A .C .P .n) (suc i) (levelBy (sourceIn f W rows)))
   next-placed i f W rows Q told l end e =
       let c : suc i - 1 ≡ i = omega arith in
@@ -122,7 +127,7 @@ module _ (A : Accepted) where
   one-reps =
       next-length (rungs A 0 (A .positive)) ∙ sum-suc 0 _ ∙ ap₂ (_+_) (sum-zero _) (made-fixed (rungs A 0 (A .positive)) 0 (rungs A 0 (A .positive) .literal 0 0)) ∙ omega arith
 
-  module _ (rows : List (List ℕ)) (told : Told A 0 rows) where
+  module _ (rows : List (List ℕ)) {primes : List ℕ} (told : Reads (A .C .P) (A .C .P .n) primes rows) where
     pub one-upTo : firstWords (A .C .P .n) (A .C .P .p 0) (order (A .C .P) (A .C .P .n)) rows ≡ upTo A 1
     one-upTo = sym (upTo-first ∙ level-one A rows told)
 

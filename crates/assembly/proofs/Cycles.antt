@@ -24,15 +24,17 @@ use Rattle.closed.proofs.Induced.{block-is}
 use Rattle.closed.proofs.Scalar.{leader-of}
 use Rattle.closed.proofs.Sources.{Twins, left, leader-same, block-same}
 use Rattle.closed.proofs.Table.{rungs, twins}
+use Rattle.rows.specs.Rows.{Reads}
 use Rattle.lines.specs.Lines.{matrixIn}
 use Rattle.survey.specs.declared.Frame.{Frame}
 use Rattle.induce.specs.Inducing.{Cycling}
 use Rattle.survey.specs.Below.{sourceIn, degOf, matrixOf, targetOf, leaderIn, Fixing}
-use Rattle.assembly.specs.Built.{upTo, frameAt, Placed, Told}
+use Rattle.assembly.specs.Built.{upTo, frameAt, Placed}
 use Rattle.assembly.proofs.Words.{reads, target-of}
 use Rattle.assembly.proofs.Standing.{placed}
 
-module _ (A : Accepted) (k : ℕ) (l : suc k < A .C .P .n) (rows : List (List ℕ)) (told : Told A (suc k) rows) where
+module _ (A : Accepted) (k : ℕ) (l : suc k < A .C .P .n) (rows : List (List ℕ)) {primes : List ℕ}
+    (told : Reads (A .C .P) (A .C .P .n) primes rows) where
   abbrev P : Presentation
   P = A .C .P
 
@@ -59,7 +61,8 @@ module _ (A : Accepted) (k : ℕ) (l : suc k < A .C .P .n) (rows : List (List �
 
   -- the level, and its words
   abbrev T : Twins
-  T = twins A (suc k) l (degOf f W) (λ r g. matrixIn W (matrixOf f W g r) (degOf f W r)) (targetOf f W) (reads A k lower) (λ j. toNF (suc (suc k)) (getD rows (pairNumber j (suc k)) [])) (λ j a b. sym (told .word j a b))
+  T = twins A (suc k) l (degOf f W) (λ r g. matrixIn W (matrixOf f W g r) (degOf f W r)) (targetOf f W) (reads A k lower)
+      (λ j. toNF (suc (suc k)) (getD rows (pairNumber j (suc k)) [])) (λ j a b. sym (told .w-is (suc k) j a b))
 
   module _ (r : ℕ) (h : r < length (levels (A .C .P) (order (A .C .P) (A .C .P .n)) (suc k))) (mv : ¬ (targetOf (frameAt A k) (upTo A (suc k)) (suc k) r ≡ r)) (own : leaderIn (frameAt A k) (upTo A (suc k)) r ≡ r)
       (j : ℕ) (ij : suc k < j) (jn : j < A .C .P .n) where
@@ -82,7 +85,7 @@ module _ (A : Accepted) (k : ℕ) (l : suc k < A .C .P .n) (rows : List (List �
           degree = degOf f W;
           matrix = λ r g. matrixIn W (matrixOf f W g r) (degOf f W r);
           target = targetOf f W;
-        }) j r t) (told .power-word)
+        }) j r t) (told .u-is (suc k) l)
         ∙ sym (block-same T j r ij jn h t) ∙ block-left t
 
     pub unit-at : ¬ (A .C .P .p (suc k) ∣ suc (A .C .P .w (suc k) j .0))
@@ -119,7 +122,8 @@ pub fixing : (A : Accepted) (i : ℕ) (f : Frame) (W : List ℕ) → Placed A i 
 fixing A zero f W Q = absurd (omega (arith, Q .above))
 fixing A (suc k) f W Q = subst (λ f. Fixing f W) (sym (placed A k f W Q)) (subst (λ W. Fixing (frameAt A k) W) (sym (Q .words-are)) (record { stays = fixed-at A k (Q .below) }))
 
-pub visited : (A : Accepted) (i : ℕ) (f : Frame) (W : List ℕ) (rows : List (List ℕ)) → Placed A i f W → Told A i rows → Cycling f W rows
+pub visited : (A : Accepted) (i : ℕ) (f : Frame) (W : List ℕ) (rows : List (List ℕ)) {primes : List ℕ} → Placed A i f W → Reads (A .C .P) (A .C .P .n) primes rows
+    → Cycling f W rows
 visited A zero f W rows Q told = absurd (omega (arith, Q .above))
 visited A (suc k) f W rows Q told =
     subst (λ f. Cycling f W rows) (sym (placed A k f W Q))

@@ -1,6 +1,6 @@
 -- Level 1 of the steps is the powers of one root.
 --
---   exponent-told             an exponent of generator 0, told by rows
+--   exponent-told             an exponent of generator 0, as rows have it
 --   level-one                 the lines of level 1
 --   exponents-below           those exponents are below the prime
 use mathlib.Core.Path.{_≡_, sym, _∙_, ap, subst}
@@ -14,15 +14,15 @@ use Rattle.formulas.specs.Formulas.{sourceOf, levelBy}
 use Rattle.group.proofs.Order.{order-positive}
 use Rattle.clifford.specs.Accepted.{Accepted}
 use Rattle.closed.proofs.Table.{level-by-formulas}
+use Rattle.rows.specs.Rows.{Reads}
 use Rattle.first.specs.Roots.{Exponents, firstWords}
 use Rattle.first.proofs.Level.{first-is-level}
-use Rattle.assembly.specs.Built.{Told}
 use Rattle.assembly.proofs.Room.{whole}
 
-module _ (A : Accepted) (rows : List (List ℕ)) (told : Told A 0 rows) where
+module _ (A : Accepted) (rows : List (List ℕ)) {primes : List ℕ} (told : Reads (A .C .P) (A .C .P .n) primes rows) where
   exponent-told : (j : ℕ) → 0 < j → j < A .C .P .n → A .C .P .w 0 j .0 ≡ getD (getD rows (pairNumber j 0) []) 0 0
   unfolding toNF
-  exponent-told j a b = sym (ap (λ (x : NF 1). x .0) (told .word j a b))
+  exponent-told j a b = sym (ap (λ (x : NF 1). x .0) (told .w-is 0 j a b))
 
   formulas-one : levelWords (A .C .P .n) 1 (levels (A .C .P) (order (A .C .P) (A .C .P .n)) 1) ≡ levelWords (A .C .P .n) 1 (levelBy (sourceOf (A .C .P) (order (A .C .P) (A .C .P .n)) 0 levelZero))
   unfolding levels

@@ -6,13 +6,12 @@
 --   frameAt k                the frame of the level above level suc k
 --   Small                    what refusal 13 leaves: at most 12 generators, order at most 4096
 --   Placed i f W             a frame and words are those of the level above level i
---   Told i rows              rows of exponents say the words of generator i
 use mathlib.Core.Path.{_≡_}
-use mathlib.Core.List.{List, []}
+use mathlib.Core.List.{List}
 use Prim.Native.Nat.{ℕ, suc, _*_, _-_, _≤_, _<_}
-use lib.ListN.{length, getD}
+use lib.ListN.{length}
 use Rattle.definitions.specs.Lists.{blocks, sum}
-use Rattle.definitions.specs.Presentation.{Presentation, order, toNF, pairNumber}
+use Rattle.definitions.specs.Presentation.{Presentation, order}
 use Rattle.definitions.specs.Monomial.{Level, repOf}
 use Rattle.definitions.specs.Table.{levelWords}
 use Rattle.definitions.specs.Steps.{levels}
@@ -68,7 +67,3 @@ module _ (A : Accepted) where
     pub reps-is : f .reps ≡ length (levels (A .C .P) (order (A .C .P) (A .C .P .n)) i)
     pub end-is : 8 * f .end ≡ length (upTo i)
     pub words-are : W ≡ upTo i
-
-  pub record Told (i : ℕ) (rows : List (List ℕ)) : Type 0 where
-    pub power-word : toNF i (getD rows (pairNumber i i) []) ≡ A .C .P .u i
-    pub word : (j : ℕ) → i < j → j < A .C .P .n → toNF (suc i) (getD rows (pairNumber j i) []) ≡ A .C .P .w i j

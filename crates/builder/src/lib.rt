@@ -9,14 +9,14 @@ ghost use Rattle.survey.specs.Below.{sourceIn, numberIn};
 ghost use Rattle.induce.specs.Inducing.{Surveyed};
 ghost use Rattle.turns.specs.Turns.{turnWords};
 ghost use Rattle.builder.specs.Level.{Sound};
-use collector::rows;
+use rows::Words;
 use survey::Frame;
 
 // Appends what representation r of the level below gives. Returns the next line's number.
 pub fn append_turn(
     words: &mut [u32],
     first: &[u32],
-    rows: &[[u32; 12]; 78],
+    rows: &Words,
     leaders: &[u32],
     places: &[u32],
     numbers: &[u32],
@@ -59,7 +59,7 @@ pub fn append_turn(
 pub fn append_turns(
     words: &mut [u32],
     first: &[u32],
-    rows: &[[u32; 12]; 78],
+    rows: &Words,
     leaders: &[u32],
     places: &[u32],
     numbers: &[u32],
@@ -95,7 +95,7 @@ pub fn append_turns(
 // Fills the arrays of a level. Returns how many representations the next has.
 pub fn survey_level(
     low: &[u32],
-    rows: &[[u32; 12]; 78],
+    rows: &Words,
     first: &mut [u32],
     leaders: &mut [u32],
     places: &mut [u32],
@@ -124,7 +124,7 @@ pub struct Written {
 // Appends the level above the one that the frame shows, with arrays as long as its numbers of representations and of blocks.
 pub fn level_in(
     words: &mut [u32],
-    rows: &[[u32; 12]; 78],
+    rows: &Words,
     first: &mut [u32],
     leaders: &mut [u32],
     places: &mut [u32],
@@ -167,7 +167,7 @@ pub fn level_in(
 }
 
 // The same with arrays of 16 words.
-pub fn tiny_level(words: &mut [u32], rows: &[[u32; 12]; 78], f: Frame) -> Written
+pub fn tiny_level(words: &mut [u32], rows: &Words, f: Frame) -> Written
     requires { ⌜ Sound f (take (8 * f .end) (now words)) (now rows) × (8 * f .end + length (levelWords (f .gens) (suc (f .top)) (levelBy (sourceIn f (take (8 * f .end) (now words)) (now rows)))) ≤ length (now words)) × (f .reps ≤ 16) × (f .p ≤ 16) ⌝ }
     ensures { λ t. ⌜ Wrote (now (words .entry)) (8 * f .end) (levelWords (f .gens) (suc (f .top)) (levelBy (sourceIn f (take (8 * f .end) (now (words .entry))) (now (rows .entry))))) (now (words .exit)) (8 * t .end) × (t .reps ≡ numberIn f (take (8 * f .end) (now (words .entry))) (f .reps)) ⌝ }
 {
@@ -193,7 +193,7 @@ pub fn tiny_level(words: &mut [u32], rows: &[[u32; 12]; 78], f: Frame) -> Writte
 }
 
 // The same with arrays of 80 words.
-pub fn small_level(words: &mut [u32], rows: &[[u32; 12]; 78], f: Frame) -> Written
+pub fn small_level(words: &mut [u32], rows: &Words, f: Frame) -> Written
     requires { ⌜ Sound f (take (8 * f .end) (now words)) (now rows) × (8 * f .end + length (levelWords (f .gens) (suc (f .top)) (levelBy (sourceIn f (take (8 * f .end) (now words)) (now rows)))) ≤ length (now words)) × (f .reps ≤ 64) × (f .p ≤ 64) ⌝ }
     ensures { λ t. ⌜ Wrote (now (words .entry)) (8 * f .end) (levelWords (f .gens) (suc (f .top)) (levelBy (sourceIn f (take (8 * f .end) (now (words .entry))) (now (rows .entry))))) (now (words .exit)) (8 * t .end) × (t .reps ≡ numberIn f (take (8 * f .end) (now (words .entry))) (f .reps)) ⌝ }
 {
@@ -219,7 +219,7 @@ pub fn small_level(words: &mut [u32], rows: &[[u32; 12]; 78], f: Frame) -> Writt
 }
 
 // The same with arrays of 528 words.
-pub fn middle_level(words: &mut [u32], rows: &[[u32; 12]; 78], f: Frame) -> Written
+pub fn middle_level(words: &mut [u32], rows: &Words, f: Frame) -> Written
     requires { ⌜ Sound f (take (8 * f .end) (now words)) (now rows) × (8 * f .end + length (levelWords (f .gens) (suc (f .top)) (levelBy (sourceIn f (take (8 * f .end) (now words)) (now rows)))) ≤ length (now words)) × (f .reps ≤ 512) × (f .p ≤ 512) ⌝ }
     ensures { λ t. ⌜ Wrote (now (words .entry)) (8 * f .end) (levelWords (f .gens) (suc (f .top)) (levelBy (sourceIn f (take (8 * f .end) (now (words .entry))) (now (rows .entry))))) (now (words .exit)) (8 * t .end) × (t .reps ≡ numberIn f (take (8 * f .end) (now (words .entry))) (f .reps)) ⌝ }
 {
@@ -246,7 +246,7 @@ pub fn middle_level(words: &mut [u32], rows: &[[u32; 12]; 78], f: Frame) -> Writ
 
 // The same with arrays of 4112 words, which suffice for every level. Sixteen more than its representations, so that no two
 // arrays lie whole pages apart.
-pub fn large_level(words: &mut [u32], rows: &[[u32; 12]; 78], f: Frame) -> Written
+pub fn large_level(words: &mut [u32], rows: &Words, f: Frame) -> Written
     requires { ⌜ Sound f (take (8 * f .end) (now words)) (now rows) × (8 * f .end + length (levelWords (f .gens) (suc (f .top)) (levelBy (sourceIn f (take (8 * f .end) (now words)) (now rows)))) ≤ length (now words)) ⌝ }
     ensures { λ t. ⌜ Wrote (now (words .entry)) (8 * f .end) (levelWords (f .gens) (suc (f .top)) (levelBy (sourceIn f (take (8 * f .end) (now (words .entry))) (now (rows .entry))))) (now (words .exit)) (8 * t .end) × (t .reps ≡ numberIn f (take (8 * f .end) (now (words .entry))) (f .reps)) ⌝ }
 {
@@ -272,7 +272,7 @@ pub fn large_level(words: &mut [u32], rows: &[[u32; 12]; 78], f: Frame) -> Writt
 }
 
 // The same with arrays that the call makes, no longer than they have to be.
-pub fn next_level(words: &mut [u32], rows: &[[u32; 12]; 78], f: Frame) -> Written
+pub fn next_level(words: &mut [u32], rows: &Words, f: Frame) -> Written
     requires { ⌜ Sound f (take (8 * f .end) (now words)) (now rows) × (8 * f .end + length (levelWords (f .gens) (suc (f .top)) (levelBy (sourceIn f (take (8 * f .end) (now words)) (now rows)))) ≤ length (now words)) ⌝ }
     ensures { λ t. ⌜ Wrote (now (words .entry)) (8 * f .end) (levelWords (f .gens) (suc (f .top)) (levelBy (sourceIn f (take (8 * f .end) (now (words .entry))) (now (rows .entry))))) (now (words .exit)) (8 * t .end) × (t .reps ≡ numberIn f (take (8 * f .end) (now (words .entry))) (f .reps)) ⌝ }
 {

@@ -1,30 +1,29 @@
--- What examining a presentation text leaves.
+-- What examining a presentation leaves.
 --
---   Passed t P        t says relations that none of 11 to 14 refuses, and P holds them
---   Sound t P         and nor does 15
---   Accepted t o      the answer to t, and beside answer 0 a presentation that is sound
+--   Passed R P        none of 11 to 14 refuses the relations R, and P holds them
+--   Sound R P         and nor does 15
+--   Accepted t o      the answer to the text t, and beside answer 0 a presentation that is sound
 use mathlib.Core.Path.{_≡_}
-use mathlib.Core.Bool.{false}
+use mathlib.Core.Bool.{true, false}
 use Rattle.definitions.specs.Text.{Bytes}
-use Rattle.definitions.specs.Presentation.{Relations, Says, presentation, someNotPrime, tooLarge, misused}
+use Rattle.definitions.specs.Presentation.{Relations, wellFormed, presentation, someNotPrime, tooLarge, misused}
 use Rattle.definitions.specs.Consistency.{Consistent}
-use Rattle.definitions.specs.Answers.{Accept}
+use Rattle.definitions.specs.Answers.{says, Accept}
 use Rattle.presentation.specs.declared.Presentation.{Presentation}
 use Rattle.presentation.specs.declared.Outcome.{Outcome}
-use Rattle.presentation.specs.Outcome.{Holds}
+use Rattle.presentation.specs.Outcome.{Held}
 
-pub record Passed (t : Bytes) (P : Presentation) : Type 0 where
-  pub R : Relations
-  pub said : Says t R
+pub record Passed (R : Relations) (P : Presentation) : Type 0 where
+  pub formed : wellFormed R ≡ true
   pub primes : someNotPrime R ≡ false
   pub fits : tooLarge R ≡ false
   pub used : misused R ≡ false
-  pub held : Holds R P
+  pub held : Held R P
 
-pub record Sound (t : Bytes) (P : Presentation) : Type 0 where
-  pub passed : Passed t P
-  pub consistent : Consistent (presentation (passed .R))
+pub record Sound (R : Relations) (P : Presentation) : Type 0 where
+  pub passed : Passed R P
+  pub consistent : Consistent (presentation R)
 
 pub record Accepted (t : Bytes) (o : Outcome) : Type 0 where
   pub answered : Accept t (o .status)
-  pub sound : o .status ≡ 0 → Sound t (o .presentation)
+  pub sound : o .status ≡ 0 → says t (λ R. Sound R (o .presentation))

@@ -20,7 +20,7 @@ pub fn accepted(text: &[u8]) -> Outcome
     let n = p.n;
     let primes = p.primes;
     let words = presentation::words_of(p);
-    if collector::consistency::consistent(&primes, &words, n) {
+    if consistency::consistent(&primes, &words, n) {
         return Outcome {
             status: 0,
             presentation: p,

@@ -1,24 +1,35 @@
 // The table of a presentation text, built into the caller's words: 11 to 16, or 0 and the count of lines.
 //
-//   build_accepted       the table of an accepted presentation
+//   write_levels         the table of a sound presentation, in words that are enough
+//   build_sound          the same, or 16
 //   build                the call
 //   chieftables_build    the same, for C and Rust
 use crate::accept::accepted;
 use crate::counted::Counted;
+use conditions::size::measure;
 use presentation::Presentation;
-use presentation::size::measure;
-ghost use Rattle.definitions.specs.Text.{Bytes};
-ghost use Rattle.definitions.specs.Answers.{Accept, Build};
-ghost use Rattle.chieftables.specs.Accepted.{Sound};
+ghost use lib.ListN.{length};
+ghost use Rattle.definitions.specs.Answers.{Build};
+ghost use Rattle.chieftables.specs.Tabled.{SomeSound, SomeRoom, Tabled, Sized};
 
-// Builds the table of an accepted presentation if the words are as many as a build wants.
-fn build_accepted(p: Presentation, words: &mut [u32]) -> Counted
-    requires { ⌜ ((t : Bytes) × Sound t p) ⌝ }
-    ensures { λ r. ⌜ ((t : Bytes) → Accept t 0 → Sound t p → Build t (now (words .entry)) (r .answer) (r .count) (now (words .exit))) ⌝ }
+// Writes the table of a sound presentation of order m into words that are enough for it. Returns how many lines it has.
+fn write_levels(p: Presentation, m: u32, words: &mut [u32]) -> usize
+    requires { ⌜ SomeRoom p m (length (now words)) ⌝ }
+    ensures { λ r. ⌜ Tabled p m (now (words .entry)) r (now (words .exit)) ⌝ }
 {
     let n = p.n;
     let primes = p.primes;
     let rows = presentation::words_of(p);
+    levels::build_levels(words, &rows, &primes, n as u32, m)
+}
+
+// Builds the table of a sound presentation if the words are as many as a build wants.
+fn build_sound(p: Presentation, words: &mut [u32]) -> Counted
+    requires { ⌜ SomeSound p ⌝ }
+    ensures { λ r. ⌜ Sized p (now (words .entry)) (r .answer) (r .count) (now (words .exit)) ⌝ }
+{
+    let n = p.n;
+    let primes = p.primes;
     let s = measure(&primes, n);
     let need = s.words;
     if words.len() < need {
@@ -27,7 +38,7 @@ fn build_accepted(p: Presentation, words: &mut [u32]) -> Counted
             count: 0,
         };
     }
-    let count = levels::build_levels(words, &rows, &primes, n as u32, s.order);
+    let count = write_levels(p, s.order, words);
     Counted { answer: 0, count }
 }
 
@@ -44,7 +55,7 @@ pub fn build(text: &[u8], words: &mut [u32]) -> Counted
         };
     }
     let p = o.presentation;
-    build_accepted(p, words)
+    build_sound(p, words)
 }
 
 // The same, for C and Rust.

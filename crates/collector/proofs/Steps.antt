@@ -1,6 +1,6 @@
 -- The steps of product and conjugation: what each call and each turn of a loop adds to what is known.
 --
---   small-below, ready-below, reads-below      what holds of m generators holds of fewer
+--   remaining-period                           the turns that are left
 --   Turning, turning-start, turning-more       conjugates, turn after turn
 --   turned-done, turned-fixed                  when no turn is left; where conjugation fixes the form
 --   turned-same, product-same, product-left    rows that agree; a trivial left factor
@@ -11,70 +11,43 @@
 --   power-single                               powers of a form of one generator
 --   conjugate-up, conjugate-none               exponents that stay; where all stay
 --   image-low, image-high                      the conjugate of a generator: no carry; a carry
+--   scaled-zero, scaled-more                   a power times a form: exponent 0; the general case
 --   conjugate-moves, lower-small               the general step; the lower part, with exponent 0 on top
 use mathlib.Core.Path.{_≡_, refl, sym, _∙_, ap, ap₂, subst}
 use mathlib.Core.Bool.{true}
 use mathlib.Core.List.{List, []}
 use Prim.Native.Nat.{ℕ, zero, suc, _+_, _*_, _%_, _-_, _≤_, _<_}
-use native.Mathlib.Nat.{mul-zero, zero-mod, mod-lt, mod-eq-of-lt, mod-eq-sub-mod, add-mod-mod}
+use native.Mathlib.Nat.{mod-le, mul-zero, zero-mod, mod-lt, mod-eq-of-lt, mod-eq-sub-mod, add-mod-mod}
 use native.Mathlib.Numerals.{add-one}
 use native.Mathlib.Omega.{arith}
 use native.Mathlib.Decide.{decLt, ℕ-discrete}
 use lib.Dec.{eqb}
 use lib.ListN.{length, getD, set, replicate}
-use lib.Seq.{getD-set-same, getD-set-other}
 use borrow.Author.Tests.{eqb-true}
 use Rattle.definitions.specs.Lists.{iter}
-use Rattle.definitions.specs.Presentation.{toNF, trivial, Valid, power, pairNumber}
+use Rattle.definitions.specs.Presentation.{maxGenerators, toNF, trivial, Valid, power, pairNumber}
 use Rattle.definitions.specs.Consistency.{mul, conj, forms, sameForm}
-use Rattle.numbers.proofs.Bools.{or-cases, OneOf, first, second, cond-eq, cond-ne}
-use Rattle.numbers.proofs.Lists.{below-suc, iter-zero, iter-suc, iter-add, iter-fix}
+use Rattle.numbers.proofs.Bools.{or-cases, OneOf, first, second}
+use Rattle.numbers.proofs.Lists.{below-suc, iter-zero, iter-suc, iter-add, iter-fix, iter-period}
 use Rattle.group.specs.Context.{Context}
 use Rattle.group.proofs.Values.{power-zero, power-suc}
 use Rattle.group.proofs.Clauses.{mulStep-below, mulStep-over, mul-suc, conj-suc, sameForm-eq}
 use Rattle.group.proofs.Units.{mul-trivial-left, mul-trivial-right, mul-top-below, mul-top-over, conj-empty, conj-zero}
 use Rattle.group.proofs.Level.{trivial-valid}
-use Rattle.group.proofs.Rows.{toNF-suc, toNF-ext, toNF-set-top, toNF-trivial, toNF-valid}
-use Rattle.collector.specs.Rows.{Small, Ready, Reads, Generator, Single, Top, Stacked, Kept, keeps, Moved, Product, Image, Conjugate, Remaining, Power, Turned}
-use Rattle.collector.proofs.Laws.{zeros}
-use Rattle.collector.proofs.Skips.{climb, kept-then, kept-stacked, stored-kept, single-row}
+use Rattle.group.proofs.Rows.{toNF-suc, toNF-ext, toNF-set-top, toNF-trivial}
+use Rattle.rows.specs.Rows.{Small, Ready, Reads, Single, Top, Stacked, Kept}
+use Rattle.rows.proofs.Laws.{zeros, small-below, ready-below, reads-below, small-valid, small-set, small-zeros}
+use Rattle.rows.proofs.Parts.{climb, kept-then, kept-stacked, stored-kept, single-row}
+use Rattle.commuting.specs.Commuting.{keeps, Moved}
+use Rattle.collector.specs.Products.{Product, Image, Conjugate, Remaining, Power, Scaled, Turned}
 
--- ---- Fewer generators
+-- ---- Turns of a map
 
-pub small-below : (m n : ℕ) (ps x : List ℕ) → m ≤ n → Small n ps x → Small m ps x
-small-below m n ps x l s = record { below = λ k h. s .below k (omega arith) }
-
-pub ready-below : (m n : ℕ) (ps : List ℕ) (ws : List (List ℕ)) → m ≤ n → Ready n ps ws → Ready m ps ws
-ready-below m n ps ws l r = record {
-  few = omega (arith, r .few);
-  two = λ k h. r .two k (omega arith);
-  bounded = λ k h. r .bounded k (omega arith);
-  word = λ j i a h. small-below m n ps _ l (r .word j i a (omega arith));
+pub remaining-period : (k : ℕ) (x c : List ℕ) (n left : ℕ) → 0 < n → sameForm k (toNF k x) (toNF k c) ≡ true → Remaining k x c n left (left % n)
+remaining-period k x c n left l s = record {
+  less = mod-le left n;
+  leads = λ f h. iter-period f n (toNF k c) (ap (iter f n) (sym (sameForm-eq k (toNF k x) (toNF k c) s)) ∙ h) left;
 }
-
-pub reads-below : (C : Context) (m n : ℕ) (ps : List ℕ) (ws : List (List ℕ)) → m ≤ n → Reads C n ps ws → Reads C m ps ws
-reads-below C m n ps ws l r = record { p-is = λ k h. r .p-is k (omega arith); u-is = λ j h. r .u-is j (omega arith); w-is = λ k j a h. r .w-is k j a (omega arith) }
-
-pub small-valid : (C : Context) (m i : ℕ) (ps : List ℕ) (ws : List (List ℕ)) (x : List ℕ) → Reads C m ps ws → i ≤ m → Small i ps x → Valid (C .P) i (toNF i x)
-small-valid C m i ps ws x r l s = toNF-valid (C .P) i x (λ k h. subst (λ p. getD x k 0 < p) (r .p-is k (omega arith)) (s .below k h))
-
--- a store on top of a row that is small below
-pub small-set : (k : ℕ) (ps z : List ℕ) (a : ℕ) → k < length z → Small k ps z → a < getD ps k 0 → Small (suc k) ps (set z k a)
-small-set k ps z a l s h = record {
-  below = below-suc k (λ m. getD (set z k a) m 0 < getD ps m 0)
-      (λ m b. subst (λ t. t < getD ps m 0) (sym (getD-set-other z k m a 0 (omega arith))) (s .below m b))
-      (subst (λ t. t < getD ps k 0) (sym (getD-set-same z k a 0 l)) h);
-}
-
-pub small-zeros : (m : ℕ) (ps : List ℕ) (ws : List (List ℕ)) → Ready m ps ws → Small m ps (replicate 12 0)
-small-zeros m ps ws r = record { below = λ k l. subst (λ t. t < getD ps k 0) (sym (zeros k)) (omega (arith, r .two k l)) }
-
-pub small-generator : (k m : ℕ) (ps : List ℕ) (ws : List (List ℕ)) (g : List ℕ) → Ready m ps ws → Generator k g → Small m ps g
-small-generator k m ps ws g r h = record { below = λ i l. go i l (ℕ-discrete i k) }
-  where
-    go : (i : ℕ) → i < m → Dec (i ≡ k) → getD g i 0 < getD ps i 0
-    go i l (yes q) = subst (λ t. t < getD ps i 0) (sym (h .at i ∙ cond-eq i k 1 0 q)) (r .two i l)
-    go i l (no q) = subst (λ t. t < getD ps i 0) (sym (h .at i ∙ cond-ne i k 1 0 q)) (omega (arith, r .two i l))
 
 -- ---- Product
 
@@ -82,7 +55,7 @@ small-generator k m ps ws g r h = record { below = λ i l. go i l (ℕ-discrete 
 pub record Turning (k b : ℕ) (ps : List ℕ) (ws : List (List ℕ)) (x c : List ℕ) (n left : ℕ) : Type 0 where
   pub small : Small k ps c
   pub total : n + left ≤ b
-  pub is : (C : Context) → Reads C (suc k) ps ws
+  pub is : (C : Context) → Reads (C .P) (suc k) ps ws
       → (iter (conj (C .P) k k) n (toNF k x) ≡ toNF k c) × (iter (conj (C .P) k k) left (toNF k c) ≡ iter (conj (C .P) k k) b (toNF k x))
 
 module _ (k b : ℕ) (ps : List ℕ) (ws : List (List ℕ)) (x : List ℕ) where
@@ -93,11 +66,11 @@ module _ (k b : ℕ) (ps : List ℕ) (ws : List (List ℕ)) (x : List ℕ) where
       → Turning k b ps ws x d (n + 1) r
   turning-more c d n left r l t q m = record { small = q .small; total = omega (arith, t .total, m .less); is = λ C R. (done C R, m .leads (conj (C .P) k k) (done C R) ∙ more C R) }
     where
-      done : (C : Context) → Reads C (suc k) ps ws → iter (conj (C .P) k k) (n + 1) (toNF k x) ≡ toNF k d
+      done : (C : Context) → Reads (C .P) (suc k) ps ws → iter (conj (C .P) k k) (n + 1) (toNF k x) ≡ toNF k d
       done C R = sym (iter-add (conj (C .P) k k) n 1 (toNF k x)) ∙ iter-suc (conj (C .P) k k) 0 _ ∙ iter-zero (conj (C .P) k k) _
           ∙ ap (conj (C .P) k k) (t .is C R .0) ∙ sym (q .is C R)
 
-      more : (C : Context) → Reads C (suc k) ps ws → iter (conj (C .P) k k) (left - 1) (toNF k d) ≡ iter (conj (C .P) k k) b (toNF k x)
+      more : (C : Context) → Reads (C .P) (suc k) ps ws → iter (conj (C .P) k k) (left - 1) (toNF k d) ≡ iter (conj (C .P) k k) b (toNF k x)
       more C R = let e : suc (left - 1) ≡ left = omega arith in
           ap (iter (conj (C .P) k k) (left - 1)) (q .is C R) ∙ sym (iter-suc (conj (C .P) k k) (left - 1) (toNF k c)) ∙ ap (λ m. iter (conj (C .P) k k) m (toNF k c)) e ∙ t .is C R .1
 
@@ -126,7 +99,7 @@ product-same k ps ws x y z r e t = record { small = small-same k ps z r e (t .sm
 pub product-left : (i : ℕ) (ps : List ℕ) (ws : List (List ℕ)) (x y : List ℕ) → Top i x 0 → Small i ps y → Product i ps ws x y y
 product-left i ps ws x y t s = record {
   small = s;
-  is = λ C R. sym (ap (λ m. mul (C .P) i m (toNF i y)) (toNF-trivial i x (λ k l. t .rest k (omega arith) l)) ∙ mul-trivial-left C i (toNF i y) (small-valid C i i ps ws y R (omega arith) s));
+  is = λ C R. sym (ap (λ m. mul (C .P) i m (toNF i y)) (toNF-trivial i x (λ k l. t .rest k (omega arith) l)) ∙ mul-trivial-left C i (toNF i y) (small-valid (C .P) i i ps ws y R (omega arith) s));
 }
 
 -- the form of a row of two
@@ -139,13 +112,13 @@ stacked-small k ps low high s r t q l = record {
 }
 
 module _ (k b : ℕ) (ps : List ℕ) (ws : List (List ℕ)) (x y c z : List ℕ) (e : b ≡ getD y k 0) (t : Turned k b ps ws x c) (q : Product k ps ws c y z) where
-  rest-is : (C : Context) → Reads C (suc k) ps ws → toNF k z ≡ mul (C .P) k (iter (conj (C .P) k k) (getD y k 0) (toNF k x)) (toNF k y)
-  rest-is C R = q .is C (reads-below C k (suc k) ps ws (omega arith) R) ∙ ap (λ s. mul (C .P) k s (toNF k y)) (t .is C R ∙ ap (λ m. iter (conj (C .P) k k) m (toNF k x)) e)
+  rest-is : (C : Context) → Reads (C .P) (suc k) ps ws → toNF k z ≡ mul (C .P) k (iter (conj (C .P) k k) (getD y k 0) (toNF k x)) (toNF k y)
+  rest-is C R = q .is C (reads-below (C .P) k (suc k) ps ws (omega arith) R) ∙ ap (λ s. mul (C .P) k s (toNF k y)) (t .is C R ∙ ap (λ m. iter (conj (C .P) k k) m (toNF k x)) e)
 
   pub product-low : (r : List ℕ) → Stacked k z x (getD x k 0 + b) r → getD x k 0 + b < getD ps k 0 → Product (suc k) ps ws x y r
   product-low r st h = record { small = stacked-small k ps z x _ r st (q .small) h; is = equal }
     where
-      equal : (C : Context) → Reads C (suc k) ps ws → toNF (suc k) r ≡ mul (C .P) (suc k) (toNF (suc k) x) (toNF (suc k) y)
+      equal : (C : Context) → Reads (C .P) (suc k) ps ws → toNF (suc k) r ≡ mul (C .P) (suc k) (toNF (suc k) x) (toNF (suc k) y)
       equal C R =
           let w : getD x k 0 + getD y k 0 < C .P .p k = omega (arith, R .p-is k (omega arith)) in
           stacked-is k z x _ r st ∙ ap₂ (λ s t. (s, t)) (ap (λ s. getD x k 0 + s) e) (rest-is C R)
@@ -156,11 +129,11 @@ module _ (k b : ℕ) (ps : List ℕ) (ws : List (List ℕ)) (x y c z : List ℕ)
       → getD x k 0 + b - getD ps k 0 < getD ps k 0 → Product (suc k) ps ws x y r
   product-high u v r ue qv st h s = record { small = stacked-small k ps v x _ r st (qv .small) s; is = equal }
     where
-      equal : (C : Context) → Reads C (suc k) ps ws → toNF (suc k) r ≡ mul (C .P) (suc k) (toNF (suc k) x) (toNF (suc k) y)
+      equal : (C : Context) → Reads (C .P) (suc k) ps ws → toNF (suc k) r ≡ mul (C .P) (suc k) (toNF (suc k) x) (toNF (suc k) y)
       equal C R =
           let w : C .P .p k ≤ getD x k 0 + getD y k 0 = omega (arith, R .p-is k (omega arith)) in
           let a : getD x k 0 + b - getD ps k 0 ≡ getD x k 0 + getD y k 0 - C .P .p k = omega (arith, R .p-is k (omega arith)) in
-          stacked-is k v x _ r st ∙ ap₂ (λ s t. (s, t)) a (qv .is C (reads-below C k (suc k) ps ws (omega arith) R)
+          stacked-is k v x _ r st ∙ ap₂ (λ s t. (s, t)) a (qv .is C (reads-below (C .P) k (suc k) ps ws (omega arith) R)
           ∙ ap₂ (mul (C .P) k) (ap (toNF k) ue ∙ R .u-is k (omega arith)) (rest-is C R))
           ∙ sym (mulStep-over (C .P .p k) (mul (C .P) k) (conj (C .P) k k) (C .P .u k) (getD x k 0, toNF k x) (getD y k 0, toNF k y) w)
           ∙ sym (mul-suc (C .P) k _ _) ∙ ap₂ (mul (C .P) (suc k)) (sym (toNF-suc k x)) (sym (toNF-suc k y))
@@ -173,7 +146,7 @@ module _ (ps : List ℕ) (ws : List (List ℕ)) (x y r : List ℕ) where
     is = λ C R.
         let w : getD x i 0 + 0 < C .P .p i = omega (arith, R .p-is i (omega arith)) in
         let z : getD x i 0 + 0 ≡ getD x i 0 = omega arith in
-        toNF-suc i r ∙ ap₂ (λ s t. (s, t)) (re ∙ sym z) (q .is C (reads-below C i (suc i) ps ws (omega arith) R)
+        toNF-suc i r ∙ ap₂ (λ s t. (s, t)) (re ∙ sym z) (q .is C (reads-below (C .P) i (suc i) ps ws (omega arith) R)
         ∙ ap (λ s. mul (C .P) i s (toNF i y)) (sym (iter-zero (conj (C .P) i i) (toNF i x))))
         ∙ sym (mulStep-below (C .P .p i) (mul (C .P) i) (conj (C .P) i i) (C .P .u i) (getD x i 0, toNF i x) (0, toNF i y) w)
         ∙ sym (mul-suc (C .P) i _ _) ∙ ap₂ (mul (C .P) (suc i)) (sym (toNF-suc i x)) (sym (toNF-suc i y ∙ ap (λ s. (s, toNF i y)) ye));
@@ -243,8 +216,8 @@ module _ (i m : ℕ) (ps : List ℕ) (ws : List (List ℕ)) (x y x₁ x₂ : Lis
 -- ---- Powers
 
 module _ (k : ℕ) (ps : List ℕ) (ws : List (List ℕ)) (h : List ℕ) where
-  pub powering-start : Ready k ps ws → Power k ps ws h (replicate 12 0) 0
-  powering-start r = record { small = small-zeros k ps ws r; is = λ C R. toNF-trivial k (replicate 12 0) (λ m l. zeros m) ∙ sym (power-zero (forms (C .P) k) (toNF k h)) }
+  pub powering-start : Ready k ps ws → Power k ps ws h (replicate maxGenerators 0) 0
+  powering-start r = record { small = small-zeros k ps ws r; is = λ C R. toNF-trivial k (replicate maxGenerators 0) (λ m l. zeros m) ∙ sym (power-zero (forms (C .P) k) (toNF k h)) }
 
   pub powering-more : (r s : List ℕ) (n : ℕ) → Power k ps ws h r n → Product k ps ws h r s → Power k ps ws h s (n + 1)
   powering-more r s n t q = record {
@@ -256,7 +229,7 @@ module _ (k : ℕ) (ps : List ℕ) (ws : List (List ℕ)) (h : List ℕ) where
   power-once s = record {
     small = s;
     is = λ C R. sym (power-suc (forms (C .P) k) (toNF k h) 0 ∙ ap (mul (C .P) k (toNF k h)) (power-zero (forms (C .P) k) (toNF k h))
-        ∙ mul-trivial-right C k (toNF k h) (small-valid C k k ps ws h R (omega arith) s));
+        ∙ mul-trivial-right C k (toNF k h) (small-valid (C .P) k k ps ws h R (omega arith) s));
   }
 
 -- exponents of one generator add below the prime, where its power word is empty
@@ -265,7 +238,7 @@ module _ (k : ℕ) (ps : List ℕ) (ws : List (List ℕ)) (x y s : List ℕ) (no
   trivial-of : (r : List ℕ) → Top k r 0 → toNF (suc k) r ≡ (getD r k 0, trivial k)
   trivial-of r t = toNF-suc k r ∙ ap (λ m. (getD r k 0, m)) (toNF-trivial k r (λ m l. t .rest m (omega arith) l))
 
-  single-is : (a : ℕ) → a < getD ps k 0 → getD s k 0 ≡ a → ((C : Context) → Reads C (suc k) ps ws → (a, trivial k) ≡ mul (C .P) (suc k) (getD x k 0, trivial k) (getD y k 0, trivial k)) → Product (suc k) ps ws x y s
+  single-is : (a : ℕ) → a < getD ps k 0 → getD s k 0 ≡ a → ((C : Context) → Reads (C .P) (suc k) ps ws → (a, trivial k) ≡ mul (C .P) (suc k) (getD x k 0, trivial k) (getD y k 0, trivial k)) → Product (suc k) ps ws x y s
   single-is a l q h = record {
     small = record {
       below = below-suc k (λ m. getD s m 0 < getD ps m 0) (λ m b. subst (λ v. v < getD ps m 0) (sym (ns .rest m (omega arith) b)) (pos m b)) (subst (λ v. v < getD ps k 0) (sym q) l);
@@ -314,7 +287,7 @@ module _ (i m : ℕ) (ps : List ℕ) (ws : List (List ℕ)) (x : List ℕ) (read
       level = omega (arith, alone .0)
 
       r′ : List ℕ
-      r′ = set (replicate 12 0) (m - 1) (part n)
+      r′ = set (replicate maxGenerators 0) (m - 1) (part n)
 
       single′ : Single (m - 1) (part n) r′
       single′ = single-row (m - 1) (part n) (omega (arith, few, ready .few))
@@ -349,12 +322,12 @@ module _ (j : ℕ) (ps : List ℕ) (ws : List (List ℕ)) (x r : List ℕ) where
       word : List ℕ
       word = getD ws (pairNumber j l) []
 
-      equal : (C : Context) → Reads C (suc j) ps ws → OneOf (eqb (getD x l 0) 0) (sameForm (suc l) (toNF (suc l) word) (trivial (suc l)))
+      equal : (C : Context) → Reads (C .P) (suc j) ps ws → OneOf (eqb (getD x l 0) 0) (sameForm (suc l) (toNF (suc l) word) (trivial (suc l)))
           → toNF (suc l) r ≡ conj (C .P) (suc l) j (toNF (suc l) x)
       equal C R d = toNF-suc l r ∙ ap₂ (λ s t. (s, t)) re (q .is C R) ∙ sym (go d) ∙ ap (conj (C .P) (suc l) j) (sym (toNF-suc l x))
         where
           valid : Valid (C .P) (suc l) (getD x l 0, toNF l x)
-          valid = subst (Valid (C .P) (suc l)) (toNF-suc l x) (small-valid C (suc j) (suc l) ps ws x R (omega arith) sx)
+          valid = subst (Valid (C .P) (suc l)) (toNF-suc l x) (small-valid (C .P) (suc j) (suc l) ps ws x R (omega arith) sx)
 
           go : OneOf (eqb (getD x l 0) 0) (sameForm (suc l) (toNF (suc l) word) (trivial (suc l))) → conj (C .P) (suc l) j (getD x l 0, toNF l x) ≡ (getD x l 0, conj (C .P) l j (toNF l x))
           go (first a) = let e = eqb-true (getD x l 0) 0 a in subst (λ t. conj (C .P) (suc l) j (t, toNF l x) ≡ (t, conj (C .P) l j (toNF l x))) (sym e) (conj-zero C l j (toNF l x) (valid .1))
@@ -374,11 +347,11 @@ module _ (j l : ℕ) (ps : List ℕ) (ws : List (List ℕ)) (w : List ℕ) (lj :
   pub commutator-small : Small (suc l) ps w
   commutator-small = subst (Small (suc l) ps) (sym we) (small-below (suc l) (suc j) ps _ (omega arith) (ready .word j l (omega arith) (omega arith)))
 
-  word-is : (C : Context) → Reads C (suc j) ps ws → C .P .w l j ≡ (getD w l 0, toNF l w)
+  word-is : (C : Context) → Reads (C .P) (suc j) ps ws → C .P .w l j ≡ (getD w l 0, toNF l w)
   word-is C R = sym (ap (toNF (suc l)) we ∙ R .w-is l j lj (omega arith)) ∙ toNF-suc l w
 
-  word-valid : (C : Context) → Reads C (suc j) ps ws → Valid (C .P) l (toNF l w)
-  word-valid C R = small-valid C (suc j) l ps ws w R (omega arith) (small-below l (suc l) ps w (omega arith) commutator-small)
+  word-valid : (C : Context) → Reads (C .P) (suc j) ps ws → Valid (C .P) l (toNF l w)
+  word-valid C R = small-valid (C .P) (suc j) l ps ws w R (omega arith) (small-below l (suc l) ps w (omega arith) commutator-small)
 
   pub image-low : l < length w → getD w l 0 + 1 < getD ps l 0 → Image j l ps ws (set w l (getD w l 0 + 1))
   image-low long h = record {
@@ -395,7 +368,7 @@ module _ (j l : ℕ) (ps : List ℕ) (ws : List (List ℕ)) (w : List ℕ) (lj :
     is = λ C R.
         let p : C .P .p l ≤ 1 + getD w l 0 = omega (arith, R .p-is l (omega arith)) in
         let z : 0 ≡ 1 + getD w l 0 - C .P .p l = omega (arith, R .p-is l (omega arith), commutator-small .below l (omega arith)) in
-        toNF-set-top l v 0 long ∙ ap₂ (λ s t. (s, t)) z (q .is C (reads-below C l (suc j) ps ws (omega arith) R) ∙ ap (λ t. mul (C .P) l t (toNF l w)) (ap (toNF l) ue ∙ R .u-is l (omega arith)))
+        toNF-set-top l v 0 long ∙ ap₂ (λ s t. (s, t)) z (q .is C (reads-below (C .P) l (suc j) ps ws (omega arith) R) ∙ ap (λ t. mul (C .P) l t (toNF l w)) (ap (toNF l) ue ∙ R .u-is l (omega arith)))
         ∙ sym (mul-top-over C l 1 (getD w l 0) (toNF l w) (word-valid C R) p) ∙ ap (mul (C .P) (suc l) (1, trivial l)) (sym (word-is C R));
   }
 
@@ -407,9 +380,9 @@ module _ (l j : ℕ) (ps : List ℕ) (ws : List (List ℕ)) (x z : List ℕ) (lj
     is = equal;
   }
     where
-      equal : (C : Context) → Reads C (suc j) ps ws → toNF (suc l) t ≡ conj (C .P) (suc l) j (toNF (suc l) x)
+      equal : (C : Context) → Reads (C .P) (suc j) ps ws → toNF (suc l) t ≡ conj (C .P) (suc l) j (toNF (suc l) x)
       equal C R =
-          let R′ = reads-below C (suc l) (suc j) ps ws (omega arith) R in
+          let R′ = reads-below (C .P) (suc l) (suc j) ps ws (omega arith) R in
           stacked-is l s x _ t st ∙ sym (toNF-suc l s) ∙ qs .is C R′ ∙ ap₂ (mul (C .P) (suc l))
           (qr .is C R′ ∙ ap (λ m. power (forms (C .P) (suc l)) m (getD x l 0)) (qh .is C R))
           (toNF-set-top l z 0 long ∙ ap (λ m. (0, m)) (q .is C R))
@@ -431,3 +404,16 @@ module _ (k j m : ℕ) (ps : List ℕ) (ws : List (List ℕ)) (x z : List ℕ) (
 
   pub lower-small-at : Ready m ps ws → Small m ps (set z (m - 1) 0)
   lower-small-at r = subst (λ n. Small n ps (set z (m - 1) 0)) level (lower-small (m - 1) j ps ws x z (omega (arith, over .less)) (omega arith) q (ready-below (suc (m - 1)) m ps ws (omega arith) r))
+
+-- ---- A power times a form
+
+module _ (i : ℕ) (ps : List ℕ) (ws : List (List ℕ)) where
+  pub scaled-zero : (x v : List ℕ) (e : ℕ) → e ≡ 0 → Small i ps v → Scaled i ps ws x e v v
+  scaled-zero x v e q s = record {
+    small = s;
+    is = λ C R. sym (ap (λ m. mul (C .P) i (power (forms (C .P) i) (toNF i x) m) (toNF i v)) q ∙ ap (λ m. mul (C .P) i m (toNF i v)) (power-zero (forms (C .P) i) (toNF i x))
+        ∙ mul-trivial-left C i (toNF i v) (small-valid (C .P) i i ps ws v R (omega arith) s));
+  }
+
+  pub scaled-more : (x q v r : List ℕ) (e : ℕ) → Power i ps ws x q e → Product i ps ws q v r → Scaled i ps ws x e v r
+  scaled-more x q v r e a b = record { small = b .small; is = λ C R. b .is C R ∙ ap (λ m. mul (C .P) i m (toNF i v)) (a .is C R) }

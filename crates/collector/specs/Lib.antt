@@ -1,3 +1,2 @@
--- What the contracts of product, conjugation and the consistency test say.
-pub mod Rows
-pub mod Answers
+-- What the contracts of product and conjugation say.
+pub mod Products

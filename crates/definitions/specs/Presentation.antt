@@ -2,7 +2,7 @@
 -- ("Presentation text" and "Ceilings" in the specification). Generators are numbered from 0: generator k here is
 -- the g(k+1) of a text, and level i has the generators below i.
 --
---   maxGenerators, maxOrder    the ceilings
+--   maxGenerators, maxOrder    the ceilings; pairCount, the pairs of so many generators; maxModulus, of the exponents
 --   lineWords                  words of a table line
 --   NF i, toNF i row           normal forms of level i; the one that a row of exponents says
 --   Presentation               primes, power words, commutator words
@@ -25,11 +25,19 @@ use Rattle.definitions.specs.Text.{Bytes, largest, decimal, render, smal
 
 -- ---- Ceilings
 
-unfoldable pub maxGenerators : ℕ
+abbrev pub maxGenerators : ℕ
 maxGenerators = 12
 
-unfoldable pub maxOrder : ℕ
+abbrev pub maxOrder : ℕ
 maxOrder = 4096
+
+-- the pairs (j, i) of so many generators, i at most j
+abbrev pub pairCount : ℕ
+pairCount = 78
+
+-- exponents are modulo the order, so no modulus is above its ceiling
+abbrev pub maxModulus : ℕ
+maxModulus = maxOrder
 
 unfoldable pub lineWords : ℕ
 lineWords = 8

@@ -14,9 +14,10 @@ ghost use Rattle.text.specs.Writing.{Wrote};
 ghost use Rattle.lines.specs.Lines.{Below};
 ghost use Rattle.survey.specs.Below.{firstOf, degOf, targetOf, sourceIn, Stands, Rows, Array, Leading, Fixing, Lines};
 ghost use Rattle.extend.specs.Extending.{conjugatedIn, referenceOf, Ready, Extends, matrixWords, extensionsWords};
-use collector::rows;
 use definitions::Entry;
 use lines::Head;
+use rows::Row;
+use rows::Words;
 use survey::Frame;
 
 // Generator g of representation r on an entry.
@@ -54,7 +55,7 @@ pub fn scaled_times(low: &[u32], first: &[u32], f: Frame, r: u32, c: u32, k: u32
 }
 
 // Column 0 of representation r moved by the word w on the generators below the one on top.
-pub fn walked(low: &[u32], first: &[u32], w: &[u32; 12], f: Frame, r: u32) -> Entry
+pub fn walked(low: &[u32], first: &[u32], w: &Row, f: Frame, r: u32) -> Entry
     requires { ⌜ Stands f (now low) × Lines f (now low) (now first) × (r < f .reps) ⌝ }
     ensures { λ y. ⌜ (y ≡ walk (f .m) (sourceIn f (now (low .entry)) [] .matrix r) (f .top) (toNF (f .top) (now (w .entry))) (entry 0 0)) × Below (f .m) (degOf f (now (low .entry)) r) y ⌝ }
 {
@@ -66,7 +67,7 @@ pub fn walked(low: &[u32], first: &[u32], w: &[u32; 12], f: Frame, r: u32) -> En
 
 // Column 0 of representation r moved by j⁻¹ g j in extension 0, g the generator on top: by the word w of the two, the
 // part of the one on top scaled by c, and once more by that one.
-pub fn conjugated(low: &[u32], first: &[u32], w: &[u32; 12], f: Frame, r: u32, c: u32) -> Entry
+pub fn conjugated(low: &[u32], first: &[u32], w: &Row, f: Frame, r: u32, c: u32) -> Entry
     requires { ⌜ Stands f (now low) × Lines f (now low) (now first) × (r < f .reps) × (c < f .m) × (getD (now w) (f .top) 0 < f .p) ⌝ }
     ensures { λ y. ⌜ (y ≡ conjugatedIn f (now (low .entry)) (now (w .entry)) r c) × Below (f .m) (degOf f (now (low .entry)) r) y ⌝ }
 {
@@ -98,7 +99,7 @@ pub fn root(shifts: &[u32], f: Frame, r: u32) -> u32
 pub fn landing(
     low: &[u32],
     first: &[u32],
-    rows: &[[u32; 12]; 78],
+    rows: &Words,
     shifts: &[u32],
     f: Frame,
     j: u32,
@@ -152,7 +153,7 @@ pub fn factor(f: Frame, o: Origin, g: u32, k: u32) -> u32
 
 // The reference of generator g in extension k.
 pub fn reference(
-    rows: &[[u32; 12]; 78],
+    rows: &Words,
     to: &[u32],
     by: &[u32],
     f: Frame,
@@ -177,7 +178,7 @@ pub fn reference(
 // Appends generator g of extension k of r, numbered rep, behind the level below. Returns the next line's number.
 pub fn append_matrix(
     words: &mut [u32],
-    rows: &[[u32; 12]; 78],
+    rows: &Words,
     to: &[u32],
     by: &[u32],
     f: Frame,
@@ -208,7 +209,7 @@ pub fn append_matrix(
 // The same for a representation of degree 1.
 pub fn append_single(
     words: &mut [u32],
-    rows: &[[u32; 12]; 78],
+    rows: &Words,
     to: &[u32],
     by: &[u32],
     f: Frame,
@@ -238,7 +239,7 @@ pub fn append_single(
 // Appends the generators of extension k of r, numbered rep.
 pub fn append_matrices(
     words: &mut [u32],
-    rows: &[[u32; 12]; 78],
+    rows: &Words,
     to: &[u32],
     by: &[u32],
     f: Frame,
@@ -262,7 +263,7 @@ pub fn append_matrices(
 // The same for a representation of degree 1.
 pub fn append_singles(
     words: &mut [u32],
-    rows: &[[u32; 12]; 78],
+    rows: &Words,
     to: &[u32],
     by: &[u32],
     f: Frame,
@@ -286,7 +287,7 @@ pub fn append_singles(
 // Appends extension k of r, numbered rep.
 pub fn append_extension(
     words: &mut [u32],
-    rows: &[[u32; 12]; 78],
+    rows: &Words,
     to: &[u32],
     by: &[u32],
     f: Frame,
@@ -310,7 +311,7 @@ pub fn append_extension(
 pub fn find_targets(
     low: &[u32],
     first: &[u32],
-    rows: &[[u32; 12]; 78],
+    rows: &Words,
     numbers: &[u32],
     shifts: &[u32],
     to: &mut [u32],
@@ -335,7 +336,7 @@ pub fn find_targets(
 // Appends the extensions of r, numbered from rep.
 pub fn append_each(
     words: &mut [u32],
-    rows: &[[u32; 12]; 78],
+    rows: &Words,
     to: &[u32],
     by: &[u32],
     f: Frame,
@@ -359,7 +360,7 @@ pub fn append_each(
 pub fn append_extensions(
     words: &mut [u32],
     first: &[u32],
-    rows: &[[u32; 12]; 78],
+    rows: &Words,
     numbers: &[u32],
     shifts: &[u32],
     f: Frame,

@@ -4,12 +4,12 @@ ghost use Prim.Native.Nat.{_+_, _*_, _≤_, _<_};
 ghost use lib.ListN.{length};
 ghost use Rattle.text.specs.Writing.{Wrote};
 ghost use Rattle.first.specs.Roots.{Exponents, rootRef, rootExp, rootWords, firstWords};
-use collector::rows;
 use definitions::Entry;
 use lines::Head;
+use rows::Words;
 
 // Where the intertwiner of generator g leads power k; 0 for the generator of the level.
-pub fn reference(rows: &[[u32; 12]; 78], n: u32, p: u32, k: u32, g: u32) -> u32
+pub fn reference(rows: &Words, n: u32, p: u32, k: u32, g: u32) -> u32
     requires { ⌜ (n ≤ 12) × (g < n) × (p ≤ 4096) × (k < p) × Exponents n p (now rows) ⌝ }
     ensures { λ x. ⌜ x ≡ rootRef p (now (rows .entry)) k g ⌝ }
 {
@@ -34,7 +34,7 @@ pub fn exponent(p: u32, m: u32, k: u32, g: u32) -> u32
 // Appends power k of the root: a line for each generator. Returns the next line's number.
 pub fn append_root(
     words: &mut [u32],
-    rows: &[[u32; 12]; 78],
+    rows: &Words,
     n: u32,
     p: u32,
     m: u32,
@@ -61,7 +61,7 @@ pub fn append_root(
 }
 
 // Writes level 1 of n generators, the lowest of prime p, with exponents modulo m. Returns the next line's number.
-pub fn first_level(words: &mut [u32], rows: &[[u32; 12]; 78], n: u32, p: u32, m: u32) -> usize
+pub fn first_level(words: &mut [u32], rows: &Words, n: u32, p: u32, m: u32) -> usize
     requires { ⌜ (n ≤ 12) × (p ≤ 4096) × (m ≤ 16384) × Exponents n p (now rows) × (8 * (p * n) ≤ length (now words)) ⌝ }
     ensures { λ x. ⌜ Wrote (now (words .entry)) 0 (firstWords n p m (now (rows .entry))) (now (words .exit)) (8 * x) ⌝ }
 {

@@ -3,6 +3,7 @@
 --   prime-small      a prime has at most nine digits
 --   prime-two        every prime is above 1, also beyond n
 --   exponent-below   every exponent of every row is below its prime
+--   exponent-unused  and is 0 where the word may not use the generator
 --   context          the context of relations that refusals 11, 12 and 14 let pass
 --   accept           (test P ≡ true) ↔ Consistent P, for P the presentation of such relations
 --   decision         its consistency is decided
@@ -32,6 +33,24 @@ use Rattle.group.proofs.Accept.{accepts, decide, tested}
 -- the row of a pair that has none
 abbrev none : Row
 none = record { p = 2; word = [] }
+
+module _ (R : Relations) (used : misused R ≡ false) where
+  -- what 14 asks of exponent m of the row of a pair of generators below n
+  exponent-well : (j i m : ℕ) → j < R .n → i < suc j → m < R .n
+      → (ltb (getD (rowOf R j i .word) m 0) (presentation R .p m) && (allowed j i m || eqb (getD (rowOf R j i .word) m 0) 0)) ≡ true
+  unfolding misused rowWell
+  exponent-well j i m a b l =
+      let row = allBelow-elim (suc j) (λ i. rowWell R j i) (allBelow-elim (R .n) (λ j. allBelow (suc j) (λ i. rowWell R j i)) (not-false _ used) j a) i b in
+      allBelow-elim (R .n) (λ k. fits k) (and-right (eqb i j || eqb (rowOf R j i .p) 0) (allBelow (R .n) (λ k. fits k)) row) m l
+    where
+      fits : ℕ → Bool
+      fits k = ltb (getD (rowOf R j i .word) k 0) (presentation R .p k) && (allowed j i k || eqb (getD (rowOf R j i .word) k 0) 0)
+
+  pub exponent-unused : (j i m : ℕ) → i ≤ j → j < R .n → m < R .n → allowed j i m ≡ false → getD (rowOf R j i .word) m 0 ≡ 0
+  exponent-unused j i m a b l h =
+      let e = getD (rowOf R j i .word) m 0 in
+      let well = and-right (ltb e (presentation R .p m)) (allowed j i m || eqb e 0) (exponent-well j i m b (omega arith) l) in
+      eqb-true e 0 (sym (ap (λ t. t || eqb e 0) h) ∙ well)
 
 module _ (R : Relations) (formed : wellFormed R ≡ true) where
   abbrev wide : Row → Bool
@@ -78,15 +97,9 @@ module _ (R : Relations) (formed : wellFormed R ≡ true) where
     module _ (used : misused R ≡ false) where
       -- exponent m of the row of a pair of generators below n
       pair-below : (j i m : ℕ) → j < R .n → i < suc j → m < R .n → getD (rowOf R j i .word) m 0 < presentation R .p m
-      unfolding misused rowWell
       pair-below j i m a b l =
           let e = getD (rowOf R j i .word) m 0 in
-          let row = allBelow-elim (suc j) (λ i. rowWell R j i) (allBelow-elim (R .n) (λ j. allBelow (suc j) (λ i. rowWell R j i)) (not-false _ used) j a) i b in
-          let exponents = and-right (eqb i j || eqb (rowOf R j i .p) 0) (allBelow (R .n) (λ k. fits j i k)) row in
-          ltb-true e (presentation R .p m) (and-left (ltb e (presentation R .p m)) (allowed j i m || eqb e 0) (allBelow-elim (R .n) (λ k. fits j i k) exponents m l))
-        where
-          fits : ℕ → ℕ → ℕ → Bool
-          fits j i k = ltb (getD (rowOf R j i .word) k 0) (presentation R .p k) && (allowed j i k || eqb (getD (rowOf R j i .word) k 0) 0)
+          ltb-true e (presentation R .p m) (and-left (ltb e (presentation R .p m)) (allowed j i m || eqb e 0) (exponent-well R used j i m a b l))
 
       row-below : (r m : ℕ) → getD (getD (R .rows) r none .word) m 0 < presentation R .p m
       unfolding rowOf

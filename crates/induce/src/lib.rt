@@ -15,9 +15,10 @@ ghost use Rattle.induce.specs.Inducing.{OrbitArray, Inducing, BlockScala
 ghost use Rattle.survey.specs.Below.{positionIn, leaderIn, Array};
 ghost use Rattle.text.specs.Writing.{Wrote};
 ghost use Rattle.definitions.specs.Table.{repWords};
-use collector::rows;
 use definitions::Entry;
 use lines::Head;
+use rows::Row;
+use rows::Words;
 use survey::Frame;
 
 // An entry in a block of an orbit.
@@ -86,7 +87,7 @@ pub fn conjugate(
     low: &[u32],
     first: &[u32],
     orbit: &[u32],
-    w: &[u32; 12],
+    w: &Row,
     f: Frame,
     c: u32,
     r: u32,
@@ -157,7 +158,7 @@ pub struct Scaled {
 pub fn next_scalar(
     low: &[u32],
     first: &[u32],
-    rows: &[[u32; 12]; 78],
+    rows: &Words,
     leaders: &[u32],
     places: &[u32],
     shifts: &[u32],
@@ -186,7 +187,7 @@ pub fn next_scalar(
 pub fn scalar_behind(
     low: &[u32],
     first: &[u32],
-    rows: &[[u32; 12]; 78],
+    rows: &Words,
     leaders: &[u32],
     places: &[u32],
     shifts: &[u32],
@@ -210,7 +211,7 @@ pub fn scalar_behind(
 pub fn scalars(
     low: &[u32],
     first: &[u32],
-    rows: &[[u32; 12]; 78],
+    rows: &Words,
     leaders: &[u32],
     places: &[u32],
     shifts: &[u32],
@@ -434,7 +435,7 @@ pub fn append_generator(
 pub fn find_scalars(
     low: &[u32],
     first: &[u32],
-    rows: &[[u32; 12]; 78],
+    rows: &Words,
     leaders: &[u32],
     places: &[u32],
     shifts: &[u32],
@@ -477,7 +478,7 @@ pub fn induced_target(
 pub fn append_one(
     words: &mut [u32],
     first: &[u32],
-    rows: &[[u32; 12]; 78],
+    rows: &Words,
     leaders: &[u32],
     places: &[u32],
     numbers: &[u32],
@@ -515,7 +516,7 @@ pub fn append_one(
 pub fn append_induction(
     words: &mut [u32],
     first: &[u32],
-    rows: &[[u32; 12]; 78],
+    rows: &Words,
     leaders: &[u32],
     places: &[u32],
     numbers: &[u32],

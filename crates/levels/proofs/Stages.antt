@@ -48,21 +48,21 @@ module _ (A : Accepted) (rows : List (List ℕ)) (primes : List ℕ) (n m have :
 
   pub first-asks : (p : ℕ) → p ≡ getD primes 0 0 → (n ≤ 12) × (p ≤ 4096) × (m ≤ 16384) × Exponents n p rows × (8 * (p * n) ≤ have)
   first-asks p e =
-      let q : p ≡ A .C .P .p 0 = e ∙ G .primes-are 0 (A .positive) in
+      let q : p ≡ A .C .P .p 0 = e ∙ G .reads .p-is 0 (A .positive) in
       let N = G .n-is in (
         omega (arith, N, G .small .few),
         omega (arith, q, prime-le A 0 (A .positive), G .small .low),
         omega (arith, G .m-is, G .small .low),
-        subst (λ x. Exponents x p rows) (sym N) (subst (λ x. Exponents (A .C .P .n) x rows) (sym q) (exponents-below A rows (G .told 0 (A .positive)))),
-        omega (arith, ap₂ (λ x y. 8 * (x * y)) q N, one-room A rows (G .told 0 (A .positive)), G .room),
+        subst (λ x. Exponents x p rows) (sym N) (subst (λ x. Exponents (A .C .P .n) x rows) (sym q) (exponents-below A rows (G .reads))),
+        omega (arith, ap₂ (λ x y. 8 * (x * y)) q N, one-room A rows (G .reads), G .room),
       )
 
   pub stage-one : (p : ℕ) → p ≡ getD primes 0 0 → (w₀ w : List ℕ) (end : ℕ) → Wrote w₀ 0 (firstWords n p m rows) w (8 * end) → Stage A 1 0 p end w₀ w
   stage-one p e w₀ w end W =
-      let q : p ≡ A .C .P .p 0 = e ∙ G .primes-are 0 (A .positive) in
+      let q : p ≡ A .C .P .p 0 = e ∙ G .reads .p-is 0 (A .positive) in
       record {
-        wrote = wrote-as W ((λ o. firstWords (G .n-is o) (q o) (G .m-is o) rows) ∙ one-upTo A rows (G .told 0 (A .positive)));
-        base-is = λ l. one-placed A rows (G .told 0 (A .positive)) l .base-is;
+        wrote = wrote-as W ((λ o. firstWords (G .n-is o) (q o) (G .m-is o) rows) ∙ one-upTo A rows (G .reads));
+        base-is = λ l. one-placed A rows (G .reads) l .base-is;
         reps-is = q ∙ sym (one-reps A);
       }
 
@@ -82,7 +82,7 @@ module _ (A : Accepted) (rows : List (List ℕ)) (primes : List ℕ) (n m have :
       modulus-is = G .m-is;
       top-is = refl;
       gens-is = G .n-is;
-      prime-is = known ∙ G .primes-are i inside;
+      prime-is = known ∙ G .reads .p-is i inside;
       base-is = S .base-is inside;
       reps-is = S .reps-is;
       end-is = S .wrote .end ∙ zero-add _;
@@ -92,13 +92,13 @@ module _ (A : Accepted) (rows : List (List ℕ)) (primes : List ℕ) (n m have :
     pub stage-sound : Sound frame (take (8 * end) w) rows
     stage-sound = record {
       stands = stands A (G .small) i frame (take (8 * end) w) stage-placed;
-      words = rows-below A i frame (take (8 * end) w) rows stage-placed (G .told i inside);
-      cycles = visited A i frame (take (8 * end) w) rows stage-placed (G .told i inside);
+      words = rows-below A i frame (take (8 * end) w) rows stage-placed (G .reads);
+      cycles = visited A i frame (take (8 * end) w) rows stage-placed (G .reads);
       fixes = fixing A i frame (take (8 * end) w) stage-placed;
     }
 
     pub stage-room : have ≤ length w₀ → 8 * end + length (levelWords n (suc i) (levelBy (sourceIn frame (take (8 * end) w) rows))) ≤ length w
-    stage-room h = omega (arith, next-room A i frame (take (8 * end) w) rows stage-placed (G .told i inside), G .room, h, wrote-length (S .wrote))
+    stage-room h = omega (arith, next-room A i frame (take (8 * end) w) rows stage-placed (G .reads), G .room, h, wrote-length (S .wrote))
 
     pub stage-next : (w′ : List ℕ) (end′ reps′ : ℕ) → Wrote w (8 * end) (levelWords n (suc i) (levelBy (sourceIn frame (take (8 * end) w) rows))) w′ (8 * end′) → reps′ ≡ numberIn frame (take (8 * end) w) reps
         → Stage A (i + 1) end reps′ end′ w₀ w′
@@ -107,7 +107,7 @@ module _ (A : Accepted) (rows : List (List ℕ)) (primes : List ℕ) (n m have :
         let next : i + 1 - 1 ≡ i = omega arith in
         record {
           wrote = wrote-as (wrote-more (S .wrote) W)
-              (ap₂ (_++_) (sym (Q .words-are)) (ap (λ x. levelWords x (suc i) (levelBy (sourceIn frame (take (8 * end) w) rows))) (G .n-is)) ∙ next-upTo A i frame (take (8 * end) w) rows Q (G .told i inside) ∙ ap (upTo A) (sym (add-one i)));
+              (ap₂ (_++_) (sym (Q .words-are)) (ap (λ x. levelWords x (suc i) (levelBy (sourceIn frame (take (8 * end) w) rows))) (G .n-is)) ∙ next-upTo A i frame (take (8 * end) w) rows Q (G .reads) ∙ ap (upTo A) (sym (add-one i)));
           base-is = λ l. Q .end-is ∙ ap (λ x. length (upTo A x)) (sym next);
           reps-is = e ∙ next-reps A i frame (take (8 * end) w) Q ∙ ap (λ x. length (levels (A .C .P) (order (A .C .P) (A .C .P .n)) x)) (sym (add-one i));
         }

@@ -5,13 +5,15 @@ ghost use Rattle.text.specs.Writing.{Wrote};
 ghost use Rattle.clifford.specs.Accepted.{Accepted};
 ghost use Rattle.assembly.specs.Built.{upTo};
 ghost use Rattle.levels.specs.Given.{Given};
+use rows::Row;
+use rows::Words;
 use survey::Frame;
 
 // Writes the levels of a presentation from the first word on. Returns how many lines they are.
 pub fn build_levels(
     words: &mut [u32],
-    rows: &[[u32; 12]; 78],
-    primes: &[u32; 12],
+    rows: &Words,
+    primes: &Row,
     n: u32,
     m: u32,
 ) -> usize

@@ -5,29 +5,33 @@
 --   refused-form, not-prime, too-many, concluded     the answers 11, 12, 13, and what `Concluded` says
 --   primes-positive             a prime is not 0
 --   concluded-large, concluded-misused, concluded-well     how `Concluded` is reached
-use mathlib.Core.Path.{_≡_, refl, sym, ap, ap₂, subst, _∙_}
+use mathlib.Core.Path.{_≡_, refl, sym, ap, ap₂, subst, subst₂, _∙_}
 use mathlib.Core.Logic.{inl, inr}
 use mathlib.Core.Bool.{Bool, true, false, _&&_, _||_, not, cond, false≢true}
 use mathlib.Core.List.{List, [], _++_}
-use Prim.Native.Nat.{ℕ, zero, suc, _*_, _<_, _≤_}
+use Prim.Native.Nat.{ℕ, zero, suc, _<_, _≤_}
 use native.Mathlib.Omega.{arith}
 use lib.ListN.{length, getD, drop}
 use lib.Dec.{ltb, leb, eqb}
 use borrow.Author.Tests.{lt-ltb, le-ltb, leb-true, leb-false}
 use Rattle.definitions.specs.Lists.{all, allBelow}
 use Rattle.definitions.specs.Text.{Bytes, line, render}
-use Rattle.definitions.specs.Presentation.{Relations, Says, InForm, textOf, presentationNames, pairs, pairNumber, rowOf, presentation, order, isPrime, maxGenerators, maxOrder, someNotPrime, tooLarge, misused, rowWell}
+use Rattle.definitions.specs.Presentation.{maxGenerators, maxOrder, pairCount, Relations, Says, InForm, textOf, presentationNames, pairs, pairNumber, rowOf, presentation, order, isPrime, someNotPrime, tooLarge, misused, rowWell}
 use Rattle.definitions.specs.Answers.{says}
 use Rattle.definitions.proofs.Rendering.{rowFormed, wellFormed-formed, formed-wellFormed, line-unique, presentationNames-fields, presentationNames-injective, says-unique}
 use Rattle.numbers.proofs.Lists.{allBelow-intro, allBelow-fails}
 use Rattle.group.proofs.Pairs.{length-pairs, pairNumber-below}
+use Rattle.group.proofs.Rows.{toNF-ext}
+use Rattle.group.proofs.Context.{exponent-unused}
+use Rattle.rows.specs.Rows.{Reads}
+use Rattle.rows.proofs.Pairs.{pair-below}
 use Rattle.presentation.specs.declared.Outcome.{Outcome}
 use Rattle.presentation.specs.Lines.{NamesLine, NoNames}
 use Rattle.presentation.specs.Rows.{noRow, rowText, AllLines, NoLines}
-use Rattle.presentation.specs.Conditions.{product, entryWell, rowWells, pairWell, allWell, Primes}
-use Rattle.presentation.specs.Outcome.{Holds, ReadText, Concluded}
-use Rattle.presentation.proofs.Primes.{not-prime-small}
-use Rattle.presentation.proofs.Conditions.{product-order, number-within}
+use Rattle.conditions.specs.Conditions.{product, entryWell, rowWells, pairWell, allWell, Primes}
+use Rattle.presentation.specs.Outcome.{Held, ReadText, Concluded}
+use Rattle.conditions.proofs.Primes.{not-prime-small}
+use Rattle.conditions.proofs.Conditions.{product-order}
 
 -- ---- Texts that are not in the form
 
@@ -87,35 +91,35 @@ module _ {t : Bytes} {n next : ℕ} (nm : NamesLine t n next) {words : List (Lis
       let w : someNotPrime relationsOf ≡ true = ap not (allBelow-fails n (λ j. isPrime (getD (al .rows) (pairNumber j j) noRow .p)) (c .0) (c .1) (c .2)) in
       record { answered = inr (in-form, inl ((relationsOf, says-them, w), e)); held = λ z. absurd (omega arith) }
 
-  pub primes-positive : flag ≡ true → n ≤ 12 → (j : ℕ) → j < n → 0 < getD ps (pairNumber j j) 0
+  pub primes-positive : flag ≡ true → n ≤ maxGenerators → (j : ℕ) → j < n → 0 < getD ps (pairNumber j j) 0
   primes-positive q few j l =
       let r : getD ps (pairNumber j j) 0 ≡ getD (al .rows) (pairNumber j j) noRow .p =
-      al .stored .p-kept (pairNumber j j) (omega (arith, al .count, length-pairs n, pairNumber-below n j j (omega arith) l)) (number-within j j (omega arith) (omega arith)) in
+      al .stored .p-kept (pairNumber j j) (omega (arith, al .count, length-pairs n, pairNumber-below n j j (omega arith) l)) (pair-below j j (omega arith) (omega arith)) in
       pick (getD (al .rows) (pairNumber j j) noRow .p) (al .prime q j l) r
     where
       pick : (p : ℕ) → isPrime p ≡ true → getD ps (pairNumber j j) 0 ≡ p → 0 < getD ps (pairNumber j j) 0
       pick zero h r = absurd (false≢true (sym (not-prime-small 0 (omega arith)) ∙ h))
       pick (suc p) h r = omega arith
 
-  -- ---- More than twelve generators
+  -- ---- More generators than the ceiling
 
-  pub too-many : flag ≡ true → 12 < n → {o : Outcome} → o .status ≡ 13 → ReadText t o
-  unfolding tooLarge maxGenerators
+  pub too-many : flag ≡ true → maxGenerators < n → {o : Outcome} → o .status ≡ 13 → ReadText t o
+  unfolding tooLarge
   too-many q l e =
-      let w : tooLarge relationsOf ≡ true = ap (λ (b : Bool). b || ltb maxOrder (order (presentation relationsOf) n)) (lt-ltb 12 n l) in
+      let w : tooLarge relationsOf ≡ true = ap (λ (b : Bool). b || ltb maxOrder (order (presentation relationsOf) n)) (lt-ltb maxGenerators n l) in
       record {
         answered = inr (in-form, inr (unsaid someNotPrime says-them (all-prime q), inl ((relationsOf, says-them, w), e)));
         held = λ z. absurd (omega arith);
       }
 
-  -- ---- At most twelve
+  -- ---- At most as many
 
-  module _ (few : n ≤ 12) {primes : List ℕ} (are : Primes ps n primes) where
+  module _ (few : n ≤ maxGenerators) {primes : List ℕ} (are : Primes ps n primes) where
     row-within : (j i : ℕ) → j < n → i ≤ j → pairNumber j i < length (al .rows)
     row-within j i l m = omega (arith, al .count, length-pairs n, pairNumber-below n j i m l)
 
-    row-kept : (j i : ℕ) → j < n → i ≤ j → pairNumber j i < 78
-    row-kept j i l m = number-within j i (omega arith) m
+    row-kept : (j i : ℕ) → j < n → i ≤ j → pairNumber j i < pairCount
+    row-kept j i l m = pair-below j i m (omega arith)
 
     p-is : (j i : ℕ) → j < n → i ≤ j → getD ps (pairNumber j i) 0 ≡ rowOf relationsOf j i .p
     unfolding rowOf
@@ -124,7 +128,7 @@ module _ {t : Bytes} {n next : ℕ} (nm : NamesLine t n next) {words : List (Lis
     prime-is : (j : ℕ) → j < n → getD primes j 0 ≡ rowOf relationsOf j j .p
     prime-is j l = are .each j l ∙ p-is j j l (omega arith)
 
-    word-is : (j i : ℕ) → j < n → i ≤ j → (k : ℕ) → k < 12 → getD (getD words (pairNumber j i) []) k 0 ≡ getD (rowOf relationsOf j i .word) k 0
+    word-is : (j i : ℕ) → j < n → i ≤ j → (k : ℕ) → k < maxGenerators → getD (getD words (pairNumber j i) []) k 0 ≡ getD (rowOf relationsOf j i .word) k 0
     unfolding rowOf
     word-is j i l m k b = al .stored .word-kept (pairNumber j i) (row-within j i l m) (row-kept j i l m) k b
 
@@ -133,9 +137,9 @@ module _ {t : Bytes} {n next : ℕ} (nm : NamesLine t n next) {words : List (Lis
     order-is = sym (product-order (presentation relationsOf) primes n prime-is n (omega arith))
 
     too-large : tooLarge relationsOf ≡ ltb maxOrder (product primes n)
-    unfolding tooLarge maxGenerators
+    unfolding tooLarge
     too-large =
-        ap (λ (b : Bool). b || ltb maxOrder (order (presentation relationsOf) n)) (le-ltb 12 n few)
+        ap (λ (b : Bool). b || ltb maxOrder (order (presentation relationsOf) n)) (le-ltb maxGenerators n few)
         ∙ ap (ltb maxOrder) order-is
 
     pair-is : (j i : ℕ) → j < n → i ≤ j → pairWell words ps primes n j i ≡ rowWell relationsOf j i
@@ -148,17 +152,22 @@ module _ {t : Bytes} {n next : ℕ} (nm : NamesLine t n next) {words : List (Lis
     unfolding misused
     misused-is = ap not (sym (allBelow-ext n _ _ (λ j l. allBelow-ext (suc j) _ _ (λ i b. pair-is j i l (omega arith)))))
 
-    held-by : (o : Outcome) → (o .presentation .n ≡ n) × (o .presentation .primes ≡ primes) × (o .presentation .words ≡ words) → Holds relationsOf (o .presentation)
-    unfolding maxGenerators
-    held-by o k =
+    rows-read : misused relationsOf ≡ false → Reads (presentation relationsOf) n primes words
+    unfolding presentation
+    rows-read h =
         record {
-          count = k .0;
-          few = few;
-          prime-held = λ j l. ap (λ (xs : List ℕ). getD xs j 0) (k .1) ∙ prime-is j l;
-          word-held = λ j i l m c b. ap (λ (w : List (List ℕ)). getD (getD w (pairNumber j i) []) c 0) (k .2) ∙ word-is j i l m c b;
+          p-is = prime-is;
+          u-is = λ j l. toNF-ext j _ _ (λ k a. word-is j j l (omega arith) k (omega arith));
+          w-is = λ k j a l. toNF-ext (suc k) _ _ (λ c b. word-is j k l (omega arith) c (omega arith));
+          rest = λ j i k a b c e. word-is j i b a k (omega arith) ∙ exponent-unused relationsOf h j i k a b c e;
         }
 
-  pub concluded : flag ≡ true → n ≤ 12 → {o : Outcome} → Concluded n words ps o → ReadText t o
+    held-by : misused relationsOf ≡ false → (o : Outcome)
+        → (o .presentation .n ≡ n) × (o .presentation .primes ≡ primes) × (o .presentation .words ≡ words) → Held relationsOf (o .presentation)
+    held-by h o k =
+        record { count = k .0; few = few; reads = subst₂ (Reads (presentation relationsOf) n) (sym (k .1)) (sym (k .2)) (rows-read h) }
+
+  pub concluded : flag ≡ true → n ≤ maxGenerators → {o : Outcome} → Concluded n words ps o → ReadText t o
   concluded q few {o} h = pick (leb (product (h .primes) n) maxOrder) (allWell words ps (h .primes) n) refl refl (h .number)
     where
       not12 : ¬ says t (λ (R : Relations). someNotPrime R ≡ true)
@@ -181,9 +190,10 @@ module _ {t : Bytes} {n next : ℕ} (nm : NamesLine t n next) {words : List (Lis
             held = λ z. absurd (omega arith);
           }
       pick true true x y e =
+          let well : misused relationsOf ≡ false = misused-is few (h .are) ∙ ap not y in
           record {
-            answered = inr (in-form, inr (not12, inr (not13 x, inr (unsaid misused says-them (misused-is few (h .are) ∙ ap not y), e))));
-            held = λ z. (relationsOf, says-them, held-by few (h .are) o (h .kept z));
+            answered = inr (in-form, inr (not12, inr (not13 x, inr (unsaid misused says-them well, e))));
+            held = λ z. (relationsOf, says-them, held-by few (h .are) well o (h .kept z));
           }
 
 -- ---- Answers

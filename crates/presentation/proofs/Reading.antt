@@ -19,7 +19,7 @@ use lib.Dec.{eqb}
 use borrow.Author.Tests.{eqb-true, eqb-false, eq-eqb, ne-eqb}
 use Rattle.definitions.specs.Lists.{sum, all}
 use Rattle.definitions.specs.Text.{Bytes}
-use Rattle.definitions.specs.Presentation.{Row, pairs, pairNumber, isPrime}
+use Rattle.definitions.specs.Presentation.{maxGenerators, pairCount, Row, pairs, pairNumber, isPrime}
 use Rattle.definitions.proofs.Rendering.{rowFormed}
 use Rattle.numbers.proofs.Bools.{and-left, and-right}
 use Rattle.numbers.proofs.Lists.{all-getD}
@@ -35,35 +35,35 @@ use Rattle.presentation.proofs.Rows.{pairs-at, NoLine, line-some, rowTe
 
 module _ {words : List (List ℕ)} {ps : List ℕ} {k p : ℕ} {e : List ℕ} {words′ : List (List ℕ)} {ps′ : List ℕ} (h : Kept words ps k p e words′ ps′) where
   pub kept-words-length : length words′ ≡ length words
-  kept-words-length = pick (decLt k 78)
+  kept-words-length = pick (decLt k pairCount)
     where
-      pick : Dec (k < 78) → length words′ ≡ length words
+      pick : Dec (k < pairCount) → length words′ ≡ length words
       pick (yes l) = ap length (h .kept-word l) ∙ length-set words k e
       pick (no l) = ap length (h .past-word (omega arith))
 
   pub kept-ps-length : length ps′ ≡ length ps
-  kept-ps-length = pick (decLt k 78)
+  kept-ps-length = pick (decLt k pairCount)
     where
-      pick : Dec (k < 78) → length ps′ ≡ length ps
+      pick : Dec (k < pairCount) → length ps′ ≡ length ps
       pick (yes l) = ap length (h .kept-p l) ∙ length-set ps k p
       pick (no l) = ap length (h .past-p (omega arith))
 
   word-other : (m : ℕ) → m ≢ k → getD words′ m [] ≡ getD words m []
-  word-other m n = pick (decLt k 78)
+  word-other m n = pick (decLt k pairCount)
     where
-      pick : Dec (k < 78) → getD words′ m [] ≡ getD words m []
+      pick : Dec (k < pairCount) → getD words′ m [] ≡ getD words m []
       pick (yes l) = ap (λ (w : List (List ℕ)). getD w m []) (h .kept-word l) ∙ getD-set-other words k m e [] n
       pick (no l) = ap (λ (w : List (List ℕ)). getD w m []) (h .past-word (omega arith))
 
   p-other : (m : ℕ) → m ≢ k → getD ps′ m 0 ≡ getD ps m 0
-  p-other m n = pick (decLt k 78)
+  p-other m n = pick (decLt k pairCount)
     where
-      pick : Dec (k < 78) → getD ps′ m 0 ≡ getD ps m 0
+      pick : Dec (k < pairCount) → getD ps′ m 0 ≡ getD ps m 0
       pick (yes l) = ap (λ (w : List ℕ). getD w m 0) (h .kept-p l) ∙ getD-set-other ps k m p 0 n
       pick (no l) = ap (λ (w : List ℕ). getD w m 0) (h .past-p (omega arith))
 
-  pub stored-one : (rows : List Row) (row : Row) → length rows ≡ k → length words ≡ 78 → length ps ≡ 78 → p ≡ row .p
-      → ((c : ℕ) → c < 12 → getD e c 0 ≡ getD (row .word) c 0) → Stored rows words ps → Stored (rows ++ (row ∷ [])) words′ ps′
+  pub stored-one : (rows : List Row) (row : Row) → length rows ≡ k → length words ≡ pairCount → length ps ≡ pairCount → p ≡ row .p
+      → ((c : ℕ) → c < maxGenerators → getD e c 0 ≡ getD (row .word) c 0) → Stored rows words ps → Stored (rows ++ (row ∷ [])) words′ ps′
   stored-one rows row count a b same keeps s =
       record {
         word-kept = λ m l d c g. word m l d c g (ℕ-discrete m k);
@@ -73,7 +73,7 @@ module _ {words : List (List ℕ)} {ps : List ℕ} {k p : ℕ} {e : List ℕ} {w
       below : (m : ℕ) → m < length (rows ++ (row ∷ [])) → m ≢ k → m < length rows
       below m l n = omega (arith, length-append rows (row ∷ []))
 
-      word : (m : ℕ) → m < length (rows ++ (row ∷ [])) → m < 78 → (c : ℕ) → c < 12 → Dec (m ≡ k)
+      word : (m : ℕ) → m < length (rows ++ (row ∷ [])) → m < pairCount → (c : ℕ) → c < maxGenerators → Dec (m ≡ k)
           → getD (getD words′ m []) c 0 ≡ getD (getD (rows ++ (row ∷ [])) m noRow .word) c 0
       word m l d c g (yes q) =
           let u : getD words′ m [] ≡ e =
@@ -84,7 +84,7 @@ module _ {words : List (List ℕ)} {ps : List ℕ} {k p : ℕ} {e : List ℕ} {w
           ∙ s .word-kept m (below m l q) d c g
           ∙ ap (λ (r : Row). getD (r .word) c 0) (sym (getD-snoc-other rows row noRow m (λ w. q (w ∙ count))))
 
-      value : (m : ℕ) → m < length (rows ++ (row ∷ [])) → m < 78 → Dec (m ≡ k) → getD ps′ m 0 ≡ getD (rows ++ (row ∷ [])) m noRow .p
+      value : (m : ℕ) → m < length (rows ++ (row ∷ [])) → m < pairCount → Dec (m ≡ k) → getD ps′ m 0 ≡ getD (rows ++ (row ∷ [])) m noRow .p
       value m l d (yes q) =
           let u : getD ps′ m 0 ≡ p =
           ap (λ (w : List ℕ). getD w m 0) (h .kept-p (omega arith)) ∙ ap (λ (j : ℕ). getD (set ps k p) j 0) q ∙ getD-set-same ps k p 0 (omega arith) in
@@ -117,8 +117,8 @@ pub record Reading (t : Bytes) (start n at j i k : ℕ) (words : List (List ℕ)
   pub few : k ≤ sum n suc
   pub turns : k ≤ at
   pub within : at ≤ length t
-  pub words-length : length words ≡ 78
-  pub ps-length : length ps ≡ 78
+  pub words-length : length words ≡ pairCount
+  pub ps-length : length ps ≡ pairCount
   pub stored : Stored rows words ps
   pub prime : primes ≡ true → (g : ℕ) → g < n → pairNumber g g < k → isPrime (getD rows (pairNumber g g) noRow .p) ≡ true
   pub composite : primes ≡ false → (g : ℕ) × (g < n) × (pairNumber g g < k) × (isPrime (getD rows (pairNumber g g) noRow .p) ≡ false)
@@ -135,7 +135,7 @@ number-least j i l = pick (ℕ-discrete i j)
     pick (no q) = omega (arith, pairNumber-commutator j i (omega arith))
 
 module _ {t : Bytes} {start n : ℕ} where
-  pub reading-none : {words : List (List ℕ)} {ps : List ℕ} → start ≤ length t → length words ≡ 78 → length ps ≡ 78
+  pub reading-none : {words : List (List ℕ)} {ps : List ℕ} → start ≤ length t → length words ≡ pairCount → length ps ≡ pairCount
       → Reading t start n start 0 0 0 words ps true
   reading-none l a b =
       record {

@@ -15,6 +15,7 @@ use native.Mathlib.Omega.{arith}
 use lib.ListN.{length, getD, drop, set, replicate, length-append, length-set, getD-replicate, drop-of-length-le}
 use lib.Seq.{drop-cons, getD-at, getD-set-same, getD-set-other}
 use Rattle.definitions.specs.Text.{Bytes, small}
+use Rattle.definitions.specs.Presentation.{maxGenerators}
 use Rattle.text.specs.Reading.{Ends, ValueAt, NoValue, trail}
 use Rattle.text.proofs.Reading.{drop-front, drop-byte}
 use Rattle.text.proofs.Trail.{trail-nil, trail-cons, trail-one, trail-ahead, ends-byte, ends-trail, small-nil, small-one, small-at}
@@ -39,14 +40,14 @@ pub record Going (t : Bytes) (at n k next : ℕ) (kept : List ℕ) : Type 0 wher
   pub small-all : small word ≡ true
   pub text : drop at t ≡ trail word ++ drop next t
   pub ends : Ends (drop next t)
-  pub keeps : (m : ℕ) → m < 12 → getD kept m 0 ≡ getD word m 0
-  pub twelve : length kept ≡ 12
+  pub keeps : (m : ℕ) → m < maxGenerators → getD kept m 0 ≡ getD word m 0
+  pub long : length kept ≡ maxGenerators
   pub few : k ≤ n
   pub from : at ≤ next
   pub within : next ≤ length t
 
 module _ {t : Bytes} {at n : ℕ} where
-  pub going-none : at ≤ length t → Ends (drop at t) → Going t at n 0 at (replicate 12 0)
+  pub going-none : at ≤ length t → Ends (drop at t) → Going t at n 0 at (replicate maxGenerators 0)
   going-none l e =
       record {
         word = [];
@@ -54,8 +55,8 @@ module _ {t : Bytes} {at n : ℕ} where
         small-all = small-nil;
         text = ap (λ (xs : Bytes). xs ++ drop at t) (sym trail-nil);
         ends = e;
-        keeps = λ m h. getD-replicate 12 m 0 0 h;
-        twelve = refl;
+        keeps = λ m h. getD-replicate maxGenerators m 0 0 h;
+        long = refl;
         few = omega arith;
         from = omega arith;
         within = l;
@@ -63,9 +64,9 @@ module _ {t : Bytes} {at n : ℕ} where
 
   module _ {k next : ℕ} {kept : List ℕ} (h : Going t at n k next kept) where
     -- one more exponent, where what is kept agrees
-    more : {e behind : ℕ} (new : List ℕ) → k < n → ValueAt (32 ∷ []) t next e behind → length new ≡ 12
-        → ((m : ℕ) → m < 12 → getD new m 0 ≡ getD (h .word ++ (e ∷ [])) m 0) → Going t at n (k + 1) behind new
-    more {e} {behind} new l v twelve keeps =
+    more : {e behind : ℕ} (new : List ℕ) → k < n → ValueAt (32 ∷ []) t next e behind → length new ≡ maxGenerators
+        → ((m : ℕ) → m < maxGenerators → getD new m 0 ≡ getD (h .word ++ (e ∷ [])) m 0) → Going t at n (k + 1) behind new
+    more {e} {behind} new l v long keeps =
         record {
           word = h .word ++ (e ∷ []);
           count = length-append (h .word) (e ∷ []) ∙ ap (λ (j : ℕ). j + 1) (h .count);
@@ -73,26 +74,26 @@ module _ {t : Bytes} {at n : ℕ} where
           text = h .text ∙ ap (λ (xs : Bytes). trail (h .word) ++ xs) (v .text) ∙ sym (trail-one (h .word) e (drop behind t));
           ends = v .ends;
           keeps = keeps;
-          twelve = twelve;
+          long = long;
           few = omega arith;
           from = omega (arith, h .from, v .further);
           within = v .within;
         }
 
-    pub going-more : {e behind : ℕ} → k < n → k < 12 → ValueAt (32 ∷ []) t next e behind → Going t at n (k + 1) behind (set kept k e)
-    going-more {e} {behind} l s v = more (set kept k e) l v (length-set kept k e ∙ h .twelve) (λ m b. pick m b (ℕ-discrete m k))
+    pub going-more : {e behind : ℕ} → k < n → k < maxGenerators → ValueAt (32 ∷ []) t next e behind → Going t at n (k + 1) behind (set kept k e)
+    going-more {e} {behind} l s v = more (set kept k e) l v (length-set kept k e ∙ h .long) (λ m b. pick m b (ℕ-discrete m k))
       where
-        pick : (m : ℕ) → m < 12 → Dec (m ≡ k) → getD (set kept k e) m 0 ≡ getD (h .word ++ (e ∷ [])) m 0
+        pick : (m : ℕ) → m < maxGenerators → Dec (m ≡ k) → getD (set kept k e) m 0 ≡ getD (h .word ++ (e ∷ [])) m 0
         pick m b (yes q) =
             ap (λ (j : ℕ). getD (set kept k e) j 0) q
-            ∙ getD-set-same kept k e 0 (omega (arith, h .twelve))
+            ∙ getD-set-same kept k e 0 (omega (arith, h .long))
             ∙ sym (getD-snoc (h .word) e 0 m (h .count ∙ sym q))
         pick m b (no q) =
             getD-set-other kept k m e 0 q ∙ h .keeps m b ∙ sym (getD-snoc-other (h .word) e 0 m (λ w. q (w ∙ h .count)))
 
-    pub going-past : {e behind : ℕ} → k < n → 12 ≤ k → ValueAt (32 ∷ []) t next e behind → Going t at n (k + 1) behind kept
+    pub going-past : {e behind : ℕ} → k < n → maxGenerators ≤ k → ValueAt (32 ∷ []) t next e behind → Going t at n (k + 1) behind kept
     going-past {e} {behind} l s v =
-        more kept l v (h .twelve) (λ m b. h .keeps m b ∙ sym (getD-snoc-other (h .word) e 0 m (λ w. omega (arith, h .count))))
+        more kept l v (h .long) (λ m b. h .keeps m b ∙ sym (getD-snoc-other (h .word) e 0 m (λ w. omega (arith, h .count))))
 
     -- what a whole word would have to go on with
     ahead : (word : List ℕ) (r : Bytes) → length word ≡ n → drop at t ≡ trail word ++ 10 ∷ r → drop next t ≡ trail (drop k word) ++ 10 ∷ r

@@ -1,6 +1,4 @@
 -- What stands in a presentation text, and what the read presentation holds of it.
 pub mod Lines
 pub mod Rows
-pub mod Conditions
 pub mod Outcome
-pub mod Size

@@ -1,6 +1,5 @@
 -- What stands at the lines of a presentation text.
 --
---   rowWidth, rowCount             exponents of a row, and rows
 --   NamesLine, NoNames, NamesAt    the names line of n exponents
 --   headText, HeadLine, NoHead, HeadAt     j, i and p of a line
 --   WordLine, NoWord, WordAt       the exponents and the end of a line
@@ -10,19 +9,11 @@ use mathlib.Core.List.{List, [], _∷_, _++_}
 use Prim.Native.Nat.{ℕ, suc, _<_, _≤_}
 use lib.ListN.{length, getD, drop}
 use Rattle.definitions.specs.Text.{Bytes, largest, decimal, line, small}
-use Rattle.definitions.specs.Presentation.{presentationNames}
+use Rattle.definitions.specs.Presentation.{maxGenerators, presentationNames}
 use Rattle.text.specs.Reading.{Ends, trail}
 use Rattle.text.specs.declared.Read.{Read}
 use Rattle.text.specs.declared.Read.the-variants.{Value, Nothing}
 use Rattle.presentation.specs.declared.reader.Word.{Word}
-
--- ---- The size of the rows
-
-abbrev pub rowWidth : ℕ
-rowWidth = 12
-
-abbrev pub rowCount : ℕ
-rowCount = 78
 
 -- ---- The names line
 
@@ -68,7 +59,7 @@ module _ (t : Bytes) (at n : ℕ) where
     pub count : length word ≡ n
     pub small-all : small word ≡ true
     pub text : drop at t ≡ trail word ++ 10 ∷ drop next t
-    pub keeps : (k : ℕ) → k < rowWidth → getD kept k 0 ≡ getD word k 0
+    pub keeps : (k : ℕ) → k < maxGenerators → getD kept k 0 ≡ getD word k 0
     pub further : at < next
     pub within : next ≤ length t
 

@@ -13,10 +13,9 @@ use lib.ListN.{length, getD, set, drop}
 use lib.Dec.{eqb}
 use Rattle.definitions.specs.Lists.{all}
 use Rattle.definitions.specs.Text.{Bytes, valueLine}
-use Rattle.definitions.specs.Presentation.{Row, pairs, pairNumber, rowValues, isPrime}
+use Rattle.definitions.specs.Presentation.{maxGenerators, pairCount, Row, pairs, pairNumber, rowValues, isPrime}
 use Rattle.definitions.proofs.Rendering.{rowFormed}
 use Rattle.presentation.specs.declared.reader.Lines.{Lines}
-use Rattle.presentation.specs.Lines.{rowWidth, rowCount}
 
 abbrev pub noRow : Row
 noRow = record { p = 2; word = [] }
@@ -28,15 +27,15 @@ abbrev pub passes : ℕ → ℕ → ℕ → Bool
 passes j i p = not (eqb i j) || isPrime p
 
 pub record Kept (words : List (List ℕ)) (ps : List ℕ) (k p : ℕ) (e : List ℕ) (words′ : List (List ℕ)) (ps′ : List ℕ) : Type 0 where
-  pub kept-word : k < rowCount → words′ ≡ set words k e
-  pub kept-p : k < rowCount → ps′ ≡ set ps k p
-  pub past-word : rowCount ≤ k → words′ ≡ words
-  pub past-p : rowCount ≤ k → ps′ ≡ ps
+  pub kept-word : k < pairCount → words′ ≡ set words k e
+  pub kept-p : k < pairCount → ps′ ≡ set ps k p
+  pub past-word : pairCount ≤ k → words′ ≡ words
+  pub past-p : pairCount ≤ k → ps′ ≡ ps
 
 -- of each row the p and as many exponents as are kept
 pub record Stored (rows : List Row) (words : List (List ℕ)) (ps : List ℕ) : Type 0 where
-  pub word-kept : (m : ℕ) → m < length rows → m < rowCount → (c : ℕ) → c < rowWidth → getD (getD words m []) c 0 ≡ getD (getD rows m noRow .word) c 0
-  pub p-kept : (m : ℕ) → m < length rows → m < rowCount → getD ps m 0 ≡ getD rows m noRow .p
+  pub word-kept : (m : ℕ) → m < length rows → m < pairCount → (c : ℕ) → c < maxGenerators → getD (getD words m []) c 0 ≡ getD (getD rows m noRow .word) c 0
+  pub p-kept : (m : ℕ) → m < length rows → m < pairCount → getD ps m 0 ≡ getD rows m noRow .p
 
 module _ (t : Bytes) (start n : ℕ) where
   -- the lines from `start` on are those of rows in the form, and nothing stands behind them

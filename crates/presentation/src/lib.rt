@@ -1,40 +1,24 @@
 // The read presentation, and the reader of presentation text (refusals 11 to 14).
 //
-//   GENERATORS, PAIRS, ORDER     the ceilings
-//   Row, Words            a row of exponents, and the rows
-//   Presentation          n, the primes, and the words in rows of rows
+//   Presentation          n, the primes, and the words in rows
 //   make, words_of        the two functions that touch the rows as a field
 //   Outcome, refused      what reading leaves: a refusal, or 0 and the presentation
-//   conclude              refusals 13 and 14 on what was kept of at most twelve generators
+//   conclude              refusals 13 and 14 on what was kept of a text whose generators have room
 //   read                  the reader
-//   prime                 primality of a value
 //   reader                the lines of a text
-//   judge                 refusals 13 and 14
-//   size                  the order, and the words of a build
+use conditions::judge;
+use rows::GENERATORS;
+use rows::PAIRS;
+use rows::Row;
+use rows::Words;
 use text::Read;
 ghost use mathlib.Core.Path.{_≡_};
 ghost use Prim.Native.Nat.{ℕ, _<_, _≤_};
 ghost use lib.ListN.{getD};
-ghost use Rattle.definitions.specs.Presentation.{pairNumber};
-ghost use Rattle.presentation.specs.Lines.{rowWidth};
+ghost use Rattle.definitions.specs.Presentation.{maxGenerators, pairNumber};
 ghost use Rattle.presentation.specs.Outcome.{Concluded, ReadText};
 
-pub mod judge;
-pub mod prime;
 pub mod reader;
-pub mod size;
-
-// The ceilings on generators and on the order, and the number of pairs of so many generators.
-pub const GENERATORS: usize = 12;
-
-pub const PAIRS: usize = 78;
-
-pub const ORDER: u64 = 4096;
-
-// An exponent, or a prime, for each generator.
-pub type Row = [u32; GENERATORS];
-// A row for each pair of generators, picked by the pair's number.
-pub type Words = [[u32; GENERATORS]; PAIRS];
 
 // The read presentation.
 pub struct Presentation {
@@ -74,7 +58,7 @@ fn refused(status: u32) -> Outcome
 
 // Refusals 13 and 14 on what was kept of a text with n generators.
 fn conclude(n: usize, words: Words, ps: [u32; PAIRS]) -> Outcome
-    requires { ⌜ n ≤ rowWidth ⌝ }
+    requires { ⌜ n ≤ maxGenerators ⌝ }
     requires { ⌜ ((j : ℕ) → j < n → 0 < getD ps (pairNumber j j) 0) ⌝ }
     ensures { λ r. ⌜ Concluded n words ps r ⌝ }
 {

@@ -7,11 +7,11 @@
 //   keep           keeps a line
 //   still_prime    the primes so far, with one more
 //   read_lines     all lines of values
-use crate::GENERATORS;
-use crate::PAIRS;
-use crate::Row;
-use crate::Words;
-use crate::prime::is_prime;
+use conditions::prime::is_prime;
+use rows::GENERATORS;
+use rows::PAIRS;
+use rows::Row;
+use rows::Words;
 use text::Read;
 ghost use mathlib.Core.Path.{_≡_};
 ghost use mathlib.Core.Bool.{_&&_};
@@ -19,9 +19,9 @@ ghost use mathlib.Core.List.{[], _∷_};
 ghost use Prim.Native.Nat.{_+_, _<_, _≤_};
 ghost use lib.ListN.{length, drop};
 ghost use Rattle.definitions.specs.Text.{largest};
-ghost use Rattle.definitions.specs.Presentation.{pairNumber};
+ghost use Rattle.definitions.specs.Presentation.{pairCount, pairNumber};
 ghost use Rattle.text.specs.Reading.{Ends, ReadAt};
-ghost use Rattle.presentation.specs.Lines.{rowCount, NamesAt, HeadAt, WordAt};
+ghost use Rattle.presentation.specs.Lines.{NamesAt, HeadAt, WordAt};
 ghost use Rattle.presentation.specs.Rows.{passes, Kept, LinesAt};
 
 // The number in the exponent's name at a position.
@@ -187,7 +187,7 @@ pub fn read_lines(
     words: &mut Words,
     ps: &mut [u32; PAIRS],
 ) -> Lines
-    requires { ⌜ (start ≤ length (now text)) × (n ≤ largest) × (length (now words) ≡ rowCount) × (length (now ps) ≡ rowCount) ⌝ }
+    requires { ⌜ (start ≤ length (now text)) × (n ≤ largest) × (length (now words) ≡ pairCount) × (length (now ps) ≡ pairCount) ⌝ }
     ensures { λ r. ⌜ LinesAt (now (text .entry)) start n (now (words .exit)) (now (ps .exit)) r ⌝ }
 {
     let mut at = start;

@@ -4,7 +4,7 @@ use native.Mathlib.Omega.{arith}
 use denote.Ref.{now}
 use borrow.Author.Needs.{needs}
 use Rattle.definitions.specs.Answers.{Accept}
-use Rattle.chieftables.proofs.Built.{build-refused}
+use Rattle.chieftables.proofs.Built.{build-refused, build-sized}
 use Rattle.chieftables.proofs.build.build.Statement.{statement}
 use Rattle.chieftables.proofs.build.build.Tie as tie
 
@@ -14,11 +14,12 @@ accepted-requires c κs = search needs
 returns : tie.Need-returns
 returns c = build-refused (now (c .before .before .before .before .args .words)) (c .before .accepted .ensures) (omega arith)
 
-build-accepted-requires : tie.Need-build-accepted-requires
-build-accepted-requires c κs =
+build-sound-requires : tie.Need-build-sound-requires
+build-sound-requires c κs =
     let a = c .before .before .before .accepted in
     let none : a .result .status ≡ 0 = omega arith in
-    (now (c .before .before .before .before .before .before .args .text), a .ensures .sound none)
+    let s = a .ensures .sound none in
+    (s .0, s .2)
 
 same-length : tie.Need-same-length
 same-length c = search needs
@@ -28,8 +29,8 @@ returns-2 c =
     let z = c .before .before .before .before .before .before .before .before .before in
     let a = c .before .before .before .before .before .before .accepted in
     let none : a .result .status ≡ 0 = omega arith in
-    c .before .before .build-accepted .ensures (now (z .args .text)) (subst (Accept (now (z .args .text))) none (a .ensures .answered)) (a .ensures .sound none)
+    build-sized (subst (Accept (now (z .args .text))) none (a .ensures .answered)) (a .ensures .sound none) (c .before .before .build-sound .ensures)
 
 pub build-spec : {M : Type 1} → statement M
 build-spec =
-    tie.close (tie.spec accepted-requires returns build-accepted-requires same-length returns-2)
+    tie.close (tie.spec accepted-requires returns build-sound-requires same-length returns-2)

@@ -1,0 +1,66 @@
+-- `alone` meets its contract: both scans find no exponent.
+use mathlib.Core.Path.{subst}
+use mathlib.Core.Bool.{false≢true}
+use Prim.Native.Nat.{_-_}
+use native.Mathlib.Omega.{arith}
+use borrow.Author.Tests.{eqb-true}
+use Rattle.rows.specs.Rows.{Top}
+use borrow.Author.Needs.{needs}
+use Rattle.collector.proofs.alone.Statement.{statement}
+use Rattle.collector.proofs.alone.Tie as tie
+
+returns : tie.Need-returns
+returns c = record { is = λ e. absurd (false≢true e) }
+
+sub-top : tie.Need-sub-top
+sub-top c = search needs
+
+top-requires : tie.Need-top-requires
+top-requires c κs = search needs
+
+returns-2 : tie.Need-returns-2
+returns-2 c = record { is = λ e. absurd (false≢true e) }
+
+sub-word : tie.Need-sub-word
+sub-word c = search needs
+
+sub-word-2 : tie.Need-sub-word-2
+sub-word-2 c = search needs
+
+word-requires : tie.Need-word-requires
+word-requires c κs = search needs
+
+sub-top-2 : tie.Need-sub-top-2
+sub-top-2 c = search needs
+
+top-requires-2 : tie.Need-top-requires-2
+top-requires-2 c κs = search needs
+
+returns-3 : tie.Need-returns-3
+returns-3 c =
+    let z = c .before .before .before .before .before in
+    let m = z .args .m in
+    let u = c .before .word in
+    let t = c .before .before .before .top in
+    record {
+      is = λ e. (
+        omega (arith, c .before .before .before .before .if1 .left),
+        subst (Top (m - 1) (z .args .x)) (c .before .before .if2 .left) (t .ensures),
+        subst (λ w. Top (m - 1) w 0) (u .ensures) (subst (Top (m - 1) (u .result)) (eqb-true _ 0 e) (c .top2 .ensures)),
+      );
+    }
+
+pub alone-spec : {M : Type 1} → statement M
+alone-spec =
+    tie.close
+    (tie.spec
+    returns
+    sub-top
+    top-requires
+    returns-2
+    sub-word
+    sub-word-2
+    word-requires
+    sub-top-2
+    top-requires-2
+    returns-3)

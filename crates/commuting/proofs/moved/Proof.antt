@@ -1,0 +1,96 @@
+-- `moved` meets its contract: conjugation keeps the exponents from m up to k.
+use borrow.Author.Needs.{needs}
+use mathlib.Core.Path.{_≡_, sym, _∙_, subst}
+use mathlib.Core.Logic.{⊎-elim}
+use Prim.Native.Nat.{_≤_, _<_}
+use native.Mathlib.Omega.{arith}
+use lib.ListN.{getD}
+use borrow.Author.Tests.{not-false}
+use denote.Ref.{now}
+use Rattle.definitions.specs.Presentation.{maxGenerators}
+use Rattle.commuting.specs.Commuting.{Moved}
+use Rattle.commuting.proofs.Skips.{moved-reach, moved-all, moved-more}
+use Rattle.commuting.proofs.moved.Statement.{statement}
+use Rattle.commuting.proofs.moved.Tie as tie
+
+abbrev Inv-loop : tie.InvT-loop
+Inv-loop words reach k j x first m₀ m = (k ≤ j) × (j < maxGenerators) × (m ≤ k) × Moved words k j x m
+
+abbrev μ-loop : tie.MeasureT-loop
+μ-loop words reach k j x first m₀ m = m
+
+mul-first : tie.Need-mul-first Inv-loop μ-loop
+mul-first c = search needs
+
+element-copy-out-first : tie.Need-element-copy-out-first Inv-loop μ-loop
+element-copy-out-first c = search needs
+
+loop-holds : tie.Need-loop-holds Inv-loop μ-loop
+loop-holds c =
+    let z = c .before .before in
+    let ws = now (z .args .words) in
+    let k = z .args .k in
+    let j = z .args .j in
+    let x = z .args .t5 in (
+      search needs,
+      search needs,
+      ⊎-elim (λ w. omega arith) (λ w. omega arith) (c .if1 .came),
+      ⊎-elim (λ w. subst (Moved ws k j x) (sym (w .1)) (moved-reach ws j k (getD (now (z .args .reach)) j 0) x (search needs) (omega (arith, w .0 .taken)) (z .pre .2)))
+          (λ w. subst (Moved ws k j x) (sym (w .1)) (moved-all ws j k x)) (c .if1 .came),
+    )
+
+sub-stays : tie.Need-sub-stays Inv-loop μ-loop
+sub-stays c = search needs
+
+sub-stays-2 : tie.Need-sub-stays-2 Inv-loop μ-loop
+sub-stays-2 c = search needs
+
+mul-stays : tie.Need-mul-stays Inv-loop μ-loop
+mul-stays c = search needs
+
+array-read-stays : tie.Need-array-read-stays Inv-loop μ-loop
+array-read-stays c = search needs
+
+stays-requires : tie.Need-stays-requires Inv-loop μ-loop
+stays-requires c κs = search needs
+
+returns : tie.Need-returns Inv-loop μ-loop
+returns c = search needs
+
+sub-m : tie.Need-sub-m Inv-loop μ-loop
+sub-m c = search needs
+
+loop-less : tie.Need-loop-less Inv-loop μ-loop
+loop-less c = search needs
+
+loop-again : tie.Need-loop-again Inv-loop μ-loop
+loop-again c =
+    let z = c .before .before .before .before .before .before .before in
+    let l = c .before .before .before .before .loop in
+    (search needs, search needs, search needs, moved-more (now (z .args .words)) (z .args .j) (z .args .k) (z .args .t5) (l .m) (search needs) (sym (c .before .stays .ensures) ∙ not-false _ (c .if2 .left)) (l .inv .3))
+
+returns-2 : tie.Need-returns-2 Inv-loop μ-loop
+returns-2 c =
+    let z = c .before .before .before .before in
+    let e : c .before .loop .m ≡ 0 = omega arith in
+    subst (Moved (now (z .args .words)) (z .args .k) (z .args .j) (z .args .t5)) e (c .before .loop .inv .3)
+
+pub moved-spec : {M : Type 1} → statement M
+moved-spec =
+    tie.close
+    (tie.spec
+    Inv-loop
+    μ-loop
+    mul-first
+    element-copy-out-first
+    loop-holds
+    sub-stays
+    sub-stays-2
+    mul-stays
+    array-read-stays
+    stays-requires
+    returns
+    sub-m
+    loop-less
+    loop-again
+    returns-2)

@@ -1,0 +1,68 @@
+-- `reached` meets its contract: the words with the generators from m up to j are empty.
+use borrow.Author.Needs.{needs}
+use mathlib.Core.Path.{_≡_, sym, _∙_, subst}
+use Prim.Native.Nat.{_≤_, _<_}
+use native.Mathlib.Omega.{arith}
+use borrow.Author.Tests.{not-false}
+use denote.Ref.{now}
+use Rattle.definitions.specs.Presentation.{maxGenerators}
+use Rattle.commuting.specs.Commuting.{Reach}
+use Rattle.commuting.proofs.Skips.{reach-none, reach-more}
+use Rattle.commuting.proofs.reached.Statement.{statement}
+use Rattle.commuting.proofs.reached.Tie as tie
+
+abbrev Inv-loop : tie.InvT-loop
+Inv-loop words j m₀ m = (j < maxGenerators) × (m ≤ j) × Reach words j m
+
+abbrev μ-loop : tie.MeasureT-loop
+μ-loop words j m₀ m = m
+
+loop-holds : tie.Need-loop-holds Inv-loop μ-loop
+loop-holds c = (search needs, omega arith, reach-none (now (c .args .words)) (c .args .j))
+
+sub-word : tie.Need-sub-word Inv-loop μ-loop
+sub-word c = search needs
+
+word-requires : tie.Need-word-requires Inv-loop μ-loop
+word-requires c κs = search needs
+
+empty-requires : tie.Need-empty-requires Inv-loop μ-loop
+empty-requires c κs = search needs
+
+returns : tie.Need-returns Inv-loop μ-loop
+returns c = search needs
+
+sub-m : tie.Need-sub-m Inv-loop μ-loop
+sub-m c = search needs
+
+loop-less : tie.Need-loop-less Inv-loop μ-loop
+loop-less c = search needs
+
+loop-again : tie.Need-loop-again Inv-loop μ-loop
+loop-again c =
+    let z = c .before .before .before .before .before in
+    let l = c .before .before .before .before .loop in
+    let w = c .before .before .word in
+    (search needs, search needs, reach-more (now (z .args .words)) (z .args .j) (l .m) (w .result) (search needs) (w .ensures) (sym (c .before .empty .ensures) ∙ not-false _ (c .if1 .left)) (l .inv .2))
+
+returns-2 : tie.Need-returns-2 Inv-loop μ-loop
+returns-2 c =
+    let z = c .before .before in
+    let e : c .before .loop .m ≡ 0 = omega arith in
+    subst (Reach (now (z .args .words)) (z .args .j)) e (c .before .loop .inv .2)
+
+pub reached-spec : {M : Type 1} → statement M
+reached-spec =
+    tie.close
+    (tie.spec
+    Inv-loop
+    μ-loop
+    loop-holds
+    sub-word
+    word-requires
+    empty-requires
+    returns
+    sub-m
+    loop-less
+    loop-again
+    returns-2)

@@ -1,0 +1,64 @@
+-- `reaches` meets its contract: the table is right below j.
+use borrow.Author.Needs.{needs}
+use mathlib.Core.Path.{_≡_, subst}
+use Prim.Native.Nat.{_-_, _≤_}
+use lib.ListN.{length}
+use native.Mathlib.Omega.{arith}
+use denote.Ref.{now}
+use Rattle.definitions.specs.Presentation.{maxGenerators}
+use Rattle.commuting.specs.Commuting.{Quiet}
+use Rattle.commuting.proofs.Skips.{quiet-none, quiet-more}
+use Rattle.commuting.proofs.reaches.Statement.{statement}
+use Rattle.commuting.proofs.reaches.Tie as tie
+
+abbrev Inv-loop : tie.InvT-loop
+Inv-loop words n r₀ j₀ r j = (n ≤ maxGenerators) × (j ≤ n) × (length r ≡ maxGenerators) × Quiet j words r
+
+abbrev μ-loop : tie.MeasureT-loop
+μ-loop words n r₀ j₀ r j = n - j
+
+loop-holds : tie.Need-loop-holds Inv-loop μ-loop
+loop-holds c = (search needs, search needs, search needs, quiet-none _ _)
+
+reached-requires : tie.Need-reached-requires Inv-loop μ-loop
+reached-requires c κs = search needs
+
+mul-r : tie.Need-mul-r Inv-loop μ-loop
+mul-r c = search needs
+
+array-write-r : tie.Need-array-write-r Inv-loop μ-loop
+array-write-r c = search needs
+
+add-j : tie.Need-add-j Inv-loop μ-loop
+add-j c = search needs
+
+loop-less : tie.Need-loop-less Inv-loop μ-loop
+loop-less c = search needs
+
+loop-again : tie.Need-loop-again Inv-loop μ-loop
+loop-again c =
+    let z = c .before .before .before in
+    let l = c .before .before .loop in
+    (search needs, search needs, search needs, quiet-more (now (z .args .words)) (l .r) (l .j) (c .reached .result) (search needs) (l .inv .3) (c .reached .ensures))
+
+returns : tie.Need-returns Inv-loop μ-loop
+returns c =
+    let z = c .before .before in
+    let l = c .before .loop in
+    let e : l .j ≡ z .args .n = omega arith in
+    subst (λ j. Quiet j (now (z .args .words)) (l .r)) e (l .inv .3)
+
+pub reaches-spec : {M : Type 1} → statement M
+reaches-spec =
+    tie.close
+    (tie.spec
+    Inv-loop
+    μ-loop
+    loop-holds
+    reached-requires
+    mul-r
+    array-write-r
+    add-j
+    loop-less
+    loop-again
+    returns)

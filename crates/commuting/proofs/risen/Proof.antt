@@ -1,0 +1,88 @@
+-- `risen` meets its contract: generator c commutes with every generator below j.
+use borrow.Author.Needs.{needs}
+use mathlib.Core.Path.{_≡_, sym, _∙_, subst}
+use Prim.Native.Nat.{_-_, _≤_, _<_}
+use native.Mathlib.Omega.{arith}
+use borrow.Author.Tests.{not-false}
+use denote.Ref.{now}
+use Rattle.definitions.specs.Presentation.{maxGenerators}
+use Rattle.commuting.specs.Commuting.{Reach, Rise}
+use Rattle.commuting.proofs.Skips.{rise-none, rise-first, rise-more}
+use Rattle.commuting.proofs.risen.Statement.{statement}
+use Rattle.commuting.proofs.risen.Tie as tie
+
+abbrev Inv-loop : tie.InvT-loop
+Inv-loop words reach n c j₀ j = (n ≤ maxGenerators) × (c < j) × (j ≤ n) × Rise words c j
+
+abbrev μ-loop : tie.MeasureT-loop
+μ-loop words reach n c j₀ j = n - j
+
+mul-if1 : tie.Need-mul-if1 Inv-loop μ-loop
+mul-if1 c = search needs
+
+element-copy-out-if1 : tie.Need-element-copy-out-if1 Inv-loop μ-loop
+element-copy-out-if1 c = search needs
+
+returns : tie.Need-returns Inv-loop μ-loop
+returns c = rise-none (now (c .before .before .args .words)) (c .before .before .args .c)
+
+add-j : tie.Need-add-j Inv-loop μ-loop
+add-j c = search needs
+
+loop-holds : tie.Need-loop-holds Inv-loop μ-loop
+loop-holds c =
+    let z = c .before .before in
+    let ws = now (z .args .words) in
+    (search needs, search needs, search needs, rise-first ws (z .args .c) (subst (Reach ws (z .args .c)) (c .if1 .left) (z .pre .2)))
+
+word-requires : tie.Need-word-requires Inv-loop μ-loop
+word-requires c κs = search needs
+
+add-empty : tie.Need-add-empty Inv-loop μ-loop
+add-empty c = search needs
+
+empty-requires : tie.Need-empty-requires Inv-loop μ-loop
+empty-requires c κs = search needs
+
+returns-2 : tie.Need-returns-2 Inv-loop μ-loop
+returns-2 c = c .before .before .before .before .loop .inv .3
+
+add-j-2 : tie.Need-add-j-2 Inv-loop μ-loop
+add-j-2 c = search needs
+
+loop-less : tie.Need-loop-less Inv-loop μ-loop
+loop-less c = search needs
+
+loop-again : tie.Need-loop-again Inv-loop μ-loop
+loop-again c =
+    let z = c .before .before .before .before .before .before .before in
+    let l = c .before .before .before .before .loop in
+    let w = c .before .before .word in
+    (search needs, search needs, search needs, rise-more (now (z .args .words)) (z .args .c) (l .j) (w .result) (l .inv .1) (w .ensures) (sym (c .before .empty .ensures) ∙ not-false _ (c .if2 .left)) (l .inv .3))
+
+returns-3 : tie.Need-returns-3 Inv-loop μ-loop
+returns-3 c =
+    let z = c .before .before .before .before in
+    let l = c .before .loop in
+    let e : l .j ≡ z .args .n = omega arith in
+    subst (Rise (now (z .args .words)) (z .args .c)) e (l .inv .3)
+
+pub risen-spec : {M : Type 1} → statement M
+risen-spec =
+    tie.close
+    (tie.spec
+    Inv-loop
+    μ-loop
+    mul-if1
+    element-copy-out-if1
+    returns
+    add-j
+    loop-holds
+    word-requires
+    add-empty
+    empty-requires
+    returns-2
+    add-j-2
+    loop-less
+    loop-again
+    returns-3)

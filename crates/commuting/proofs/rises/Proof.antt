@@ -1,0 +1,66 @@
+-- `rises` meets its contract: the table is right below c.
+use borrow.Author.Needs.{needs}
+use mathlib.Core.Path.{_≡_, subst}
+use Prim.Native.Nat.{_-_, _≤_}
+use lib.ListN.{length}
+use native.Mathlib.Omega.{arith}
+use denote.Ref.{now}
+use Rattle.definitions.specs.Presentation.{maxGenerators}
+use Rattle.commuting.specs.Commuting.{Central}
+use Rattle.commuting.proofs.Skips.{central-none, central-more}
+use Rattle.commuting.proofs.rises.Statement.{statement}
+use Rattle.commuting.proofs.rises.Tie as tie
+
+abbrev Inv-loop : tie.InvT-loop
+Inv-loop words reach n r₀ c₀ r c = (n ≤ maxGenerators) × (c ≤ n) × (length r ≡ maxGenerators) × Central c words r
+
+abbrev μ-loop : tie.MeasureT-loop
+μ-loop words reach n r₀ c₀ r c = n - c
+
+loop-holds : tie.Need-loop-holds Inv-loop μ-loop
+loop-holds c = (search needs, search needs, search needs, central-none _ _)
+
+risen-requires : tie.Need-risen-requires Inv-loop μ-loop
+risen-requires c κs =
+    let z = c .before .before in
+    (search needs, search needs, z .pre .1 .at (c .before .loop .c) (search needs))
+
+mul-r : tie.Need-mul-r Inv-loop μ-loop
+mul-r c = search needs
+
+array-write-r : tie.Need-array-write-r Inv-loop μ-loop
+array-write-r c = search needs
+
+add-c : tie.Need-add-c Inv-loop μ-loop
+add-c c = search needs
+
+loop-less : tie.Need-loop-less Inv-loop μ-loop
+loop-less c = search needs
+
+loop-again : tie.Need-loop-again Inv-loop μ-loop
+loop-again c =
+    let z = c .before .before .before in
+    let l = c .before .before .loop in
+    (search needs, search needs, search needs, central-more (now (z .args .words)) (l .r) (l .c) (c .risen .result) (search needs) (l .inv .3) (c .risen .ensures))
+
+returns : tie.Need-returns Inv-loop μ-loop
+returns c =
+    let z = c .before .before in
+    let l = c .before .loop in
+    let e : l .c ≡ z .args .n = omega arith in
+    subst (λ m. Central m (now (z .args .words)) (l .r)) e (l .inv .3)
+
+pub rises-spec : {M : Type 1} → statement M
+rises-spec =
+    tie.close
+    (tie.spec
+    Inv-loop
+    μ-loop
+    loop-holds
+    risen-requires
+    mul-r
+    array-write-r
+    add-c
+    loop-less
+    loop-again
+    returns)

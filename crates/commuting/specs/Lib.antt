@@ -1,0 +1,2 @@
+-- Which generators commute.
+pub mod Commuting

@@ -1,0 +1,109 @@
+// Which generators commute, as the words of a presentation tell: what product and conjugation may pass over.
+//
+//   Reaches                      a number of generators, for each generator
+//   stays                        whether conjugation keeps an exponent
+//   reached, reaches             from where on a generator commutes with those below it
+//   risen, rises                 how far a generator commutes with every other
+//   moved                        the highest exponent of a row that a conjugation may change
+ghost use mathlib.Core.Path.{_≡_};
+ghost use Prim.Native.Nat.{_≤_, _<_};
+ghost use lib.ListN.{getD};
+ghost use Rattle.definitions.specs.Presentation.{maxGenerators};
+ghost use Rattle.commuting.specs.Commuting.{keeps, Moved, Reach, Quiet, Rise, Central};
+use rows::GENERATORS;
+use rows::Row;
+use rows::Words;
+use rows::empty;
+use rows::word;
+
+// For each generator, a number of generators.
+pub type Reaches = [usize; GENERATORS];
+
+// Conjugation by generator j keeps an exponent e of generator l where e is 0 or the word of the two generators is empty.
+pub fn stays(words: &Words, j: usize, l: usize, e: u32) -> bool
+    requires { ⌜ (l < j) × (j < maxGenerators) ⌝ }
+    ensures { λ r. ⌜ r ≡ keeps (now (words .entry)) j l e ⌝ }
+{
+    if e == 0 {
+        return true;
+    }
+    let w = word(words, j, l);
+    empty(l + 1, w)
+}
+
+// Generator j commutes with the generators from the answer up to j: their words with it are empty.
+pub fn reached(words: &Words, j: usize) -> usize
+    requires { ⌜ j < maxGenerators ⌝ }
+    ensures { λ r. ⌜ Reach (now (words .entry)) j r ⌝ }
+{
+    let mut m = j;
+    while m > 0 {
+        let w = word(words, j, m - 1);
+        if !empty(m, w) {
+            return m;
+        }
+        m -= 1;
+    }
+    0
+}
+
+// The same for the first n generators.
+pub fn reaches(words: &Words, n: usize) -> Reaches
+    requires { ⌜ n ≤ maxGenerators ⌝ }
+    ensures { λ r. ⌜ Quiet n (now (words .entry)) r ⌝ }
+{
+    let mut r = [0usize; GENERATORS];
+    for j in 0..n {
+        let m = reached(words, j);
+        r[j] = m;
+    }
+    r
+}
+
+// Generator c commutes with every generator below the answer.
+pub fn risen(words: &Words, reach: &Reaches, n: usize, c: usize) -> usize
+    requires { ⌜ (c < n) × (n ≤ maxGenerators) × Reach (now words) c (getD (now reach) c 0) ⌝ }
+    ensures { λ r. ⌜ Rise (now (words .entry)) c r ⌝ }
+{
+    if reach[c] != 0 {
+        return 0;
+    }
+    let mut j = c + 1;
+    while j < n {
+        let w = word(words, j, c);
+        if !empty(c + 1, w) {
+            return j;
+        }
+        j += 1;
+    }
+    n
+}
+
+// The same for each of the first n generators.
+pub fn rises(words: &Words, reach: &Reaches, n: usize) -> Reaches
+    requires { ⌜ (n ≤ maxGenerators) × Quiet n (now words) (now reach) ⌝ }
+    ensures { λ r. ⌜ Central n (now (words .entry)) r ⌝ }
+{
+    let mut r = [0usize; GENERATORS];
+    for c in 0..n {
+        let m = risen(words, reach, n, c);
+        r[c] = m;
+    }
+    r
+}
+
+// One more than the highest of the first k exponents of x that conjugation by generator j may change; 0 where it keeps all.
+pub fn moved(words: &Words, reach: &Reaches, k: usize, j: usize, x: Row) -> usize
+    requires { ⌜ (k ≤ j) × (j < maxGenerators) × Reach (now words) j (getD (now reach) j 0) ⌝ }
+    ensures { λ r. ⌜ Moved (now (words .entry)) k j x r ⌝ }
+{
+    let first = reach[j];
+    let mut m = if first < k { first } else { k };
+    while m > 0 {
+        if !stays(words, j, m - 1, x[m - 1]) {
+            return m;
+        }
+        m -= 1;
+    }
+    0
+}

@@ -1,0 +1,3 @@
+-- Laws of the conditions on kept rows.
+pub mod Primes
+pub mod Conditions

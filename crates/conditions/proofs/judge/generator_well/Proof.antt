@@ -1,0 +1,52 @@
+-- The lines are tested one by one.
+use mathlib.Core.Path.{sym, _∙_}
+use Prim.Native.Nat.{suc, _-_}
+use native.Mathlib.Omega.{arith}
+use borrow.Author.Tests.{not-true, not-false}
+use Rattle.conditions.specs.Conditions.{pairWell}
+use Rattle.conditions.proofs.Conditions.{Tested, tested-none, tested-more, tested-all, tested-fails}
+use Rattle.conditions.proofs.judge.generator_well.Statement.{statement}
+use Rattle.conditions.proofs.judge.generator_well.Tie as tie
+
+abbrev Inv-loop : tie.InvT-loop
+Inv-loop words ps primes n j i₀ i = Tested (λ m. pairWell words ps primes n j m) i
+
+abbrev μ-loop : tie.MeasureT-loop
+μ-loop words ps primes n j i₀ i = suc j - i
+
+loop-holds : tie.Need-loop-holds Inv-loop μ-loop
+loop-holds c = tested-none
+
+pair-well-requires : tie.Need-pair-well-requires Inv-loop μ-loop
+pair-well-requires c κs = omega arith
+
+returns : tie.Need-returns Inv-loop μ-loop
+returns c =
+    tested-fails (c .before .before .before .loop .inv) (omega arith) (sym (c .before .pair-well .ensures) ∙ not-true (c .before .pair-well .result) (c .if1 .taken))
+
+add-i : tie.Need-add-i Inv-loop μ-loop
+add-i c = omega arith
+
+loop-less : tie.Need-loop-less Inv-loop μ-loop
+loop-less c = omega arith
+
+loop-again : tie.Need-loop-again Inv-loop μ-loop
+loop-again c =
+    tested-more (c .before .before .before .loop .inv) (sym (c .before .pair-well .ensures) ∙ not-false (c .before .pair-well .result) (c .if1 .left))
+
+returns-2 : tie.Need-returns-2 Inv-loop μ-loop
+returns-2 c = tested-all (c .before .loop .inv) (omega arith)
+
+pub generator-well-spec : {M : Type 1} → statement M
+generator-well-spec =
+    tie.close
+    (tie.spec
+    Inv-loop
+    μ-loop
+    loop-holds
+    pair-well-requires
+    returns
+    add-i
+    loop-less
+    loop-again
+    returns-2)

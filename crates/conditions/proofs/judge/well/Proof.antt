@@ -1,0 +1,53 @@
+-- The generators are tested one by one.
+use mathlib.Core.Path.{sym, _∙_}
+use Prim.Native.Nat.{suc, _-_}
+use native.Mathlib.Omega.{arith}
+use borrow.Author.Tests.{not-true, not-false}
+use Rattle.definitions.specs.Lists.{allBelow}
+use Rattle.conditions.specs.Conditions.{pairWell}
+use Rattle.conditions.proofs.Conditions.{Tested, tested-none, tested-more, tested-all, tested-fails}
+use Rattle.conditions.proofs.judge.well.Statement.{statement}
+use Rattle.conditions.proofs.judge.well.Tie as tie
+
+abbrev Inv-loop : tie.InvT-loop
+Inv-loop words ps primes n j₀ j = Tested (λ m. allBelow (suc m) (λ i. pairWell words ps primes n m i)) j
+
+abbrev μ-loop : tie.MeasureT-loop
+μ-loop words ps primes n j₀ j = n - j
+
+loop-holds : tie.Need-loop-holds Inv-loop μ-loop
+loop-holds c = tested-none
+
+generator-well-requires : tie.Need-generator-well-requires Inv-loop μ-loop
+generator-well-requires c κs = omega arith
+
+returns : tie.Need-returns Inv-loop μ-loop
+returns c =
+    tested-fails (c .before .before .before .loop .inv) (omega arith) (sym (c .before .generator-well .ensures) ∙ not-true (c .before .generator-well .result) (c .if1 .taken))
+
+add-j : tie.Need-add-j Inv-loop μ-loop
+add-j c = omega arith
+
+loop-less : tie.Need-loop-less Inv-loop μ-loop
+loop-less c = omega arith
+
+loop-again : tie.Need-loop-again Inv-loop μ-loop
+loop-again c =
+    tested-more (c .before .before .before .loop .inv) (sym (c .before .generator-well .ensures) ∙ not-false (c .before .generator-well .result) (c .if1 .left))
+
+returns-2 : tie.Need-returns-2 Inv-loop μ-loop
+returns-2 c = tested-all (c .before .loop .inv) (omega arith)
+
+pub well-spec : {M : Type 1} → statement M
+well-spec =
+    tie.close
+    (tie.spec
+    Inv-loop
+    μ-loop
+    loop-holds
+    generator-well-requires
+    returns
+    add-j
+    loop-less
+    loop-again
+    returns-2)

@@ -1,0 +1,108 @@
+-- The order so far is the product of the primes so far, and the elements are those of the levels so far.
+use mathlib.Core.Path.{_≡_, refl, sym, ap, _∙_}
+use Prim.Native.Nat.{suc, _+_, _*_, _-_, _≤_}
+use native.Mathlib.Nat.{mul-le-mul}
+use native.Mathlib.Omega.{arith}
+use lib.ListN.{getD}
+use Rattle.definitions.specs.Lists.{sum}
+use Rattle.definitions.specs.Presentation.{maxGenerators, maxOrder, lineWords}
+use Rattle.numbers.proofs.Sums.{sum-zero}
+use Rattle.conditions.specs.Conditions.{product}
+use Rattle.conditions.proofs.Conditions.{product-zero, product-turn, elements-turn}
+use Rattle.conditions.proofs.size.measure.Statement.{statement}
+use Rattle.conditions.proofs.size.measure.Tie as tie
+
+abbrev Inv-loop : tie.InvT-loop
+Inv-loop primes n order₀ elements₀ j₀ order elements j =
+    (order ≡ product primes j) × (elements ≡ sum j (λ i. product primes (suc i))) × (elements ≤ j * maxOrder) × (j ≤ n) × (n ≤ maxGenerators)
+
+abbrev μ-loop : tie.MeasureT-loop
+μ-loop primes n order₀ elements₀ j₀ order elements j = n - j
+
+loop-holds : tie.Need-loop-holds Inv-loop μ-loop
+loop-holds c = (sym (product-zero (c .args .primes .now)), sym (sum-zero _), omega arith, omega arith, omega arith)
+
+mul-order : tie.Need-mul-order Inv-loop μ-loop
+mul-order c = omega arith
+
+element-copy-out-order : tie.Need-element-copy-out-order Inv-loop μ-loop
+element-copy-out-order c = omega arith
+
+mul-order-2 : tie.Need-mul-order-2 Inv-loop μ-loop
+mul-order-2 c =
+    let z = c .before .before .before in
+    let l = c .before .before .loop in
+    let e : l .order * getD (z .args .primes .now) (l .j) 0 ≡ product (z .args .primes .now) (l .j + 1) = product-turn (z .args .primes .now) (l .j) (l .order) _ (l .inv .0) refl in
+    let b : product (z .args .primes .now) (l .j + 1) ≤ maxOrder = z .pre .1 (l .j + 1) (omega arith) in
+    omega arith
+
+add-elements : tie.Need-add-elements Inv-loop μ-loop
+add-elements c =
+    let z = c .before .before .before in
+    let l = c .before .before .loop in
+    let e : l .order * getD (z .args .primes .now) (l .j) 0 ≡ product (z .args .primes .now) (l .j + 1) = product-turn (z .args .primes .now) (l .j) (l .order) _ (l .inv .0) refl in
+    let b : product (z .args .primes .now) (l .j + 1) ≤ maxOrder = z .pre .1 (l .j + 1) (omega arith) in
+    omega arith
+
+add-j : tie.Need-add-j Inv-loop μ-loop
+add-j c = omega arith
+
+loop-less : tie.Need-loop-less Inv-loop μ-loop
+loop-less c = omega arith
+
+loop-again : tie.Need-loop-again Inv-loop μ-loop
+loop-again c =
+    let z = c .before .before .before in
+    let l = c .before .before .loop in
+    let e : l .order * getD (z .args .primes .now) (l .j) 0 ≡ product (z .args .primes .now) (l .j + 1) = product-turn (z .args .primes .now) (l .j) (l .order) _ (l .inv .0) refl in
+    let b : product (z .args .primes .now) (l .j + 1) ≤ maxOrder = z .pre .1 (l .j + 1) (omega arith) in
+    (e, elements-turn (z .args .primes .now) (l .j) (l .elements) _ (l .inv .1) e, omega arith, omega arith, omega arith)
+
+cast-t11 : tie.Need-cast-t11 Inv-loop μ-loop
+cast-t11 c = omega arith
+
+mul-t12 : tie.Need-mul-t12 Inv-loop μ-loop
+mul-t12 c =
+    let z = c .before .before in
+    let l = c .before .loop in
+    let b : l .elements ≤ maxGenerators * maxOrder = omega (arith, mul-le-mul {n₁ = l .j} {m₁ = maxOrder} {n₂ = maxGenerators} {m₂ = maxOrder} (omega arith) (omega arith)) in
+    let few = mul-le-mul {n₁ = z .args .n} {m₁ = l .elements} {n₂ = maxGenerators} {m₂ = maxGenerators * maxOrder} (omega arith) b in
+    omega arith
+
+mul-t13 : tie.Need-mul-t13 Inv-loop μ-loop
+mul-t13 c =
+    let z = c .before .before in
+    let l = c .before .loop in
+    let b : l .elements ≤ maxGenerators * maxOrder = omega (arith, mul-le-mul {n₁ = l .j} {m₁ = maxOrder} {n₂ = maxGenerators} {m₂ = maxOrder} (omega arith) (omega arith)) in
+    let few = mul-le-mul {n₁ = z .args .n} {m₁ = l .elements} {n₂ = maxGenerators} {m₂ = maxGenerators * maxOrder} (omega arith) b in
+    omega arith
+
+returns : tie.Need-returns Inv-loop μ-loop
+unfolding lineWords
+returns c =
+    let z = c .before .before in
+    let l = c .before .loop in
+    let done : l .j ≡ z .args .n = omega arith in
+    record {
+      order-is = l .inv .0 ∙ ap (product (z .args .primes .now)) done;
+      words-are = ap (λ x. 8 * (z .args .n * x)) (l .inv .1 ∙ ap (λ k. sum k (λ i. product (z .args .primes .now) (suc i))) done);
+    }
+
+pub measure-spec : {M : Type 1} → statement M
+measure-spec =
+    tie.close
+    (tie.spec
+    Inv-loop
+    μ-loop
+    loop-holds
+    mul-order
+    element-copy-out-order
+    mul-order-2
+    add-elements
+    add-j
+    loop-less
+    loop-again
+    cast-t11
+    mul-t12
+    mul-t13
+    returns)

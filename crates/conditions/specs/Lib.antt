@@ -1,0 +1,3 @@
+-- What the conditions on kept rows say.
+pub mod Conditions
+pub mod Size

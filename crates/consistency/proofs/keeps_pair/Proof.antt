@@ -1,0 +1,54 @@
+-- `keeps_pair` meets its contract: one of the two is central, or the relation is tested.
+use native.Mathlib.Omega.{arith}
+use denote.Ref.{now}
+use Rattle.consistency.proofs.Answers.{commutator-low, commutator-high}
+use borrow.Author.Needs.{needs}
+use Rattle.consistency.proofs.keeps_pair.Statement.{statement}
+use Rattle.consistency.proofs.keeps_pair.Tie as tie
+
+mul-if1 : tie.Need-mul-if1
+mul-if1 c = search needs
+
+element-copy-out-if1 : tie.Need-element-copy-out-if1
+element-copy-out-if1 c = search needs
+
+returns : tie.Need-returns
+returns c =
+    let z = c .before .before in
+    let ps = now (z .args .primes) in
+    let ws = now (z .args .words) in
+    let i = z .args .i in
+    commutator-low i ps ws (z .args .k) (omega (arith, z .pre .4, z .pre .5)) (z .pre .2 .at (z .args .k) (omega (arith, z .pre .4, z .pre .5)) .at i (c .if1 .taken)) (z .args .j) (z .pre .4) (z .pre .5)
+
+mul-if2 : tie.Need-mul-if2
+mul-if2 c = search needs
+
+element-copy-out-if2 : tie.Need-element-copy-out-if2
+element-copy-out-if2 c = search needs
+
+returns-2 : tie.Need-returns-2
+returns-2 c =
+    let z = c .before .before .before .before in
+    let ps = now (z .args .primes) in
+    let ws = now (z .args .words) in
+    let i = z .args .i in
+    commutator-high i ps ws (z .args .j) (z .pre .5) (z .pre .2 .at (z .args .j) (omega (arith, z .pre .5)) .at i (c .if2 .taken)) (z .args .k) (z .pre .4)
+
+keeps-commutator-requires : tie.Need-keeps-commutator-requires
+keeps-commutator-requires c κs = search needs
+
+returns-3 : tie.Need-returns-3
+returns-3 c = search needs
+
+pub keeps-pair-spec : {M : Type 1} → statement M
+keeps-pair-spec =
+    tie.close
+    (tie.spec
+    mul-if1
+    element-copy-out-if1
+    returns
+    mul-if2
+    element-copy-out-if2
+    returns-2
+    keeps-commutator-requires
+    returns-3)

@@ -1,0 +1,3 @@
+-- What the contracts of the consistency test say.
+pub mod Images
+pub mod Answers

@@ -1,0 +1,277 @@
+// The known test of consistency, generator by generator ("Consistent" in the specification).
+//
+//   Forms, images, value         the images of the generators under conjugation by the next, and values over them
+//   keeps_power, keeps_powers    the images keep the power relations
+//   keeps_commutator, keeps_pair, keeps_commutators_of, keeps_commutators    and the commutator relations
+//   fixes_power                  conjugation by a generator fixes its power word
+//   is_inner_at, is_inner_on, is_inner    its power is conjugation by that word
+//   level_passes, consistent     the test for a generator; for all
+ghost use Prim.Native.Nat.{suc, _≤_, _<_};
+ghost use Rattle.definitions.specs.Lists.{allBelow};
+ghost use Rattle.definitions.specs.Consistency.{keepsPowers, keepsCommutators, fixesPower, powerIsInner, levelTest};
+ghost use Rattle.rows.specs.Rows.{Ready};
+ghost use Rattle.commuting.specs.Commuting.{Quiet, Central};
+ghost use Rattle.consistency.specs.Images.{Images, Value};
+ghost use Rattle.consistency.specs.Answers.{Settles, Decides, powerKept, commutatorKept, innerAt};
+use collector::conjugate;
+use collector::power;
+use collector::product;
+use collector::scaled;
+use collector::turned;
+use commuting::Reaches;
+use commuting::reaches;
+use commuting::rises;
+use rows::GENERATORS;
+use rows::Row;
+use rows::Words;
+use rows::generator;
+use rows::same;
+use rows::word;
+
+// A normal form for each generator.
+pub type Forms = [[u32; GENERATORS]; GENERATORS];
+
+// The images of the generators below i under conjugation by generator i.
+pub fn images(primes: &Row, words: &Words, reach: &Reaches, i: usize) -> Forms
+    requires { ⌜ Ready (suc i) (now primes) (now words) × Quiet (suc i) (now words) (now reach) ⌝ }
+    ensures { λ r. ⌜ Images i (now (primes .entry)) (now (words .entry)) r i ⌝ }
+{
+    let mut h = [[0u32; GENERATORS]; GENERATORS];
+    for k in 0..i {
+        let g = generator(k);
+        let c = conjugate(primes, words, reach, i, i, g);
+        h[k] = c;
+    }
+    h
+}
+
+// The value over the images h of the first k exponents of x, on level i.
+pub fn value(
+    primes: &Row,
+    words: &Words,
+    reach: &Reaches,
+    h: &Forms,
+    i: usize,
+    k: usize,
+    x: Row,
+) -> Row
+    requires { ⌜ Ready (suc i) (now primes) (now words) × Quiet (suc i) (now words) (now reach) × Images i (now primes) (now words) (now h) i × (k ≤ i) ⌝ }
+    ensures { λ r. ⌜ Value i (now (primes .entry)) (now (words .entry)) k x r ⌝ }
+{
+    let mut v = [0u32; GENERATORS];
+    for m in 0..k {
+        let g = h[m];
+        let e = x[m];
+        let s = scaled(primes, words, reach, i, g, e, v);
+        v = s;
+    }
+    v
+}
+
+// The images h keep the power relation of generator k.
+pub fn keeps_power(
+    primes: &Row,
+    words: &Words,
+    reach: &Reaches,
+    h: &Forms,
+    i: usize,
+    k: usize,
+) -> bool
+    requires { ⌜ Ready (suc i) (now primes) (now words) × Quiet (suc i) (now words) (now reach) × Images i (now primes) (now words) (now h) i × (k < i) ⌝ }
+    ensures { λ r. ⌜ Settles i (now (primes .entry)) (now (words .entry)) (λ P. powerKept P i k) r ⌝ }
+{
+    let g = h[k];
+    let p = primes[k];
+    let l = power(primes, words, reach, i, g, p);
+    let u = word(words, k, k);
+    let v = value(primes, words, reach, h, i, k, u);
+    same(i, l, v)
+}
+
+// The images h keep the power relations of the generators below i.
+pub fn keeps_powers(primes: &Row, words: &Words, reach: &Reaches, h: &Forms, i: usize) -> bool
+    requires { ⌜ Ready (suc i) (now primes) (now words) × Quiet (suc i) (now words) (now reach) × Images i (now primes) (now words) (now h) i ⌝ }
+    ensures { λ r. ⌜ Settles i (now (primes .entry)) (now (words .entry)) (λ P. keepsPowers P i) r ⌝ }
+{
+    for k in 0..i {
+        if !keeps_power(primes, words, reach, h, i, k) {
+            return false;
+        }
+    }
+    true
+}
+
+// The images h keep the commutator relation of generators k < j.
+pub fn keeps_commutator(
+    primes: &Row,
+    words: &Words,
+    reach: &Reaches,
+    h: &Forms,
+    i: usize,
+    j: usize,
+    k: usize,
+) -> bool
+    requires { ⌜ Ready (suc i) (now primes) (now words) × Quiet (suc i) (now words) (now reach) × Images i (now primes) (now words) (now h) i × (k < j) × (j < i) ⌝ }
+    ensures { λ r. ⌜ Settles i (now (primes .entry)) (now (words .entry)) (λ P. commutatorKept P i j k) r ⌝ }
+{
+    let a = h[k];
+    let b = h[j];
+    let l = product(primes, words, reach, i, a, b);
+    let w = word(words, j, k);
+    let v = value(primes, words, reach, h, i, k + 1, w);
+    let s = product(primes, words, reach, i, a, v);
+    let r = product(primes, words, reach, i, b, s);
+    same(i, l, r)
+}
+
+// The same. Where one of the two commutes with every generator up to i there is nothing to test.
+pub fn keeps_pair(
+    primes: &Row,
+    words: &Words,
+    reach: &Reaches,
+    rise: &Reaches,
+    h: &Forms,
+    i: usize,
+    j: usize,
+    k: usize,
+) -> bool
+    requires { ⌜ Ready (suc i) (now primes) (now words) × Quiet (suc i) (now words) (now reach) × Central (suc i) (now words) (now rise) × Images i (now primes) (now words) (now h) i × (k < j) × (j < i) ⌝ }
+    ensures { λ r. ⌜ Settles i (now (primes .entry)) (now (words .entry)) (λ P. commutatorKept P i j k) r ⌝ }
+{
+    if i < rise[k] {
+        return true;
+    }
+    if i < rise[j] {
+        return true;
+    }
+    keeps_commutator(primes, words, reach, h, i, j, k)
+}
+
+// The images h keep the commutator relations of generator j with those below it.
+pub fn keeps_commutators_of(
+    primes: &Row,
+    words: &Words,
+    reach: &Reaches,
+    rise: &Reaches,
+    h: &Forms,
+    i: usize,
+    j: usize,
+) -> bool
+    requires { ⌜ Ready (suc i) (now primes) (now words) × Quiet (suc i) (now words) (now reach) × Central (suc i) (now words) (now rise) × Images i (now primes) (now words) (now h) i × (j < i) ⌝ }
+    ensures { λ r. ⌜ Settles i (now (primes .entry)) (now (words .entry)) (λ P. allBelow j (commutatorKept P i j)) r ⌝ }
+{
+    for k in 0..j {
+        if !keeps_pair(primes, words, reach, rise, h, i, j, k) {
+            return false;
+        }
+    }
+    true
+}
+
+// The images h keep the commutator relations below i.
+pub fn keeps_commutators(
+    primes: &Row,
+    words: &Words,
+    reach: &Reaches,
+    rise: &Reaches,
+    h: &Forms,
+    i: usize,
+) -> bool
+    requires { ⌜ Ready (suc i) (now primes) (now words) × Quiet (suc i) (now words) (now reach) × Central (suc i) (now words) (now rise) × Images i (now primes) (now words) (now h) i ⌝ }
+    ensures { λ r. ⌜ Settles i (now (primes .entry)) (now (words .entry)) (λ P. keepsCommutators P i) r ⌝ }
+{
+    for j in 0..i {
+        if !keeps_commutators_of(primes, words, reach, rise, h, i, j) {
+            return false;
+        }
+    }
+    true
+}
+
+// Conjugation by generator i fixes its power word.
+pub fn fixes_power(primes: &Row, words: &Words, reach: &Reaches, i: usize) -> bool
+    requires { ⌜ Ready (suc i) (now primes) (now words) × Quiet (suc i) (now words) (now reach) ⌝ }
+    ensures { λ r. ⌜ Settles i (now (primes .entry)) (now (words .entry)) (λ P. fixesPower P i) r ⌝ }
+{
+    let u = word(words, i, i);
+    let c = conjugate(primes, words, reach, i, i, u);
+    same(i, c, u)
+}
+
+// As many conjugations by generator i as its prime are conjugation by its power word, at generator k.
+pub fn is_inner_at(primes: &Row, words: &Words, reach: &Reaches, i: usize, k: usize) -> bool
+    requires { ⌜ Ready (suc i) (now primes) (now words) × Quiet (suc i) (now words) (now reach) × (k < i) ⌝ }
+    ensures { λ r. ⌜ Settles i (now (primes .entry)) (now (words .entry)) (λ P. innerAt P i k) r ⌝ }
+{
+    let u = word(words, i, i);
+    let g = generator(k);
+    let p = primes[i];
+    let t = turned(primes, words, reach, i, g, p);
+    let left = product(primes, words, reach, i, u, t);
+    let right = product(primes, words, reach, i, g, u);
+    same(i, left, right)
+}
+
+// The same. Where generator k commutes with every generator up to i there is nothing to test.
+pub fn is_inner_on(
+    primes: &Row,
+    words: &Words,
+    reach: &Reaches,
+    rise: &Reaches,
+    i: usize,
+    k: usize,
+) -> bool
+    requires { ⌜ Ready (suc i) (now primes) (now words) × Quiet (suc i) (now words) (now reach) × Central (suc i) (now words) (now rise) × (k < i) ⌝ }
+    ensures { λ r. ⌜ Settles i (now (primes .entry)) (now (words .entry)) (λ P. innerAt P i k) r ⌝ }
+{
+    if i < rise[k] {
+        return true;
+    }
+    is_inner_at(primes, words, reach, i, k)
+}
+
+// The same at every generator below i.
+pub fn is_inner(primes: &Row, words: &Words, reach: &Reaches, rise: &Reaches, i: usize) -> bool
+    requires { ⌜ Ready (suc i) (now primes) (now words) × Quiet (suc i) (now words) (now reach) × Central (suc i) (now words) (now rise) ⌝ }
+    ensures { λ r. ⌜ Settles i (now (primes .entry)) (now (words .entry)) (λ P. powerIsInner P i) r ⌝ }
+{
+    for k in 0..i {
+        if !is_inner_on(primes, words, reach, rise, i, k) {
+            return false;
+        }
+    }
+    true
+}
+
+// The known test for generator i.
+pub fn level_passes(primes: &Row, words: &Words, reach: &Reaches, rise: &Reaches, i: usize) -> bool
+    requires { ⌜ Ready (suc i) (now primes) (now words) × Quiet (suc i) (now words) (now reach) × Central (suc i) (now words) (now rise) ⌝ }
+    ensures { λ r. ⌜ Settles i (now (primes .entry)) (now (words .entry)) (λ P. levelTest P i) r ⌝ }
+{
+    let h = images(primes, words, reach, i);
+    if !keeps_powers(primes, words, reach, &h, i) {
+        return false;
+    }
+    if !keeps_commutators(primes, words, reach, rise, &h, i) {
+        return false;
+    }
+    if !fixes_power(primes, words, reach, i) {
+        return false;
+    }
+    is_inner(primes, words, reach, rise, i)
+}
+
+// Whether the presentation of n generators is consistent (15): the known test for each generator.
+pub fn consistent(primes: &Row, words: &Words, n: usize) -> bool
+    requires { ⌜ Ready n (now primes) (now words) ⌝ }
+    ensures { λ r. ⌜ Decides n (now (primes .entry)) (now (words .entry)) r ⌝ }
+{
+    let reach = reaches(words, n);
+    let rise = rises(words, &reach, n);
+    for i in 0..n {
+        if !level_passes(primes, words, &reach, &rise, i) {
+            return false;
+        }
+    }
+    true
+}

@@ -1,0 +1,67 @@
+-- `copied` meets its contract: low below q, what stood there from q on.
+use borrow.Author.Needs.{needs}
+use mathlib.Core.Path.{_≡_, subst}
+use Prim.Native.Nat.{_-_, _≤_}
+use lib.ListN.{length}
+use native.Mathlib.Omega.{arith}
+use denote.Ref.{now}
+use Rattle.definitions.specs.Presentation.{maxGenerators}
+use Rattle.rows.specs.Rows.{Mixed}
+use Rattle.rows.proofs.Parts.{mixed-none, mixed-more}
+use Rattle.rows.proofs.copied.Statement.{statement}
+use Rattle.rows.proofs.copied.Tie as tie
+
+abbrev Inv-loop : tie.InvT-loop
+Inv-loop k x₀ low q₀ x q = (k ≤ maxGenerators) × (q ≤ k) × (length x ≡ maxGenerators) × Mixed low x₀ q x
+
+abbrev μ-loop : tie.MeasureT-loop
+μ-loop k x₀ low q₀ x q = k - q
+
+loop-holds : tie.Need-loop-holds Inv-loop μ-loop
+loop-holds c = (search needs, search needs, search needs, mixed-none _ _)
+
+mul-x : tie.Need-mul-x Inv-loop μ-loop
+mul-x c = search needs
+
+array-read-x : tie.Need-array-read-x Inv-loop μ-loop
+array-read-x c = search needs
+
+mul-x-2 : tie.Need-mul-x-2 Inv-loop μ-loop
+mul-x-2 c = search needs
+
+element-write-x : tie.Need-element-write-x Inv-loop μ-loop
+element-write-x c = search needs
+
+add-q : tie.Need-add-q Inv-loop μ-loop
+add-q c = search needs
+
+loop-less : tie.Need-loop-less Inv-loop μ-loop
+loop-less c = search needs
+
+loop-again : tie.Need-loop-again Inv-loop μ-loop
+loop-again c =
+    let l = c .before .loop in
+    (search needs, search needs, search needs, mixed-more _ _ (l .q) (l .x) (search needs) (l .inv .3))
+
+returns : tie.Need-returns Inv-loop μ-loop
+returns c =
+    let z = c .before .before in
+    let l = c .before .loop in
+    let e : l .q ≡ z .args .k = omega arith in
+    subst (λ q. Mixed (z .args .t2) (now (z .args .x)) q (l .x)) e (l .inv .3)
+
+pub copied-spec : {M : Type 1} → statement M
+copied-spec =
+    tie.close
+    (tie.spec
+    Inv-loop
+    μ-loop
+    loop-holds
+    mul-x
+    array-read-x
+    mul-x-2
+    element-write-x
+    add-q
+    loop-less
+    loop-again
+    returns)

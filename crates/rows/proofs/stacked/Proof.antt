@@ -1,0 +1,75 @@
+-- `stacked` meets its contract: low below q, high from q on, and s at k in the end.
+use borrow.Author.Needs.{needs}
+use mathlib.Core.Path.{_≡_, subst}
+use Prim.Native.Nat.{_-_, _≤_, _<_}
+use lib.ListN.{length}
+use native.Mathlib.Omega.{arith}
+use Rattle.definitions.specs.Presentation.{maxGenerators}
+use Rattle.rows.specs.Rows.{Mixed}
+use Rattle.rows.proofs.Parts.{mixed-none, mixed-more, mixed-stacked}
+use Rattle.rows.proofs.stacked.Statement.{statement}
+use Rattle.rows.proofs.stacked.Tie as tie
+
+abbrev Inv-loop : tie.InvT-loop
+Inv-loop k s low r₀ q₀ r q = (k < maxGenerators) × (q ≤ k) × (length r ≡ maxGenerators) × Mixed low r₀ q r
+
+abbrev μ-loop : tie.MeasureT-loop
+μ-loop k s low r₀ q₀ r q = k - q
+
+loop-holds : tie.Need-loop-holds Inv-loop μ-loop
+loop-holds c = (search needs, search needs, search needs, mixed-none _ _)
+
+mul-r : tie.Need-mul-r Inv-loop μ-loop
+mul-r c = search needs
+
+array-read-r : tie.Need-array-read-r Inv-loop μ-loop
+array-read-r c = search needs
+
+mul-r-2 : tie.Need-mul-r-2 Inv-loop μ-loop
+mul-r-2 c = search needs
+
+array-write-r : tie.Need-array-write-r Inv-loop μ-loop
+array-write-r c = search needs
+
+add-q : tie.Need-add-q Inv-loop μ-loop
+add-q c = search needs
+
+loop-less : tie.Need-loop-less Inv-loop μ-loop
+loop-less c = search needs
+
+loop-again : tie.Need-loop-again Inv-loop μ-loop
+loop-again c =
+    let z = c .before .before in
+    let l = c .before .loop in
+    (search needs, search needs, search needs, mixed-more (z .args .t2) (z .args .high) (l .q) (l .r) (search needs) (l .inv .3))
+
+mul-r-3 : tie.Need-mul-r-3 Inv-loop μ-loop
+mul-r-3 c = search needs
+
+array-write-r-2 : tie.Need-array-write-r-2 Inv-loop μ-loop
+array-write-r-2 c = search needs
+
+returns : tie.Need-returns Inv-loop μ-loop
+returns c =
+    let z = c .before .before in
+    let l = c .before .loop in
+    let e : l .q ≡ z .args .k = omega arith in
+    mixed-stacked (z .args .t2) (z .args .high) (z .args .k) (z .args .s) (l .r) (search needs) (subst (λ q. Mixed (z .args .t2) (z .args .high) q (l .r)) e (l .inv .3))
+
+pub stacked-spec : {M : Type 1} → statement M
+stacked-spec =
+    tie.close
+    (tie.spec
+    Inv-loop
+    μ-loop
+    loop-holds
+    mul-r
+    array-read-r
+    mul-r-2
+    array-write-r
+    add-q
+    loop-less
+    loop-again
+    mul-r-3
+    array-write-r-2
+    returns)

@@ -1,0 +1,2 @@
+-- What rows of exponents say.
+pub mod Rows
