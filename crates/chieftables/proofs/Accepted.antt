@@ -90,6 +90,7 @@ module _ {t : Bytes} where
 
           pub accepted-inconsistent : r ≡ false → Accepted t (record { status = 15; presentation = o .presentation })
           accepted-inconsistent e = record {
-            answered = first-behind (inconsistent t) 15 (textRefusals t) (numbered t) none-first (inl ((R, said .1, λ c. false≢true (sym e ∙ decided .1 c)), refl));
+            answered = first-behind (inconsistent t) 15 (textRefusals t) (numbered t) none-first
+                (inl ((R, said .1, λ c. false≢true (sym e ∙ decided .1 c)), refl));
             sound = λ z. absurd (omega arith);
           }
