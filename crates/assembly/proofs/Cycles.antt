@@ -122,8 +122,8 @@ pub fixing : (A : Accepted) (i : ℕ) (f : Frame) (W : List ℕ) → Placed A i 
 fixing A zero f W Q = absurd (omega (arith, Q .above))
 fixing A (suc k) f W Q = subst (λ f. Fixing f W) (sym (placed A k f W Q)) (subst (λ W. Fixing (frameAt A k) W) (sym (Q .words-are)) (record { stays = fixed-at A k (Q .below) }))
 
-pub visited : (A : Accepted) (i : ℕ) (f : Frame) (W : List ℕ) (rows : List (List ℕ)) {primes : List ℕ} → Placed A i f W → Reads (A .C .P) (A .C .P .n) primes rows
-    → Cycling f W rows
+pub visited : (A : Accepted) (i : ℕ) (f : Frame) (W : List ℕ) (rows : List (List ℕ)) {primes : List ℕ} → Placed A i f W
+    → Reads (A .C .P) (A .C .P .n) primes rows → Cycling f W rows
 visited A zero f W rows Q told = absurd (omega (arith, Q .above))
 visited A (suc k) f W rows Q told =
     subst (λ f. Cycling f W rows) (sym (placed A k f W Q))

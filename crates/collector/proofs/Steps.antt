@@ -36,8 +36,8 @@ use Rattle.group.proofs.Units.{mul-trivial-left, mul-trivial-right, mul-top-bel
 use Rattle.group.proofs.Level.{trivial-valid}
 use Rattle.group.proofs.Rows.{toNF-suc, toNF-ext, toNF-set-top, toNF-trivial}
 use Rattle.rows.specs.Rows.{Small, Ready, Reads, Single, Top, Stacked, Kept}
-use Rattle.rows.proofs.Laws.{zeros, small-below, ready-below, reads-below, small-valid, small-set, small-zeros}
-use Rattle.rows.proofs.Parts.{climb, kept-then, kept-stacked, stored-kept, single-row}
+use Rattle.rows.proofs.Laws.{zeros, single-row, small-below, ready-below, reads-below, small-valid, small-set, small-zeros}
+use Rattle.rows.proofs.Parts.{climb, kept-then, kept-stacked, stored-kept}
 use Rattle.commuting.specs.Commuting.{keeps, Moved}
 use Rattle.collector.specs.Products.{Product, Image, Conjugate, Remaining, Power, Scaled, Turned}
 
@@ -99,7 +99,8 @@ product-same k ps ws x y z r e t = record { small = small-same k ps z r e (t .sm
 pub product-left : (i : ℕ) (ps : List ℕ) (ws : List (List ℕ)) (x y : List ℕ) → Top i x 0 → Small i ps y → Product i ps ws x y y
 product-left i ps ws x y t s = record {
   small = s;
-  is = λ C R. sym (ap (λ m. mul (C .P) i m (toNF i y)) (toNF-trivial i x (λ k l. t .rest k (omega arith) l)) ∙ mul-trivial-left C i (toNF i y) (small-valid (C .P) i i ps ws y R (omega arith) s));
+  is = λ C R. sym (ap (λ m. mul (C .P) i m (toNF i y)) (toNF-trivial i x (λ k l. t .rest k (omega arith) l))
+      ∙ mul-trivial-left C i (toNF i y) (small-valid (C .P) i i ps ws y R (omega arith) s));
 }
 
 -- the form of a row of two
@@ -113,7 +114,8 @@ stacked-small k ps low high s r t q l = record {
 
 module _ (k b : ℕ) (ps : List ℕ) (ws : List (List ℕ)) (x y c z : List ℕ) (e : b ≡ getD y k 0) (t : Turned k b ps ws x c) (q : Product k ps ws c y z) where
   rest-is : (C : Context) → Reads (C .P) (suc k) ps ws → toNF k z ≡ mul (C .P) k (iter (conj (C .P) k k) (getD y k 0) (toNF k x)) (toNF k y)
-  rest-is C R = q .is C (reads-below (C .P) k (suc k) ps ws (omega arith) R) ∙ ap (λ s. mul (C .P) k s (toNF k y)) (t .is C R ∙ ap (λ m. iter (conj (C .P) k k) m (toNF k x)) e)
+  rest-is C R = q .is C (reads-below (C .P) k (suc k) ps ws (omega arith) R)
+      ∙ ap (λ s. mul (C .P) k s (toNF k y)) (t .is C R ∙ ap (λ m. iter (conj (C .P) k k) m (toNF k x)) e)
 
   pub product-low : (r : List ℕ) → Stacked k z x (getD x k 0 + b) r → getD x k 0 + b < getD ps k 0 → Product (suc k) ps ws x y r
   product-low r st h = record { small = stacked-small k ps z x _ r st (q .small) h; is = equal }
@@ -217,7 +219,10 @@ module _ (i m : ℕ) (ps : List ℕ) (ws : List (List ℕ)) (x y x₁ x₂ : Lis
 
 module _ (k : ℕ) (ps : List ℕ) (ws : List (List ℕ)) (h : List ℕ) where
   pub powering-start : Ready k ps ws → Power k ps ws h (replicate maxGenerators 0) 0
-  powering-start r = record { small = small-zeros k ps ws r; is = λ C R. toNF-trivial k (replicate maxGenerators 0) (λ m l. zeros m) ∙ sym (power-zero (forms (C .P) k) (toNF k h)) }
+  powering-start r = record {
+    small = small-zeros k ps ws r;
+    is = λ C R. toNF-trivial k (replicate maxGenerators 0) (λ m l. zeros m) ∙ sym (power-zero (forms (C .P) k) (toNF k h));
+  }
 
   pub powering-more : (r s : List ℕ) (n : ℕ) → Power k ps ws h r n → Product k ps ws h r s → Power k ps ws h s (n + 1)
   powering-more r s n t q = record {
@@ -238,7 +243,8 @@ module _ (k : ℕ) (ps : List ℕ) (ws : List (List ℕ)) (x y s : List ℕ) (no
   trivial-of : (r : List ℕ) → Top k r 0 → toNF (suc k) r ≡ (getD r k 0, trivial k)
   trivial-of r t = toNF-suc k r ∙ ap (λ m. (getD r k 0, m)) (toNF-trivial k r (λ m l. t .rest m (omega arith) l))
 
-  single-is : (a : ℕ) → a < getD ps k 0 → getD s k 0 ≡ a → ((C : Context) → Reads (C .P) (suc k) ps ws → (a, trivial k) ≡ mul (C .P) (suc k) (getD x k 0, trivial k) (getD y k 0, trivial k)) → Product (suc k) ps ws x y s
+  single-is : (a : ℕ) → a < getD ps k 0 → getD s k 0 ≡ a
+      → ((C : Context) → Reads (C .P) (suc k) ps ws → (a, trivial k) ≡ mul (C .P) (suc k) (getD x k 0, trivial k) (getD y k 0, trivial k)) → Product (suc k) ps ws x y s
   single-is a l q h = record {
     small = record {
       below = below-suc k (λ m. getD s m 0 < getD ps m 0) (λ m b. subst (λ v. v < getD ps m 0) (sym (ns .rest m (omega arith) b)) (pos m b)) (subst (λ v. v < getD ps k 0) (sym q) l);
@@ -368,7 +374,8 @@ module _ (j l : ℕ) (ps : List ℕ) (ws : List (List ℕ)) (w : List ℕ) (lj :
     is = λ C R.
         let p : C .P .p l ≤ 1 + getD w l 0 = omega (arith, R .p-is l (omega arith)) in
         let z : 0 ≡ 1 + getD w l 0 - C .P .p l = omega (arith, R .p-is l (omega arith), commutator-small .below l (omega arith)) in
-        toNF-set-top l v 0 long ∙ ap₂ (λ s t. (s, t)) z (q .is C (reads-below (C .P) l (suc j) ps ws (omega arith) R) ∙ ap (λ t. mul (C .P) l t (toNF l w)) (ap (toNF l) ue ∙ R .u-is l (omega arith)))
+        toNF-set-top l v 0 long ∙ ap₂ (λ s t. (s, t)) z
+        (q .is C (reads-below (C .P) l (suc j) ps ws (omega arith) R) ∙ ap (λ t. mul (C .P) l t (toNF l w)) (ap (toNF l) ue ∙ R .u-is l (omega arith)))
         ∙ sym (mul-top-over C l 1 (getD w l 0) (toNF l w) (word-valid C R) p) ∙ ap (mul (C .P) (suc l) (1, trivial l)) (sym (word-is C R));
   }
 
@@ -411,7 +418,8 @@ module _ (i : ℕ) (ps : List ℕ) (ws : List (List ℕ)) where
   pub scaled-zero : (x v : List ℕ) (e : ℕ) → e ≡ 0 → Small i ps v → Scaled i ps ws x e v v
   scaled-zero x v e q s = record {
     small = s;
-    is = λ C R. sym (ap (λ m. mul (C .P) i (power (forms (C .P) i) (toNF i x) m) (toNF i v)) q ∙ ap (λ m. mul (C .P) i m (toNF i v)) (power-zero (forms (C .P) i) (toNF i x))
+    is = λ C R. sym (ap (λ m. mul (C .P) i (power (forms (C .P) i) (toNF i x) m) (toNF i v)) q
+        ∙ ap (λ m. mul (C .P) i m (toNF i v)) (power-zero (forms (C .P) i) (toNF i x))
         ∙ mul-trivial-left C i (toNF i v) (small-valid (C .P) i i ps ws v R (omega arith) s));
   }
 

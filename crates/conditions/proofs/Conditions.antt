@@ -1,7 +1,8 @@
 -- Laws of the conditions of refusals 13 and 14.
 --
 --   product-zero, product-suc, product-order, product-mono     the product of primes
---   product-turn, elements-turn, order-exceeds, order-within   a turn of the product and of the elements; the ceiling
+--   product-turn, elements-turn   a turn of the product and of the elements
+--   words-fit, order-exceeds, order-within     the ceiling
 --   entry-high, entry-zero, entry-power, entry-commutator     an exponent, case by case
 --   p-power, p-commutator, pair-stray, pair-row     a line, by its p and its word
 --   Tested, tested-none, tested-more, tested-all, tested-fails      a loop of tests
@@ -11,7 +12,7 @@ use mathlib.Core.Logic.{_≢_}
 use mathlib.Core.Bool.{Bool, true, false, _&&_, _||_}
 use mathlib.Core.List.{List, []}
 use Prim.Native.Nat.{ℕ, zero, suc, _+_, _*_, _<_, _≤_}
-use native.Mathlib.Nat.{mul-le-mul-right, mul-comm}
+use native.Mathlib.Nat.{mul-le-mul, mul-le-mul-right, mul-comm}
 use native.Mathlib.Numerals.{add-one}
 use native.Mathlib.Decide.{ℕ-discrete}
 use native.Mathlib.Omega.{arith}
@@ -67,6 +68,13 @@ pub elements-turn : (primes : List ℕ) (j x y : ℕ) → x ≡ sum j (λ i. pro
 elements-turn primes j x y q r =
     ap₂ (λ (a b : ℕ). a + b) q (r ∙ ap (product primes) (add-one j)) ∙ sym (sum-suc j (λ i. product primes (suc i)))
     ∙ ap (λ (k : ℕ). sum k (λ i. product primes (suc i))) (sym (add-one j))
+
+-- the elements of j levels, for each of n generators
+pub words-fit : (n j elements : ℕ) → n ≤ maxGenerators → j ≤ maxGenerators → elements ≤ j * maxOrder
+    → n * elements ≤ maxGenerators * (maxGenerators * maxOrder)
+words-fit n j elements a b c =
+    let d : elements ≤ maxGenerators * maxOrder = omega (arith, mul-le-mul-right {m = j} {n = maxGenerators} maxOrder b) in
+    mul-le-mul {n₁ = n} {m₁ = elements} {n₂ = maxGenerators} {m₂ = maxGenerators * maxOrder} a d
 
 pub order-exceeds : (primes : List ℕ) (m n x : ℕ) → m ≤ n → ((j : ℕ) → j < n → 0 < getD primes j 0) → x ≡ product primes m → maxOrder < x
     → leb (product primes n) maxOrder ≡ false

@@ -1,6 +1,6 @@
 -- The pairs of generators in the order of the lines of a text, and their numbers.
 --
---   length-pairs                     how many pairs there are
+--   length-pairsOf, length-pairs     how many pairs a generator has, and how many there are
 --   pairNumber-power, pairNumber-commutator    the number of (j, j), and of (j, i) for i < j
 --   pairNumber-below                 a pair of generators below n has a number below the count
 --   PairAt n r, pair-at              every number below the count is that of a pair
@@ -14,7 +14,7 @@ use Rattle.definitions.specs.Presentation.{pairsOf, pairs, pairNumber}
 use Rattle.numbers.proofs.Bools.{cond-eq, cond-ne}
 use Rattle.numbers.proofs.Lists.{length-upto, length-blocks, sum-ext, sum-mono}
 
-length-pairsOf : (j : ℕ) → length (pairsOf j) ≡ suc j
+pub length-pairsOf : (j : ℕ) → length (pairsOf j) ≡ suc j
 unfolding pairsOf
 length-pairsOf j = ap suc (length-map (upto j) _ ∙ length-upto j)
 

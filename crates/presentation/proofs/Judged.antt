@@ -16,7 +16,8 @@ use lib.Dec.{ltb, leb, eqb}
 use borrow.Author.Tests.{lt-ltb, le-ltb, leb-true, leb-false}
 use Rattle.definitions.specs.Lists.{all, allBelow}
 use Rattle.definitions.specs.Text.{Bytes, line, render}
-use Rattle.definitions.specs.Presentation.{maxGenerators, maxOrder, pairCount, Relations, Says, InForm, textOf, presentationNames, pairs, pairNumber, rowOf, presentation, order, isPrime, someNotPrime, tooLarge, misused, rowWell}
+use Rattle.definitions.specs.Presentation.{maxGenerators, maxOrder, pairCount}
+use Rattle.definitions.specs.Presentation.{Relations, Says, InForm, textOf, presentationNames, pairs, pairNumber, rowOf, presentation, order, isPrime, someNotPrime, tooLarge, misused, rowWell}
 use Rattle.definitions.specs.Answers.{says}
 use Rattle.definitions.proofs.Rendering.{rowFormed, wellFormed-formed, formed-wellFormed, line-unique, presentationNames-fields, presentationNames-injective, says-unique}
 use Rattle.numbers.proofs.Lists.{allBelow-intro, allBelow-fails}
@@ -94,7 +95,8 @@ module _ {t : Bytes} {n next : ℕ} (nm : NamesLine t n next) {words : List (Lis
   pub primes-positive : flag ≡ true → n ≤ maxGenerators → (j : ℕ) → j < n → 0 < getD ps (pairNumber j j) 0
   primes-positive q few j l =
       let r : getD ps (pairNumber j j) 0 ≡ getD (al .rows) (pairNumber j j) noRow .p =
-      al .stored .p-kept (pairNumber j j) (omega (arith, al .count, length-pairs n, pairNumber-below n j j (omega arith) l)) (pair-below j j (omega arith) (omega arith)) in
+      al .stored .p-kept (pairNumber j j) (omega (arith, al .count, length-pairs n, pairNumber-below n j j (omega arith) l))
+      (pair-below j j (omega arith) (omega arith)) in
       pick (getD (al .rows) (pairNumber j j) noRow .p) (al .prime q j l) r
     where
       pick : (p : ℕ) → isPrime p ≡ true → getD ps (pairNumber j j) 0 ≡ p → 0 < getD ps (pairNumber j j) 0

@@ -13,17 +13,17 @@ use Prim.Native.Nat.{ℕ, suc, _+_, _<_, _≤_}
 use native.Mathlib.Nat.{le-of-suc-le-suc, suc-inj}
 use native.Mathlib.Decide.{ℕ-discrete}
 use native.Mathlib.Omega.{arith}
-use lib.ListN.{length, getD, drop, length-map}
+use lib.ListN.{length, getD, drop}
 use lib.Dec.{eqb, leb}
 use borrow.Author.Tests.{eqb-true, eq-eqb, le-leb, leb-true}
-use Rattle.definitions.specs.Lists.{upto, blocks, sum}
+use Rattle.definitions.specs.Lists.{blocks, sum}
 use Rattle.definitions.specs.Text.{Bytes, largest, decimal, valueLine, small}
 use Rattle.definitions.specs.Presentation.{Row, pairsOf, pairs, pairNumber, rowValues}
 use Rattle.definitions.proofs.Rendering.{rowFormed, valueLine-unique, flatMap-cons, flatMap-nil}
 use Rattle.numbers.proofs.Bools.{and-left, and-right, and-intro}
-use Rattle.numbers.proofs.Lists.{length-upto, sum-ext}
+use Rattle.numbers.proofs.Lists.{sum-ext}
 use Rattle.numbers.proofs.Blocks.{getD-blocks, getD-table}
-use Rattle.group.proofs.Pairs.{pairNumber-power, pairNumber-commutator}
+use Rattle.group.proofs.Pairs.{length-pairsOf, pairNumber-power, pairNumber-commutator}
 use Rattle.text.specs.Reading.{Ends, trail}
 use Rattle.text.proofs.Trail.{trail-cons, valueLine-trail, ends-trail}
 use Rattle.presentation.specs.Lines.{headText, HeadLine, NoHead, WordLine, NoWord}
@@ -31,10 +31,6 @@ use Rattle.presentation.specs.Rows.{noRow, rowText}
 use Rattle.presentation.proofs.Heads.{head-text, head-known}
 
 -- ---- Pairs
-
-length-pairsOf : (j : ℕ) → length (pairsOf j) ≡ suc j
-unfolding pairsOf
-length-pairsOf j = ap suc (length-map (upto j) (λ i. (j, i)) ∙ length-upto j)
 
 pair-within : (n j k : ℕ) → j < n → k < suc j → getD (pairs n) (sum j suc + k) (0, 0) ≡ getD (pairsOf j) k (0, 0)
 unfolding pairs

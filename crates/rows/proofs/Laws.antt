@@ -2,6 +2,7 @@
 --
 --   same-none, same-more, same-differs    the comparison of two rows from the top down
 --   zeros, empty-is                the row of zeros; a row that is compared with it
+--   single-row                     the row of an exponent of one generator
 --   generator-row, generator-is    the row of a generator, and the normal form that it says
 --   small-below, ready-below, reads-below    what holds of m generators holds of fewer
 --   prime-fits                     sums of two exponents fit 32 bits
@@ -26,17 +27,20 @@ use Rattle.numbers.proofs.Bools.{cond-eq, cond-ne}
 use Rattle.numbers.proofs.Lists.{below-suc}
 use Rattle.group.specs.Context.{Context}
 use Rattle.group.proofs.Rows.{toNF-trivial, toNF-valid, valid-get}
-use Rattle.rows.specs.Rows.{Small, Ready, Reads, Generator}
+use Rattle.rows.specs.Rows.{Small, Ready, Reads, Generator, Single}
 
 -- ---- Rows that say one form
 
-same-suc : (k : ℕ) (x y : List ℕ) (b : Bool) → eqb (getD x k 0) (getD y k 0) ≡ b → sameForm (suc k) (toNF (suc k) x) (toNF (suc k) y) ≡ (b && sameForm k (toNF k x) (toNF k y))
+same-suc : (k : ℕ) (x y : List ℕ) (b : Bool) → eqb (getD x k 0) (getD y k 0) ≡ b
+    → sameForm (suc k) (toNF (suc k) x) (toNF (suc k) y) ≡ (b && sameForm k (toNF k x) (toNF k y))
 unfolding sameForm toNF
 same-suc k x y b q = ap (λ t. t && sameForm k (toNF k x) (toNF k y)) q
 
-pub same-more : (k : ℕ) (x y : List ℕ) → 0 < k → getD x (k - 1) 0 ≡ getD y (k - 1) 0 → sameForm k (toNF k x) (toNF k y) ≡ sameForm (k - 1) (toNF (k - 1) x) (toNF (k - 1) y)
+pub same-more : (k : ℕ) (x y : List ℕ) → 0 < k → getD x (k - 1) 0 ≡ getD y (k - 1) 0
+    → sameForm k (toNF k x) (toNF k y) ≡ sameForm (k - 1) (toNF (k - 1) x) (toNF (k - 1) y)
 same-more k x y l q = let e : suc (k - 1) ≡ k = omega arith in
-    subst (λ m. sameForm m (toNF m x) (toNF m y) ≡ sameForm (k - 1) (toNF (k - 1) x) (toNF (k - 1) y)) e (same-suc (k - 1) x y true (eq-eqb (getD x (k - 1) 0) (getD y (k - 1) 0) q))
+    subst (λ m. sameForm m (toNF m x) (toNF m y) ≡ sameForm (k - 1) (toNF (k - 1) x) (toNF (k - 1) y)) e
+    (same-suc (k - 1) x y true (eq-eqb (getD x (k - 1) 0) (getD y (k - 1) 0) q))
 
 pub same-differs : (k : ℕ) (x y : List ℕ) → 0 < k → getD x (k - 1) 0 ≢ getD y (k - 1) 0 → sameForm k (toNF k x) (toNF k y) ≡ false
 same-differs k x y l q = let e : suc (k - 1) ≡ k = omega arith in
@@ -55,12 +59,21 @@ zeros m = go (decLt m maxGenerators)
     go (yes l) = getD-replicate maxGenerators m 0 0 l
     go (no l) = List·getD-eq-default (replicate maxGenerators 0) 0 {n = m} (omega (arith, length-replicate {A = ℕ} maxGenerators 0))
 
+pub single-row : (k a : ℕ) → k < maxGenerators → Single k a (set (replicate maxGenerators 0) k a)
+single-row k a l = record {
+  at = getD-set-same (replicate maxGenerators 0) k a 0 (omega (arith, length-replicate {A = ℕ} maxGenerators 0));
+  rest = λ m q. getD-set-other (replicate maxGenerators 0) k m a 0 q ∙ zeros m;
+}
+
 pub generator-row : (k : ℕ) → k < maxGenerators → Generator k (set (replicate maxGenerators 0) k 1)
 generator-row k l = record { at = λ m. go m (ℕ-discrete m k) }
   where
-    go : (m : ℕ) → Dec (m ≡ k) → _≡_ {A = ℕ} (getD (set (replicate maxGenerators 0) k 1) m 0) (cond (eqb m k) 1 0)
-    go m (yes q) = ap (λ t. getD {A = ℕ} (set (replicate maxGenerators 0) k 1) t 0) q ∙ getD-set-same (replicate maxGenerators 0) k 1 0 (omega (arith, length-replicate {A = ℕ} maxGenerators 0)) ∙ sym (cond-eq m k 1 0 q)
-    go m (no q) = getD-set-other (replicate maxGenerators 0) k m 1 0 q ∙ zeros m ∙ sym (cond-ne m k 1 0 q)
+    row : List ℕ
+    row = set (replicate maxGenerators 0) k 1
+
+    go : (m : ℕ) → Dec (m ≡ k) → getD row m 0 ≡ cond (eqb m k) 1 0
+    go m (yes q) = ap (λ t. getD row t 0) q ∙ single-row k 1 l .at ∙ sym (cond-eq m k 1 0 q)
+    go m (no q) = single-row k 1 l .rest m q ∙ sym (cond-ne m k 1 0 q)
 
 pub generator-is : (i k : ℕ) (r : List ℕ) → Generator k r → toNF i r ≡ generator i k
 unfolding generator toNF
@@ -68,7 +81,9 @@ generator-is zero k r g = refl
 generator-is (suc i) k r g = go (generator-is i k r g) (ℕ-discrete k i)
   where
     go : toNF i r ≡ generator i k → Dec (k ≡ i) → toNF (suc i) r ≡ generator (suc i) k
-    go h (yes q) = ap₂ (λ s t. (s, t)) (g .at i ∙ cond-eq i k 1 0 (sym q)) (toNF-trivial i r (λ m l. g .at m ∙ cond-ne m k 1 0 (λ e. omega arith))) ∙ sym (cond-eq k i (1, trivial i) (0, generator i k) q)
+    go h (yes q) =
+        ap₂ (λ s t. (s, t)) (g .at i ∙ cond-eq i k 1 0 (sym q)) (toNF-trivial i r (λ m l. g .at m ∙ cond-ne m k 1 0 (λ e. omega arith)))
+        ∙ sym (cond-eq k i (1, trivial i) (0, generator i k) q)
     go h (no q) = ap₂ (λ s t. (s, t)) (g .at i ∙ cond-ne i k 1 0 (λ e. q (sym e))) h ∙ sym (cond-ne k i (1, trivial i) (0, generator i k) q)
 
 pub empty-is : (i : ℕ) (x : List ℕ) → sameForm i (toNF i x) (toNF i (replicate maxGenerators 0)) ≡ sameForm i (toNF i x) (trivial i)
@@ -126,16 +141,23 @@ small-generator k m ps ws g r h = record { below = λ i l. go i l (ℕ-discrete 
 pub reads-small : (C : Context) (m : ℕ) (ps : List ℕ) (ws : List (List ℕ)) → Reads (C .P) m ps ws → (j i : ℕ) → i ≤ j → j < m
     → Small m ps (getD ws (pairNumber j i) [])
 unfolding allowed
-reads-small C m ps ws r j i a b = record { below = λ k l. subst (λ p. getD (row i) k 0 < p) (sym (r .p-is k l)) (go k l (ℕ-discrete i j) (decLt k j) (decLt i k)) }
+reads-small C m ps ws r j i a b =
+    record { below = λ k l. subst (λ p. getD (row i) k 0 < p) (sym (r .p-is k l)) (go k l (ℕ-discrete i j) (decLt k j) (decLt i k)) }
   where
     row : ℕ → List ℕ
     row i = getD ws (pairNumber j i) []
+
+    power-valid : Valid (C .P) j (toNF j (row j))
+    power-valid = subst (Valid (C .P) j) (sym (r .u-is j b)) (C .u-valid j)
+
+    commutator-valid : i < j → Valid (C .P) (suc i) (toNF (suc i) (row i))
+    commutator-valid h = subst (Valid (C .P) (suc i)) (sym (r .w-is i j h b)) (C .w-valid i j)
 
     none : (k : ℕ) → k < m → allowed j i k ≡ false → getD (row i) k 0 < C .P .p k
     none k l e = omega (arith, r .rest j i k a b l e, C .two k)
 
     go : (k : ℕ) → k < m → Dec (i ≡ j) → Dec (k < j) → Dec (i < k) → getD (row i) k 0 < C .P .p k
-    go k l (yes q) (yes h) d = subst (λ i. getD (row i) k 0 < C .P .p k) (sym q) (valid-get (C .P) j (row j) (subst (Valid (C .P) j) (sym (r .u-is j b)) (C .u-valid j)) k h)
+    go k l (yes q) (yes h) d = subst (λ i. getD (row i) k 0 < C .P .p k) (sym q) (valid-get (C .P) j (row j) power-valid k h)
     go k l (yes q) (no h) d = none k l (cond-eq i j (ltb k j) (leb k i) q ∙ le-ltb k j (omega arith))
     go k l (no q) d (yes h) = none k l (cond-ne i j (ltb k j) (leb k i) q ∙ lt-leb k i h)
-    go k l (no q) d (no h) = valid-get (C .P) (suc i) (row i) (subst (Valid (C .P) (suc i)) (sym (r .w-is i j (omega arith) b)) (C .w-valid i j)) k (omega arith)
+    go k l (no q) d (no h) = valid-get (C .P) (suc i) (row i) (commutator-valid (omega arith)) k (omega arith)

@@ -6,19 +6,16 @@
 --   mixed-none, mixed-more, mixed-stacked    a row of two, one exponent more; the exponent between
 --   kept-all, kept-then, mixed-kept          what is left of a row: all; after two steps; after a copy
 --   kept-stacked, stored-kept     the same with a store
---   single-row                    the row of an exponent of one generator
 use mathlib.Core.Path.{_≡_, refl, sym, _∙_, subst}
 use mathlib.Core.List.{List}
 use Prim.Native.Nat.{ℕ, zero, suc, _+_, _-_, _≤_, _<_}
 use native.Mathlib.Numerals.{add-one}
 use native.Mathlib.Omega.{arith}
 use native.Mathlib.Decide.{decLt, ℕ-discrete}
-use lib.ListN.{length, getD, set, replicate, length-set, length-replicate}
+use lib.ListN.{length, getD, set, length-set}
 use lib.Seq.{getD-set-same, getD-set-other}
-use Rattle.definitions.specs.Presentation.{maxGenerators}
 use Rattle.numbers.proofs.Lists.{below-suc}
-use Rattle.rows.specs.Rows.{Top, Stacked, Mixed, Kept, Single}
-use Rattle.rows.proofs.Laws.{zeros}
+use Rattle.rows.specs.Rows.{Top, Stacked, Mixed, Kept}
 
 pub scan-more : (Q : ℕ → Type 0) (k i : ℕ) → 0 < k → Q (k - 1) → ((q : ℕ) → k ≤ q → q < i → Q q) → (q : ℕ) → k - 1 ≤ q → q < i → Q q
 scan-more Q k i l t rest q a b = go (ℕ-discrete q (k - 1))
@@ -51,7 +48,8 @@ mixed-none low high = record { long = refl; below = λ m l. absurd (omega arith)
 pub mixed-more : (low high : List ℕ) (q : ℕ) (r : List ℕ) → q < length r → Mixed low high q r → Mixed low high (q + 1) (set r q (getD low q 0))
 mixed-more low high q r l t = subst (λ n. Mixed low high n (set r q (getD low q 0))) (sym (add-one q)) (record {
   long = length-set r q (getD low q 0) ∙ t .long;
-  below = below-suc q (λ m. getD (set r q (getD low q 0)) m 0 ≡ getD low m 0) (λ m a. getD-set-other r q m _ 0 (omega arith) ∙ t .below m a) (getD-set-same r q _ 0 l);
+  below = below-suc q (λ m. getD (set r q (getD low q 0)) m 0 ≡ getD low m 0)
+      (λ m a. getD-set-other r q m _ 0 (omega arith) ∙ t .below m a) (getD-set-same r q _ 0 l);
   above = λ m a. getD-set-other r q m _ 0 (omega arith) ∙ t .above m (omega arith);
 })
 
@@ -81,6 +79,3 @@ kept-stacked k s x y l t = record {
 
 pub stored-kept : (k i s : ℕ) (x y : List ℕ) → k < i → Kept k x y → Kept i x (set y k s)
 stored-kept k i s x y l t = record { long = length-set y k s ∙ t .long; above = λ m a. getD-set-other y k m s 0 (omega arith) ∙ t .above m (omega arith) }
-
-pub single-row : (k a : ℕ) → k < maxGenerators → Single k a (set (replicate maxGenerators 0) k a)
-single-row k a l = record { at = getD-set-same (replicate maxGenerators 0) k a 0 (omega (arith, length-replicate {A = ℕ} maxGenerators 0)); rest = λ m q. getD-set-other (replicate maxGenerators 0) k m a 0 q ∙ zeros m }

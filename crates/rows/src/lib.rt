@@ -19,7 +19,7 @@ ghost use Rattle.definitions.specs.Presentation.{maxGenerators, pairCount, toNF
 ghost use Rattle.definitions.specs.Consistency.{sameForm};
 ghost use Rattle.rows.specs.Rows.{Generator, Top, Stacked, Mixed};
 
-// These four equal maxGenerators, pairCount and maxOrder of the definitions.
+// These equal maxGenerators, pairCount and maxOrder of the definitions.
 pub const GENERATORS: usize = 12;
 
 pub const PAIRS: usize = 78;

@@ -15,7 +15,8 @@ use Rattle.rows.proofs.Parts.{kept-all, mixed-kept}
 use Rattle.commuting.specs.Commuting.{Moved, Reach}
 use Rattle.commuting.proofs.Skips.{quiet-below, moved-reach}
 use Rattle.collector.specs.Products.{Product, Power}
-use Rattle.collector.proofs.Steps.{Turning, turning-start, turning-more, turned-done, turned-fixed, turned-same, product-same, product-left, product-none}
+use Rattle.collector.proofs.Steps.{Turning, turning-start, turning-more, turned-done, turned-fixed, turned-same}
+use Rattle.collector.proofs.Steps.{product-same, product-left, product-none}
 use Rattle.collector.proofs.Steps.{multiply-top, multiply-low, multiply-high, powering-start, powering-more, power-once, power-single}
 use Rattle.collector.proofs.Steps.{conjugate-none, commutator-small, image-low, image-high, conjugate-moves-at, lower-small-at}
 use borrow.Fn.Kinds.{In}
@@ -423,7 +424,8 @@ image-add-s t c =
     let w = c .word in
     let few : suc j ≤ maxGenerators = z .pre .1 .0 .few in
     let long : length (w .result) ≡ maxGenerators = search needs in
-    omega (arith, commutator-small j l ps ws (w .result) lj (z .pre .1 .0) (w .ensures) .below l (omega arith), prime-fits (suc j) ps ws (z .pre .1 .0) l (omega arith))
+    let small = commutator-small j l ps ws (w .result) lj (z .pre .1 .0) (w .ensures) in
+    omega (arith, small .below l (omega arith), prime-fits (suc j) ps ws (z .pre .1 .0) l (omega arith))
 
 image-mul-p : (t : ℕ) → image-lts.Need-mul-p (image-claims t) (image-at t) image.Post
 image-mul-p t c = search needs

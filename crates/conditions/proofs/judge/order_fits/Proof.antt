@@ -33,10 +33,11 @@ mul-order c =
 
 returns : tie.Need-returns Inv-loop μ-loop
 returns c =
-    let pre = c .before .before .before .before .before .pre in
+    let z = c .before .before .before .before .before in
     let loop = c .before .before .before .before .loop in
-    let a = c .before .before .before .before .before .args in
-    sym (order-exceeds (a .primes .now) (loop .j + 1) (a .n) (loop .order * c .before .wide .result) (omega arith) (pre .1) (product-turn (a .primes .now) (loop .j) (loop .order) (c .before .wide .result) (loop .inv .0) (c .before .wide .ensures .0)) (omega arith))
+    let next = c .before .wide in
+    let turn = product-turn (z .args .primes .now) (loop .j) (loop .order) (next .result) (loop .inv .0) (next .ensures .0) in
+    sym (order-exceeds (z .args .primes .now) (loop .j + 1) (z .args .n) (loop .order * next .result) (omega arith) (z .pre .1) turn (omega arith))
 
 add-j : tie.Need-add-j Inv-loop μ-loop
 add-j c = omega arith

@@ -1,14 +1,13 @@
 -- The order so far is the product of the primes so far, and the elements are those of the levels so far.
 use mathlib.Core.Path.{_≡_, refl, sym, ap, _∙_}
 use Prim.Native.Nat.{suc, _+_, _*_, _-_, _≤_}
-use native.Mathlib.Nat.{mul-le-mul}
 use native.Mathlib.Omega.{arith}
 use lib.ListN.{getD}
 use Rattle.definitions.specs.Lists.{sum}
 use Rattle.definitions.specs.Presentation.{maxGenerators, maxOrder, lineWords}
 use Rattle.numbers.proofs.Sums.{sum-zero}
 use Rattle.conditions.specs.Conditions.{product}
-use Rattle.conditions.proofs.Conditions.{product-zero, product-turn, elements-turn}
+use Rattle.conditions.proofs.Conditions.{product-zero, product-turn, elements-turn, words-fit}
 use Rattle.conditions.proofs.size.measure.Statement.{statement}
 use Rattle.conditions.proofs.size.measure.Tie as tie
 
@@ -62,20 +61,10 @@ cast-t11 : tie.Need-cast-t11 Inv-loop μ-loop
 cast-t11 c = omega arith
 
 mul-t12 : tie.Need-mul-t12 Inv-loop μ-loop
-mul-t12 c =
-    let z = c .before .before in
-    let l = c .before .loop in
-    let b : l .elements ≤ maxGenerators * maxOrder = omega (arith, mul-le-mul {n₁ = l .j} {m₁ = maxOrder} {n₂ = maxGenerators} {m₂ = maxOrder} (omega arith) (omega arith)) in
-    let few = mul-le-mul {n₁ = z .args .n} {m₁ = l .elements} {n₂ = maxGenerators} {m₂ = maxGenerators * maxOrder} (omega arith) b in
-    omega arith
+mul-t12 c = let l = c .before .loop in omega (arith, words-fit (c .before .before .args .n) (l .j) (l .elements) (omega arith) (omega arith) (omega arith))
 
 mul-t13 : tie.Need-mul-t13 Inv-loop μ-loop
-mul-t13 c =
-    let z = c .before .before in
-    let l = c .before .loop in
-    let b : l .elements ≤ maxGenerators * maxOrder = omega (arith, mul-le-mul {n₁ = l .j} {m₁ = maxOrder} {n₂ = maxGenerators} {m₂ = maxOrder} (omega arith) (omega arith)) in
-    let few = mul-le-mul {n₁ = z .args .n} {m₁ = l .elements} {n₂ = maxGenerators} {m₂ = maxGenerators * maxOrder} (omega arith) b in
-    omega arith
+mul-t13 c = let l = c .before .loop in omega (arith, words-fit (c .before .before .args .n) (l .j) (l .elements) (omega arith) (omega arith) (omega arith))
 
 returns : tie.Need-returns Inv-loop μ-loop
 unfolding lineWords
