@@ -1,0 +1,3 @@
+-- The heads of a table's lines, in order and walked.
+pub mod Heads
+pub mod Walk
