@@ -2,7 +2,8 @@
 --
 --   Walking l i r                    what is left to walk from here says what the whole walk says
 --   going-none, going-more, going-fails, going-ends     the steps of the loop
---   heads-headed, heads-degrees    a table that passes has its heads in order, and degrees that are positive and bounded
+--   heads-whole, heads-headed, heads-complete, heads-degrees     a table that passes has whole lines and its heads in order, is
+--                                  complete, and has degrees that are positive and bounded
 --   heads-all                      a complete table with bounded degrees passes
 use mathlib.Core.Path.{_≡_, refl, sym, _∙_, subst}
 use mathlib.Core.Bool.{Bool, true, false, _&&_}
@@ -61,10 +62,14 @@ module _ (n : ℕ) (T : List ℕ) (ord : ℕ → ℕ) where
   abbrev walked : Bool
   walked = walkFrom n T ord (lineCount T) 0 1 0
 
+  pub heads-whole : headsOk n T ord ≡ true → eqb (length T % lineWords) 0 ≡ true
+  unfolding headsOk
+  heads-whole h = and-left whole walked h
+
   whole-lines : headsOk n T ord ≡ true → length T ≡ lineWords * lineCount T
-  unfolding headsOk lineCount lineWords
+  unfolding lineCount lineWords
   whole-lines h =
-      let e = eqb-true (length T % lineWords) 0 (and-left whole walked h) in
+      let e = eqb-true (length T % lineWords) 0 (heads-whole h) in
       omega (arith, e, div-add-mod' (length T) 8)
 
   module _ (positive : 0 < n) where

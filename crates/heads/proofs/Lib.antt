@@ -4,3 +4,4 @@ pub mod Headed
 pub mod Complete
 pub mod Walk
 pub mod Going
+pub mod Form
