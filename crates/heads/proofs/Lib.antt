@@ -5,3 +5,4 @@ pub mod Complete
 pub mod Walk
 pub mod Going
 pub mod Form
+pub mod Order

@@ -2,3 +2,4 @@
 pub mod Heads
 pub mod Walk
 pub mod Form
+pub mod Order
