@@ -21,7 +21,7 @@ use Rattle.definitions.specs.Table.{wordAt, lineCount, firstLine, levelAt, comp
 use Rattle.numbers.proofs.Bools.{or-left, or-right, and-intro}
 use Rattle.heads.specs.Heads.{LineHead, firstFrom, baseOf, Headed}
 use Rattle.heads.specs.Order.{before, Split}
-use Rattle.heads.proofs.Positions.{first-zero, first-suc, base-suc, Position, position}
+use Rattle.heads.proofs.Positions.{first-zero, first-suc, base-suc, position}
 use Rattle.heads.proofs.Headed.{headed-count, headed-degree, headed-first}
 use Rattle.heads.proofs.Complete.{complete-headed}
 
