@@ -17,6 +17,7 @@ pub mod Standing
 pub mod Lines
 pub mod Agreement
 pub mod Separates
+pub mod Everywhere
 pub mod Judged
 pub mod Cuts
 pub mod Theorem

@@ -39,7 +39,7 @@ use Rattle.clifford.proofs.Agreement.{agree-stands, agree-restricts, ag
 use Rattle.clifford.proofs.Judged.{relations-hold, intertwiners-hold, separates-hold, squares-hold, valid-holds, listed-holds}
 use Rattle.clifford.proofs.Cuts.{blocks-whole, blocks-restrict}
 
-same-self : (xs : List ℕ) → same xs xs ≡ true
+pub same-self : (xs : List ℕ) → same xs xs ≡ true
 unfolding same
 same-self [] = refl
 same-self (x ∷ xs) = and-intro _ _ (eq-eqb x x refl) (same-self xs)

@@ -4,9 +4,10 @@
 --   or-cases                            a || b is true: one of the two is
 --   or-left, or-right                   a || b is true if one of the two is
 --   or-false-left, or-false-right       a || b is false: both are
+--   same-test                           two tests that pass together are one
 --   cond-true, cond-false               a choice by a test that is known
 --   cond-lt, cond-ge, cond-eq, cond-ne  a choice by a comparison of numbers
-use mathlib.Core.Path.{_≡_, refl, ap}
+use mathlib.Core.Path.{_≡_, refl, sym, ap}
 use mathlib.Core.Bool.{Bool, true, false, _&&_, _||_, cond, true≢false, false≢true}
 use mathlib.Core.Logic.{_≢_}
 use Prim.Native.Nat.{ℕ, _≤_, _<_}
@@ -48,6 +49,11 @@ or-false-left false b h = refl
 pub or-false-right : (a b : Bool) → a || b ≡ false → b ≡ false
 or-false-right true b h = absurd (true≢false h)
 or-false-right false b h = h
+
+pub same-test : (a b : Bool) → (a ≡ true → b ≡ true) → (b ≡ true → a ≡ true) → a ≡ b
+same-test true b f g = sym (f refl)
+same-test false true f g = absurd (false≢true (g refl))
+same-test false false f g = refl
 
 pub cond-true : {A : Type 0} (b : Bool) (x y : A) → b ≡ true → cond b x y ≡ x
 cond-true b x y h = ap (λ t. cond t x y) h

@@ -3,6 +3,7 @@
 --   below-suc                         a number below suc i is below i, or i
 --   allBelow-elim, allBelow-intro     a test of every number below n, and what it says
 --   allBelow-fails                    a test that fails at one number
+--   allBelow-below                    two tests that agree below n
 --   all-getD                          a test of every element, at an index
 --   iter-zero, iter-suc, iter-add     iterates, their clauses and their sum
 --   iter-map, iter-op, iter-fix       iterates under a map, of a product, at a fixed point
@@ -45,6 +46,11 @@ unfolding allBelow
 allBelow-fails zero q k l h = absurd (omega arith)
 allBelow-fails (suc n) q k l h = below-suc n (λ k. q k ≡ false → allBelow n q && q n ≡ false)
     (λ k a e. ap (λ t. t && q n) (allBelow-fails n q k a e)) (λ e. ap (λ t. allBelow n q && t) e ∙ and-false (allBelow n q)) k l h
+
+pub allBelow-below : (n : ℕ) (q q′ : ℕ → Bool) → ((k : ℕ) → k < n → q k ≡ q′ k) → allBelow n q ≡ allBelow n q′
+unfolding allBelow
+allBelow-below zero q q′ h = refl
+allBelow-below (suc n) q q′ h = ap₂ (_&&_) (allBelow-below n q q′ (λ k l. h k (omega arith))) (h n (omega arith))
 
 pub all-getD : {A : Type 0} (q : A → Bool) (xs : List A) (d : A) → all q xs ≡ true → (k : ℕ) → k < length xs → q (getD xs k d) ≡ true
 unfolding all

@@ -1,0 +1,1 @@
+// One column moved through products of matrices. Definitions and theorems only.

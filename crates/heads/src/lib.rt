@@ -1,0 +1,1 @@
+// The heads of a table's lines. Definitions and theorems only.
