@@ -13,7 +13,7 @@ use Rattle.definitions.specs.Steps.{levels}
 use Rattle.formulas.specs.Formulas.{levelBy}
 use Rattle.clifford.specs.Accepted.{Accepted}
 use Rattle.closed.proofs.Table.{level-told}
-use Rattle.lines.specs.Lines.{matrixIn}
+use Rattle.level.specs.Stored.{matrixIn}
 use Rattle.survey.specs.declared.Frame.{Frame}
 use Rattle.survey.specs.Below.{Rows, sourceIn, degOf, matrixOf, targetOf}
 use Rattle.assembly.specs.Built.{upTo, frameAt, Placed, Told}

@@ -30,16 +30,16 @@ module _ (R : Relations) (formed : wellFormed R ≡ true) (primes : someNotPrime
   same : A .C .P ≡ presentation R
   same = accepted-is R formed primes used consistent
 
-  few : tooLarge R ≡ false → presentation R .n ≤ 12
-  unfolding tooLarge maxGenerators presentation
-  few h = ltb-false 12 (R .n) (or-false-left (ltb 12 (R .n)) _ h)
+  few : tooLarge R ≡ false → presentation R .n ≤ maxGenerators
+  unfolding tooLarge presentation
+  few h = ltb-false maxGenerators (R .n) (or-false-left (ltb maxGenerators (R .n)) _ h)
 
-  low : tooLarge R ≡ false → order (presentation R) (presentation R .n) ≤ 4096
-  unfolding tooLarge maxOrder presentation
-  low h = ltb-false 4096 _ (or-false-right (ltb maxGenerators (R .n)) _ h)
+  low : tooLarge R ≡ false → order (presentation R) (presentation R .n) ≤ maxOrder
+  unfolding tooLarge presentation
+  low h = ltb-false maxOrder _ (or-false-right (ltb maxGenerators (R .n)) _ h)
 
   pub small : tooLarge R ≡ false → Small (accepted R formed primes used consistent)
-  small h = record { few = subst (λ P. P .n ≤ 12) (sym same) (few h); low = subst (λ P. order P (P .n) ≤ 4096) (sym same) (low h) }
+  small h = record { few = subst (λ P. P .n ≤ maxGenerators) (sym same) (few h); low = subst (λ P. order P (P .n) ≤ maxOrder) (sym same) (low h) }
 
   -- ---- Rows
 

@@ -8,14 +8,15 @@ ghost use lib.Dec.{eqb};
 ghost use Rattle.definitions.specs.Lists.{iter, blocks};
 ghost use Rattle.definitions.specs.Monomial.{entry, act};
 ghost use Rattle.definitions.specs.Table.{repWords};
-ghost use Rattle.definitions.specs.Presentation.{toNF, pairNumber};
+ghost use Rattle.definitions.specs.Presentation.{maxGenerators, maxOrder, maxModulus, toNF, pairNumber};
 ghost use Rattle.formulas.specs.Formulas.{walk, plus, landing, shift, start, extensionAt};
 ghost use Rattle.text.specs.Writing.{Wrote};
-ghost use Rattle.lines.specs.Lines.{Below};
+ghost use Rattle.level.specs.Stored.{Below};
 ghost use Rattle.survey.specs.Below.{firstOf, degOf, targetOf, sourceIn, Stands, Rows, Array, Leading, Fixing, Lines};
 ghost use Rattle.extend.specs.Extending.{conjugatedIn, referenceOf, Ready, Extends, matrixWords, extensionsWords};
 use definitions::Entry;
 use lines::Head;
+use rows::GENERATORS;
 use rows::Row;
 use rows::Words;
 use survey::Frame;
@@ -27,7 +28,7 @@ pub fn moved(low: &[u32], first: &[u32], f: Frame, g: u32, r: u32, x: Entry) -> 
 {
     let d = survey::degree(low, first, f, r);
     let at = survey::matrix_line(low, first, f, g, r);
-    lines::apply(low, at, d, x, f.m)
+    level::apply(low, at, d, x, f.m)
 }
 
 // The generator on top of representation r, times the c-th power of the root, on an entry.
@@ -38,7 +39,7 @@ pub fn scaled(low: &[u32], first: &[u32], f: Frame, r: u32, c: u32, x: Entry) ->
     let y = moved(low, first, f, f.top, r, x);
     Entry {
         row: y.row,
-        exp: lines::add_mod(y.exp, c, f.m),
+        exp: level::add_mod(y.exp, c, f.m),
     }
 }
 
@@ -61,8 +62,8 @@ pub fn walked(low: &[u32], first: &[u32], w: &Row, f: Frame, r: u32) -> Entry
 {
     let s = survey::matrix_line(low, first, f, 0, r);
     let d = survey::degree(low, first, f, r);
-    let t = lines::up(f.top);
-    lines::apply_word(low, s, d, w, t, Entry { row: 0, exp: 0 }, f.m)
+    let t = level::up(f.top);
+    level::apply_word(low, s, d, w, t, Entry { row: 0, exp: 0 }, f.m)
 }
 
 // Column 0 of representation r moved by j⁻¹ g j in extension 0, g the generator on top: by the word w of the two, the
@@ -72,7 +73,7 @@ pub fn conjugated(low: &[u32], first: &[u32], w: &Row, f: Frame, r: u32, c: u32)
     ensures { λ y. ⌜ (y ≡ conjugatedIn f (now (low .entry)) (now (w .entry)) r c) × Below (f .m) (degOf f (now (low .entry)) r) y ⌝ }
 {
     let x = walked(low, first, w, f, r);
-    let t = lines::up(f.top);
+    let t = level::up(f.top);
     let k = w[t];
     scaled_times(low, first, f, r, c, k + 1, x)
 }
@@ -108,14 +109,14 @@ pub fn landing(
     requires { ⌜ Stands f (now low) × Lines f (now low) (now first) × Rows f (now low) (now rows) × Leading f (now low) (now shifts) (shift (sourceIn f (now low) (now rows))) × (r < f .reps) × (f .top < j) × (j < f .gens) × (targetOf f (now low) (f .top) r ≡ r) × Fixing f (now low) ⌝ }
     ensures { λ x. ⌜ (x ≡ landing (sourceIn f (now (low .entry)) (now (rows .entry))) j r) × (x ≤ f .m) ⌝ }
 {
-    let w = rows::word(rows, lines::up(j), lines::up(f.top));
+    let w = rows::word(rows, level::up(j), level::up(f.top));
     let c = root(shifts, f, r);
     let x = conjugated(low, first, &w, f, r, c);
     let y = moved(low, first, f, j, r, x);
     let q = survey::target(low, first, f, j, r);
     let b = root(shifts, f, q);
     let e = right(low, first, f, j, r, q, b);
-    lines::sub_mod(y.exp, e, f.m) / (f.m / f.p)
+    level::sub_mod(y.exp, e, f.m) / (f.m / f.p)
 }
 
 // What the extensions of a representation are copied from: its first line, its degree, the constant of extension 0, and
@@ -133,7 +134,7 @@ pub fn find_origin(low: &[u32], first: &[u32], shifts: &[u32], f: Frame, r: u32)
     ensures { λ o. ⌜ (o .line ≡ firstOf f (now (low .entry)) r) × (o .deg ≡ degOf f (now (low .entry)) r) × (o .root ≡ getD (now (shifts .entry)) r 0 / f .p) × (o .step ≡ f .m / f .p) ⌝ }
 {
     Origin {
-        line: lines::up(survey::element(first, r)),
+        line: level::up(survey::element(first, r)),
         deg: survey::degree(low, first, f, r),
         root: root(shifts, f, r),
         step: f.m / f.p,
@@ -142,7 +143,7 @@ pub fn find_origin(low: &[u32], first: &[u32], shifts: &[u32], f: Frame, r: u32)
 
 // The constant of generator g in extension k.
 pub fn factor(f: Frame, o: Origin, g: u32, k: u32) -> u32
-    requires { ⌜ (f .m ≤ 16384) × (o .root + k * o .step < f .m) ⌝ }
+    requires { ⌜ (f .m ≤ maxModulus) × (o .root + k * o .step < f .m) ⌝ }
     ensures { λ c. ⌜ (c ≡ cond (eqb g (f .top)) (o .root + k * o .step) 0) × (c < f .m) ⌝ }
 {
     if g == f.top {
@@ -152,24 +153,16 @@ pub fn factor(f: Frame, o: Origin, g: u32, k: u32) -> u32
 }
 
 // The reference of generator g in extension k.
-pub fn reference(
-    rows: &Words,
-    to: &[u32],
-    by: &[u32],
-    f: Frame,
-    r: u32,
-    g: u32,
-    k: u32,
-) -> u32
-    requires { ⌜ (f .gens ≤ 12) × (f .top < f .gens) × (g < f .gens) × (f .gens ≤ length (now to)) × (f .gens ≤ length (now by)) × (0 < f .p) × (f .p ≤ 16384) × (k < f .p) ⌝ }
-    requires { ⌜ ((f .top < g) → (getD (now to) g 0 ≤ 268435456) × (getD (now by) g 0 ≤ 16384) × (getD (getD (now rows) (pairNumber g (f .top)) []) (f .top) 0 < f .p)) ⌝ }
+pub fn reference(rows: &Words, to: &[u32], by: &[u32], f: Frame, r: u32, g: u32, k: u32) -> u32
+    requires { ⌜ (f .gens ≤ maxGenerators) × (f .top < f .gens) × (g < f .gens) × (f .gens ≤ length (now to)) × (f .gens ≤ length (now by)) × (0 < f .p) × (f .p ≤ maxOrder) × (k < f .p) ⌝ }
+    requires { ⌜ ((f .top < g) → (getD (now to) g 0 ≤ 268435456) × (getD (now by) g 0 ≤ maxModulus) × (getD (getD (now rows) (pairNumber g (f .top)) []) (f .top) 0 < f .p)) ⌝ }
     ensures { λ x. ⌜ x ≡ referenceOf f (now (rows .entry)) (now (to .entry)) (now (by .entry)) r g k ⌝ }
 {
     if g <= f.top {
         return r;
     }
-    let w = rows::word(rows, lines::up(g), lines::up(f.top));
-    let t = lines::up(f.top);
+    let w = rows::word(rows, level::up(g), level::up(f.top));
+    let t = level::up(f.top);
     let a = w[t] + 1;
     let l = survey::element(by, g);
     survey::element(to, g) + (l + k * a) % f.p
@@ -371,8 +364,8 @@ pub fn append_extensions(
     ensures { λ x. ⌜ Wrote (now (words .entry)) (8 * at) (extensionsWords f (take (8 * f .end) (now (words .entry))) (now (rows .entry)) (start (sourceIn f (take (8 * f .end) (now (words .entry))) (now (rows .entry))) r) r) (now (words .exit)) (8 * x) ⌝ }
 {
     let n = 8 * f.end;
-    let mut to = [0u32; 12];
-    let mut by = [0u32; 12];
+    let mut to = [0u32; GENERATORS];
+    let mut by = [0u32; GENERATORS];
     find_targets(
         &words[..n],
         first,

@@ -20,7 +20,7 @@ use Rattle.definitions.specs.Monomial.{entry, act}
 use Rattle.numbers.proofs.Lists.{iter-zero}
 use Rattle.formulas.specs.Formulas.{Source, plus, walk, shift}
 use Rattle.formulas.specs.Formulas as Fm
-use Rattle.lines.proofs.Laws.{iter-next}
+use Rattle.level.proofs.Laws.{iter-next}
 use Rattle.survey.specs.declared.Frame.{Frame}
 use Rattle.survey.specs.Below.{degOf, targetOf, sourceIn, leaderIn, positionIn, Stands}
 use Rattle.survey.proofs.Marking.{orbit-inside, lead-below, lead-lead}

@@ -6,10 +6,10 @@ ghost use mathlib.Core.Bool.{cond};
 ghost use lib.ListN.{length, getD, take};
 ghost use lib.Dec.{ltb, leb};
 ghost use Rattle.definitions.specs.Lists.{iter, blocks};
-ghost use Rattle.definitions.specs.Presentation.{pairNumber};
+ghost use Rattle.definitions.specs.Presentation.{maxOrder, pairNumber};
 ghost use Rattle.definitions.specs.Monomial.{entry, act};
 ghost use Rattle.formulas.specs.Formulas.{shift, start, leader, cycleEntry, conjugateEntry, blockTo, inductionAt};
-ghost use Rattle.lines.specs.Lines.{Below};
+ghost use Rattle.level.specs.Stored.{Below};
 ghost use Rattle.survey.specs.Below.{degOf, targetOf, sourceIn, Stands, Lines};
 ghost use Rattle.induce.specs.Inducing.{OrbitArray, Inducing, BlockScalars, Held, Cycled, Righting, rightIn, NextScalar, Surveyed, Writing, factorIn, referenceIn, partWords, partsIn, staysIn, generatorWords};
 ghost use Rattle.survey.specs.Below.{positionIn, leaderIn, Array};
@@ -56,7 +56,7 @@ pub fn cycle(low: &[u32], first: &[u32], orbit: &[u32], f: Frame, c: u32, r: u32
         block: 0,
         x: Entry {
             row: y.row,
-            exp: lines::add_mod(y.exp, c, f.m),
+            exp: level::add_mod(y.exp, c, f.m),
         },
     }
 }
@@ -98,7 +98,7 @@ pub fn conjugate(
 {
     let q = survey::element(orbit, b);
     let x = extend::walked(low, first, w, f, q);
-    let t = lines::up(f.top);
+    let t = level::up(f.top);
     let k = w[t];
     cycle_times(low, first, orbit, f, c, r, k + 1, Moved { block: b, x: x })
 }
@@ -116,7 +116,7 @@ pub fn left(low: &[u32], first: &[u32], orbit: &[u32], f: Frame, j: u32, r: u32,
 
 // The constant of the generator on top behind representation q of an orbit: 0, and at the end of the orbit what closes it.
 pub fn constant(leaders: &[u32], places: &[u32], shifts: &[u32], f: Frame, q: u32) -> u32
-    requires { ⌜ (q < length (now places)) × (q < length (now leaders)) × (getD (now leaders) q 0 < length (now shifts)) × (0 < f .m) × (getD (now places) q 0 ≤ 16384) × (getD (now shifts) (getD (now leaders) q 0) 0 < f .m) ⌝ }
+    requires { ⌜ (q < length (now places)) × (q < length (now leaders)) × (getD (now leaders) q 0 < length (now shifts)) × (0 < f .m) × (getD (now places) q 0 ≤ maxOrder) × (getD (now shifts) (getD (now leaders) q 0) 0 < f .m) ⌝ }
     ensures { λ c. ⌜ (c ≡ cond (ltb (suc (getD (now (places .entry)) q 0)) (f .p)) 0 (getD (now (shifts .entry)) (getD (now (leaders .entry)) q 0) 0)) × (c < f .m) ⌝ }
 {
     let b = survey::element(places, q);
@@ -171,15 +171,15 @@ pub fn next_scalar(
     requires { ⌜ Inducing f (now low) (now rows) (now first) (now leaders) (now places) (now shifts) (now orbit) r × (f .top < j) × (j < f .gens) × (s .block < f .p) × (s .exp < f .m) ⌝ }
     ensures { λ t. ⌜ NextScalar f (now (low .entry)) (now (rows .entry)) j r s t ⌝ }
 {
-    let w = rows::word(rows, lines::up(j), lines::up(f.top));
+    let w = rows::word(rows, level::up(j), level::up(f.top));
     let c = survey::element(shifts, r);
     let a = conjugate(low, first, orbit, &w, f, c, r, s.block);
     let l = left(low, first, orbit, f, j, r, a);
     let y = right(low, first, leaders, places, shifts, orbit, f, j, s.block);
-    let e = lines::add_mod(s.exp, y, f.m);
+    let e = level::add_mod(s.exp, y, f.m);
     Scaled {
         block: a.block,
-        exp: lines::sub_mod(e, l, f.m),
+        exp: level::sub_mod(e, l, f.m),
     }
 }
 
@@ -272,7 +272,7 @@ pub fn block_to(
 
 // Its constant: the scalars are those of a generator above the one on top.
 pub fn block_by(shifts: &[u32], scalars: &[u32], f: Frame, r: u32, g: u32, b: u32) -> u32
-    requires { ⌜ (r < length (now shifts)) × (b < length (now scalars)) × (b < f .p) × (f .p ≤ 4096) × (0 < f .m) × (getD (now shifts) r 0 < f .m) × (f .top < g → getD (now scalars) b 0 < f .m) ⌝ }
+    requires { ⌜ (r < length (now shifts)) × (b < length (now scalars)) × (b < f .p) × (f .p ≤ maxOrder) × (0 < f .m) × (getD (now shifts) r 0 < f .m) × (f .top < g → getD (now scalars) b 0 < f .m) ⌝ }
     ensures { λ c. ⌜ (c ≡ factorIn f (now (shifts .entry)) (now (scalars .entry)) r g b) × (c < f .m) ⌝ }
 {
     if g < f.top {
@@ -322,7 +322,7 @@ pub fn append_part(
 {
     let q = survey::element(orbit, b);
     let l = survey::element(first, q);
-    let src = survey::line_of(lines::up(l), g, d);
+    let src = survey::line_of(level::up(l), g, d);
     let h = Head {
         level: f.top + 1,
         rep: rep,

@@ -16,7 +16,7 @@ use lib.ListN.{length, getD, set}
 use lib.Seq.{getD-set-same, getD-set-other}
 use Rattle.definitions.specs.Table.{wordAt}
 use Rattle.numbers.proofs.Orbits.{Orbits}
-use Rattle.lines.specs.Lines.{Holds}
+use Rattle.level.specs.Stored.{Holds}
 use Rattle.survey.specs.declared.Frame.{Frame}
 use Rattle.survey.specs.Below.{firstOf, degOf, matrixOf, targetOf, Stands}
 

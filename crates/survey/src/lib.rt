@@ -5,8 +5,9 @@ ghost use Prim.Native.Nat.{ℕ, _+_, _*_, _%_, _≤_, _<_};
 ghost use lib.ListN.{length, getD, set};
 ghost use Rattle.definitions.specs.Presentation.{Presentation};
 ghost use Rattle.survey.specs.Below.{firstOf, degOf, matrixOf, targetOf, leaderIn, positionIn, madeIn, numberIn, aroundIn, closingIn, leadingIn, Stands, Array, Lines, Marked, MarkedTo, Turned};
-ghost use Rattle.lines.specs.Lines.{Below};
+ghost use Rattle.level.specs.Stored.{Below};
 use definitions::Entry;
+use rows::Row;
 
 // What a level is made with: the modulus, the generator on top (from 0), how many generators there are, the prime of the
 // one on top, the first line of the level below, how many representations that has, and the line behind it.
@@ -34,7 +35,7 @@ pub fn degree(low: &[u32], first: &[u32], f: Frame, r: u32) -> u32
     ensures { λ d. ⌜ d ≡ degOf f (now (low .entry)) r ⌝ }
 {
     let s = element(first, r);
-    lines::word_at(low, lines::up(s), 2)
+    level::word_at(low, level::up(s), 2)
 }
 
 // The line at which generator g of representation r begins.
@@ -42,9 +43,9 @@ pub fn matrix_line(low: &[u32], first: &[u32], f: Frame, g: u32, r: u32) -> usiz
     requires { ⌜ Stands f (now low) × Lines f (now low) (now first) × (r < f .reps) × (g < f .gens) ⌝ }
     ensures { λ x. ⌜ x ≡ matrixOf f (now (low .entry)) g r ⌝ }
 {
-    let s = lines::up(element(first, r));
-    let d = lines::word_at(low, s, 2);
-    s + lines::up(g) * lines::up(d)
+    let s = level::up(element(first, r));
+    let d = level::word_at(low, s, 2);
+    s + level::up(g) * level::up(d)
 }
 
 // The line at which generator g begins, of a representation of degree d that begins at line s.
@@ -52,7 +53,7 @@ pub fn line_of(s: usize, g: u32, d: u32) -> usize
     requires { ⌜ s + g * d ≤ 1000000000 ⌝ }
     ensures { λ x. ⌜ x ≡ s + g * d ⌝ }
 {
-    s + lines::up(g) * lines::up(d)
+    s + level::up(g) * level::up(d)
 }
 
 // Where the intertwiner of generator j leads representation r.
@@ -61,7 +62,7 @@ pub fn target(low: &[u32], first: &[u32], f: Frame, j: u32, r: u32) -> u32
     ensures { λ x. ⌜ (x ≡ targetOf f (now (low .entry)) j r) × (x < f .reps) ⌝ }
 {
     let at = matrix_line(low, first, f, j, r);
-    lines::word_at(low, at, 4)
+    level::word_at(low, at, 4)
 }
 
 // Where the generator on top leads representation r of degree d.
@@ -70,8 +71,8 @@ pub fn next_of(low: &[u32], first: &[u32], f: Frame, d: u32, r: u32) -> u32
     ensures { λ x. ⌜ (x ≡ targetOf f (now (low .entry)) (f .top) r) × (x < f .reps) × (d ≡ degOf f (now (low .entry)) x) ⌝ }
 {
     let l = element(first, r);
-    let at = line_of(lines::up(l), f.top, d);
-    lines::word_at(low, at, 4)
+    let at = line_of(level::up(l), f.top, d);
+    level::word_at(low, at, 4)
 }
 
 // The line behind representation r, which begins at line s.
@@ -79,8 +80,8 @@ pub fn next_line(low: &[u32], f: Frame, r: u32, s: usize) -> usize
     requires { ⌜ Stands f (now low) × (r < f .reps) × (s ≡ firstOf f (now low) r) ⌝ }
     ensures { λ x. ⌜ x ≡ firstOf f (now (low .entry)) (r + 1) ⌝ }
 {
-    let d = lines::word_at(low, s, 2);
-    s + lines::up(f.gens) * lines::up(d)
+    let d = level::word_at(low, s, 2);
+    s + level::up(f.gens) * level::up(d)
 }
 
 // Stores x at r.
@@ -224,10 +225,10 @@ pub fn carry(low: &[u32], first: &[u32], f: Frame, d: u32, s: Carried) -> Carrie
 {
     let rep = s.rep;
     let l = element(first, rep);
-    let at = line_of(lines::up(l), f.top, d);
+    let at = line_of(level::up(l), f.top, d);
     Carried {
-        rep: lines::word_at(low, at, 4),
-        x: lines::apply(low, at, d, s.x, f.m),
+        rep: level::word_at(low, at, 4),
+        x: level::apply(low, at, d, s.x, f.m),
     }
 }
 
@@ -249,27 +250,27 @@ pub fn around(low: &[u32], first: &[u32], f: Frame, r: u32) -> Entry
 }
 
 // The constant that closes the orbit of r: an exponent of the power word u less that of the intertwiners around it.
-pub fn closing(low: &[u32], first: &[u32], u: &[u32; 12], f: Frame, r: u32) -> u32
+pub fn closing(low: &[u32], first: &[u32], u: &Row, f: Frame, r: u32) -> u32
     requires { ⌜ Stands f (now low) × Lines f (now low) (now first) × (r < f .reps) ⌝ }
     ensures { λ x. ⌜ (x ≡ closingIn f (now (low .entry)) (now (u .entry)) r) × (x < f .m) ⌝ }
 {
     let a = around(low, first, f, r);
-    let s = lines::up(element(first, r));
-    let d = lines::word_at(low, s, 2);
-    let b = lines::apply_word(
+    let s = level::up(element(first, r));
+    let d = level::word_at(low, s, 2);
+    let b = level::apply_word(
         low,
         s,
         d,
         u,
-        lines::up(f.top),
+        level::up(f.top),
         Entry { row: 0, exp: 0 },
         f.m,
     );
-    lines::sub_mod(b.exp, a.exp, f.m)
+    level::sub_mod(b.exp, a.exp, f.m)
 }
 
 // The same if r is the least of its orbit, and 0 else.
-pub fn leading(low: &[u32], first: &[u32], leaders: &[u32], u: &[u32; 12], f: Frame, r: u32) -> u32
+pub fn leading(low: &[u32], first: &[u32], leaders: &[u32], u: &Row, f: Frame, r: u32) -> u32
     requires { ⌜ Stands f (now low) × Lines f (now low) (now first) × Array f (now low) (now leaders) (leaderIn f (now low)) × (r < f .reps) ⌝ }
     ensures { λ x. ⌜ (x ≡ leadingIn f (now (low .entry)) (now (u .entry)) r) × (x < f .m) ⌝ }
 {
@@ -284,7 +285,7 @@ pub fn find_shifts(
     low: &[u32],
     first: &[u32],
     leaders: &[u32],
-    u: &[u32; 12],
+    u: &Row,
     shifts: &mut [u32],
     f: Frame,
 )

@@ -6,7 +6,7 @@ use native.Mathlib.Numerals.{add-one}
 use lib.ListN.{take}
 use denote.Ref.{now}
 use Rattle.text.proofs.Writing.{wrote-as}
-use Rattle.lines.specs.Lines.{Holds}
+use Rattle.level.specs.Stored.{Holds}
 use Rattle.survey.specs.Below.{matrixOf}
 use Rattle.survey.proofs.Level.{matrix-below}
 use Rattle.extend.proofs.Laws.{origin-below, origin-factor, reference-ready, reference-is, matrix-lines}

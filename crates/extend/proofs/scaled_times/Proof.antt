@@ -8,12 +8,12 @@ use denote.Ref.{now}
 use Rattle.definitions.specs.declared.Entry.{Entry}
 use Rattle.definitions.specs.Monomial.{entry, act}
 use Rattle.formulas.specs.Formulas.{plus, walk}
-use Rattle.lines.specs.Lines.{matrixIn, Below, Holds}
+use Rattle.level.specs.Stored.{matrixIn, Below, Holds}
 use Rattle.survey.specs.Below.{firstOf, degOf, matrixOf, sourceIn}
 use borrow.Author.Needs.{needs}
 use Rattle.definitions.specs.Lists.{iter}
 use Rattle.numbers.proofs.Lists.{iter-zero}
-use Rattle.lines.proofs.Laws.{iter-next}
+use Rattle.level.proofs.Laws.{iter-next}
 use Rattle.extend.proofs.scaled_times.Statement.{statement}
 use Rattle.extend.proofs.scaled_times.Tie as tie
 

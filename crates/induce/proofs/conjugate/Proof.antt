@@ -8,7 +8,7 @@ use lib.ListN.{getD}
 use denote.Ref.{now}
 use Rattle.definitions.specs.Lists.{iter}
 use Rattle.definitions.specs.Monomial.{entry}
-use Rattle.lines.specs.Lines.{Below}
+use Rattle.level.specs.Stored.{Below}
 use Rattle.survey.specs.Below.{degOf, sourceIn}
 use Rattle.definitions.specs.Presentation.{toNF}
 use Rattle.formulas.specs.Formulas.{walk}

@@ -8,7 +8,7 @@ use denote.Ref.{now}
 use Rattle.definitions.specs.Lists.{iter}
 use Rattle.definitions.specs.Monomial.{entry, act}
 use Rattle.formulas.specs.Formulas.{plus}
-use Rattle.lines.specs.Lines.{Below}
+use Rattle.level.specs.Stored.{Below}
 use Rattle.survey.specs.Below.{degOf, targetOf, sourceIn}
 use Rattle.numbers.proofs.Bools.{cond-lt, cond-ge}
 use Rattle.survey.proofs.Marking.{orbit-inside}

@@ -6,7 +6,7 @@ use native.Mathlib.Omega.{arith}
 use denote.Ref.{now}
 use Rattle.definitions.specs.declared.Entry.{Entry}
 use Rattle.definitions.specs.Monomial.{act}
-use Rattle.lines.specs.Lines.{Below}
+use Rattle.level.specs.Stored.{Below}
 use Rattle.survey.specs.Below.{degOf, sourceIn}
 use Rattle.survey.proofs.Marking.{orbit-inside}
 use Rattle.induce.proofs.Laws.{orbit-degree}

@@ -8,7 +8,7 @@ use Rattle.definitions.specs.Lists.{iter}
 use Rattle.survey.specs.Below.{degOf, targetOf}
 use borrow.Author.Needs.{needs}
 use Rattle.numbers.proofs.Lists.{iter-zero}
-use Rattle.lines.proofs.Laws.{iter-next}
+use Rattle.level.proofs.Laws.{iter-next}
 use Rattle.survey.proofs.Level.{Filled, filled-none, filled-more}
 use Rattle.survey.proofs.Marking.{orbit-inside}
 use Rattle.induce.proofs.list_orbit.Statement.{statement}

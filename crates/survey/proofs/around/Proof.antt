@@ -2,8 +2,8 @@
 use native.Mathlib.Nat.{le-refl}
 use Rattle.definitions.specs.Lists.{iter}
 use Rattle.definitions.specs.Monomial.{act}
-use Rattle.lines.specs.Lines.{Below}
-use Rattle.lines.proofs.Laws.{iter-next}
+use Rattle.level.specs.Stored.{Below}
+use Rattle.level.proofs.Laws.{iter-next}
 use Rattle.numbers.proofs.Lists.{iter-zero}
 use Rattle.survey.specs.Below.{degOf, targetOf, sourceIn, aroundIn}
 use mathlib.Core.List.{[]}

@@ -6,7 +6,7 @@ use native.Mathlib.Nat.{le-refl}
 use denote.Ref.{now}
 use Rattle.definitions.specs.Monomial.{act}
 use Rattle.definitions.specs.Table.{wordAt}
-use Rattle.lines.specs.Lines.{matrixIn, Holds}
+use Rattle.level.specs.Stored.{matrixIn, Holds}
 use Rattle.survey.specs.Below.{degOf, matrixOf, targetOf}
 use Rattle.survey.proofs.Level.{matrix-room, matrix-below}
 use borrow.Author.Needs.{needs}

@@ -5,7 +5,7 @@ use Rattle.definitions.specs.Presentation.{toNF}
 use Rattle.definitions.specs.Monomial.{entry, less}
 use Rattle.definitions.specs.Table.{wordAt}
 use Rattle.formulas.specs.Formulas.{walk}
-use Rattle.lines.specs.Lines.{matrixIn, Below, Holds}
+use Rattle.level.specs.Stored.{matrixIn, Below, Holds}
 use Rattle.survey.specs.Below.{firstOf, degOf, matrixOf, sourceIn, aroundIn, closingIn}
 use Rattle.survey.proofs.Level.{first-room}
 use Rattle.survey.proofs.Counting.{column-zero}

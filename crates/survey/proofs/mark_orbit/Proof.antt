@@ -7,7 +7,7 @@ use denote.Ref.{now}
 use borrow.Author.Needs.{needs}
 use Rattle.definitions.specs.Lists.{iter}
 use Rattle.numbers.proofs.Lists.{iter-zero}
-use Rattle.lines.proofs.Laws.{iter-next}
+use Rattle.level.proofs.Laws.{iter-next}
 use Rattle.survey.specs.Below.{degOf, targetOf, MarkedTo}
 use Rattle.survey.proofs.Marking.{marking-step, orbit-inside}
 use Rattle.survey.proofs.mark_orbit.Statement.{statement}

@@ -10,10 +10,10 @@ use Rattle.definitions.specs.Lists.{iter}
 use Rattle.definitions.specs.Presentation.{toNF}
 use Rattle.definitions.specs.Monomial.{Matrix, entry, act}
 use Rattle.formulas.specs.Formulas.{walk}
-use Rattle.lines.specs.Lines.{matrixIn, Holds}
-use Rattle.lines.proofs.Laws.{walk-zero, walk-next}
-use Rattle.lines.proofs.single_word.Statement.{statement}
-use Rattle.lines.proofs.single_word.Tie as tie
+use Rattle.level.specs.Stored.{matrixIn, Holds}
+use Rattle.level.proofs.Laws.{walk-zero, walk-next}
+use Rattle.level.proofs.single_word.Statement.{statement}
+use Rattle.level.proofs.single_word.Tie as tie
 
 abbrev Inv-loop : tie.InvT-loop
 Inv-loop words at w n e m y₀ k₀ y k = (k ≤ n) × (entry 0 y ≡ walk m (λ (j : ℕ). matrixIn words (at + j * 1) 1) k (toNF k w) (entry 0 e)) × (y < m)

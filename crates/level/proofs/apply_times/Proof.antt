@@ -7,10 +7,10 @@ use denote.Ref.{now}
 use Rattle.definitions.specs.Lists.{iter}
 use Rattle.definitions.specs.Monomial.{act}
 use Rattle.numbers.proofs.Lists.{iter-zero}
-use Rattle.lines.specs.Lines.{matrixIn, Below}
-use Rattle.lines.proofs.Laws.{iter-next}
-use Rattle.lines.proofs.apply_times.Statement.{statement}
-use Rattle.lines.proofs.apply_times.Tie as tie
+use Rattle.level.specs.Stored.{matrixIn, Below}
+use Rattle.level.proofs.Laws.{iter-next}
+use Rattle.level.proofs.apply_times.Statement.{statement}
+use Rattle.level.proofs.apply_times.Tie as tie
 
 abbrev Inv-loop : tie.InvT-loop
 Inv-loop words at d k m r₀ i₀ r i = (i ≤ k) × (r ≡ iter (act m (matrixIn words at d)) i r₀) × Below m d r

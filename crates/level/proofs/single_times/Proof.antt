@@ -7,10 +7,10 @@ use denote.Ref.{now}
 use Rattle.definitions.specs.Lists.{iter}
 use Rattle.definitions.specs.Monomial.{entry, act}
 use Rattle.numbers.proofs.Lists.{iter-zero}
-use Rattle.lines.specs.Lines.{matrixIn}
-use Rattle.lines.proofs.Laws.{iter-next}
-use Rattle.lines.proofs.single_times.Statement.{statement}
-use Rattle.lines.proofs.single_times.Tie as tie
+use Rattle.level.specs.Stored.{matrixIn}
+use Rattle.level.proofs.Laws.{iter-next}
+use Rattle.level.proofs.single_times.Statement.{statement}
+use Rattle.level.proofs.single_times.Tie as tie
 
 abbrev Inv-loop : tie.InvT-loop
 Inv-loop words at k e m y₀ i₀ y i = (i ≤ k) × (entry 0 y ≡ iter (act m (matrixIn words at 1)) i (entry 0 e)) × (y < m)

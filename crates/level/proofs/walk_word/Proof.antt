@@ -10,10 +10,10 @@ use Rattle.definitions.specs.Lists.{iter}
 use Rattle.definitions.specs.Presentation.{toNF}
 use Rattle.definitions.specs.Monomial.{Matrix, act}
 use Rattle.formulas.specs.Formulas.{walk}
-use Rattle.lines.specs.Lines.{matrixIn, Below, Holds}
-use Rattle.lines.proofs.Laws.{walk-zero, walk-next}
-use Rattle.lines.proofs.walk_word.Statement.{statement}
-use Rattle.lines.proofs.walk_word.Tie as tie
+use Rattle.level.specs.Stored.{matrixIn, Below, Holds}
+use Rattle.level.proofs.Laws.{walk-zero, walk-next}
+use Rattle.level.proofs.walk_word.Statement.{statement}
+use Rattle.level.proofs.walk_word.Tie as tie
 
 abbrev Inv-loop : tie.InvT-loop
 Inv-loop words at d w n m r₀ g₀ k₀ r g k = (k ≤ n) × (g ≡ at + k * d) × (r ≡ walk m (λ (j : ℕ). matrixIn words (at + j * d) d) k (toNF k w) r₀) × Below m d r

@@ -1,9 +1,9 @@
 -- `sub_mod`: a difference, or m more where it would be below 0.
 use native.Mathlib.Omega.{arith}
-use Rattle.lines.proofs.Laws.{less-below, less-above}
+use Rattle.level.proofs.Laws.{less-below, less-above}
 use borrow.Author.Needs.{needs}
-use Rattle.lines.proofs.sub_mod.Statement.{statement}
-use Rattle.lines.proofs.sub_mod.Tie as tie
+use Rattle.level.proofs.sub_mod.Statement.{statement}
+use Rattle.level.proofs.sub_mod.Tie as tie
 
 sub-result : tie.Need-sub-result
 sub-result c = search needs

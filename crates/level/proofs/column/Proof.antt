@@ -2,10 +2,10 @@
 use mathlib.Core.Path.{_≡_, ap, sym, _∙_, subst}
 use Prim.Native.Nat.{_+_}
 use denote.Ref.{now}
-use Rattle.lines.specs.Lines.{entryIn, Below}
+use Rattle.level.specs.Stored.{entryIn, Below}
 use borrow.Author.Needs.{needs}
-use Rattle.lines.proofs.column.Statement.{statement}
-use Rattle.lines.proofs.column.Tie as tie
+use Rattle.level.proofs.column.Statement.{statement}
+use Rattle.level.proofs.column.Tie as tie
 
 up-requires : tie.Need-up-requires
 up-requires c κs = search needs

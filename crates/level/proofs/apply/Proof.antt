@@ -4,10 +4,10 @@ use Prim.Native.Nat.{_+_, _%_}
 use denote.Ref.{now}
 use Rattle.definitions.specs.declared.Entry.{Entry}
 use Rattle.definitions.specs.Monomial.{entry}
-use Rattle.lines.proofs.Laws.{act-in}
+use Rattle.level.proofs.Laws.{act-in}
 use borrow.Author.Needs.{needs}
-use Rattle.lines.proofs.apply.Statement.{statement}
-use Rattle.lines.proofs.apply.Tie as tie
+use Rattle.level.proofs.apply.Statement.{statement}
+use Rattle.level.proofs.apply.Tie as tie
 
 column-requires : tie.Need-column-requires
 column-requires c κs = search needs

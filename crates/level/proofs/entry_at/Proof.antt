@@ -2,8 +2,8 @@
 use mathlib.Core.Path.{ap₂}
 use Rattle.definitions.specs.Monomial.{entry}
 use borrow.Author.Needs.{needs}
-use Rattle.lines.proofs.entry_at.Statement.{statement}
-use Rattle.lines.proofs.entry_at.Tie as tie
+use Rattle.level.proofs.entry_at.Statement.{statement}
+use Rattle.level.proofs.entry_at.Tie as tie
 
 word-at-requires : tie.Need-word-at-requires
 word-at-requires c κs = search needs

@@ -2,10 +2,10 @@
 use mathlib.Core.Path.{sym}
 use native.Mathlib.Nat.{mod-eq-of-lt}
 use native.Mathlib.Omega.{arith}
-use Rattle.lines.proofs.Laws.{mod-once}
+use Rattle.level.proofs.Laws.{mod-once}
 use borrow.Author.Needs.{needs}
-use Rattle.lines.proofs.add_mod.Statement.{statement}
-use Rattle.lines.proofs.add_mod.Tie as tie
+use Rattle.level.proofs.add_mod.Statement.{statement}
+use Rattle.level.proofs.add_mod.Tie as tie
 
 add-s : tie.Need-add-s
 add-s c = search needs

@@ -3,8 +3,8 @@ use mathlib.Core.Path.{refl}
 use Rattle.definitions.specs.Presentation.{lineWords}
 use Rattle.definitions.specs.Table.{wordAt}
 use borrow.Author.Needs.{needs}
-use Rattle.lines.proofs.word_at.Statement.{statement}
-use Rattle.lines.proofs.word_at.Tie as tie
+use Rattle.level.proofs.word_at.Statement.{statement}
+use Rattle.level.proofs.word_at.Tie as tie
 
 mul-result : tie.Need-mul-result
 mul-result c = search needs

@@ -8,9 +8,9 @@ use Rattle.definitions.specs.declared.Entry.{Entry}
 use Rattle.definitions.specs.Presentation.{toNF}
 use Rattle.definitions.specs.Monomial.{entry}
 use Rattle.formulas.specs.Formulas.{walk}
-use Rattle.lines.specs.Lines.{matrixIn, Holds}
-use Rattle.lines.proofs.apply_word.Statement.{statement}
-use Rattle.lines.proofs.apply_word.Tie as tie
+use Rattle.level.specs.Stored.{matrixIn, Holds}
+use Rattle.level.proofs.apply_word.Statement.{statement}
+use Rattle.level.proofs.apply_word.Tie as tie
 
 single-word-requires : tie.Need-single-word-requires
 single-word-requires c κs = let z = c .before .before in (z .pre .0 .0, λ k l. subst (λ e. Holds (z .args .m) (now (z .args .words)) (z .args .at + k * e) e) (c .if1 .taken) (z .pre .0 .1 k l), z .pre .1 .exp)
