@@ -25,14 +25,14 @@ use Rattle.definitions.specs.Lists.{iter, blocks}
 use Rattle.definitions.specs.Presentation.{maxGenerators, maxOrder, maxModulus, toNF, pairNumber}
 use Rattle.definitions.specs.Monomial.{Matrix, entry, col, less, act, scale}
 use Rattle.definitions.specs.Table.{lineOf, repWords}
-use Rattle.numbers.proofs.Blocks.{getD-map, length-table, blocks-below, length-even}
+use Rattle.numbers.proofs.Blocks.{length-table, blocks-below, length-even}
 use Rattle.formulas.specs.Formulas.{Source, made, start, around, shift, plus, topEntry, landing, walk, extensionAt}
 use Rattle.lines.specs.declared.Head.{Head}
-use Rattle.level.specs.Stored.{entryIn, matrixIn}
+use Rattle.level.specs.Stored.{entryIn, matrixIn, throughIn}
 use Rattle.lines.specs.Lines.{headLine, blockLines}
-use Rattle.level.proofs.Laws.{col-matrixIn}
+use Rattle.level.proofs.Laws.{col-matrixIn, col-scale}
 use Rattle.survey.specs.declared.Frame.{Frame}
-use Rattle.survey.specs.Below.{degOf, matrixOf, sourceIn, targetOf, closingIn, Stands}
+use Rattle.survey.specs.Below.{degOf, matrixOf, listedOf, sourceIn, targetOf, closingIn, Stands}
 use Rattle.survey.proofs.Counting.{number-fits}
 use Rattle.extend.specs.Extending.{conjugatedIn, factorOf, referenceOf, Ready, Extends, matrixWords}
 use Rattle.extend.specs.declared.Origin.{Origin}
@@ -52,8 +52,9 @@ module _ (f : Frame) (W : List ℕ) (rows : List (List ℕ)) where
   shift-below h r = mod-lt _ h
 
   -- the exponents of the two sides, and the number that they tell
-  pub landing-is : (j r a b : ℕ) → a ≡ act (f .m) (sourceIn f W [] .matrix r j) (conjugatedIn f W (getD rows (pairNumber j (f .top)) []) r (shift (sourceIn f W rows) r / f .p)) .exp
-      → b ≡ plus (f .m) (shift (sourceIn f W rows) (targetOf f W j r) / f .p) (act (f .m) (sourceIn f W [] .matrix (targetOf f W j r) (f .top)) (act (f .m) (sourceIn f W [] .matrix r j) (entry 0 0))) .exp
+  pub landing-is : (j r a b : ℕ)
+      → a ≡ act (f .m) (sourceIn f W [] .matrix r j) (conjugatedIn (f .m) (f .top) W (listedOf f W r) (getD rows (pairNumber j (f .top)) []) (shift (sourceIn f W rows) r / f .p)) .exp
+      → b ≡ throughIn (f .m) W (listedOf f W r) j (listedOf f W (targetOf f W j r)) (f .top) (shift (sourceIn f W rows) (targetOf f W j r) / f .p)
       → less (f .m) a b / (f .m / f .p) ≡ landing (sourceIn f W rows) j r
   unfolding landing conjugatedIn topEntry toNF
   landing-is j r a b e e′ = ap₂ (λ x y. less (f .m) x y / (f .m / f .p)) e e′
@@ -94,10 +95,6 @@ unfolding start made
 start-fits f W rows S r l = number-fits f W S r l
 
 -- ---- Lines
-
-pub col-scale : (m e : ℕ) (M : Matrix) (k : ℕ) → k < length M → col (scale m e M) k ≡ entry (col M k .row) ((col M k .exp + e) % m)
-unfolding col scale
-col-scale m e M k l = getD-map (λ (x : Entry). entry (x .row) ((x .exp + e) % m)) M k (entry 0 0) (entry 0 0) l
 
 -- the lines of one generator of an extension
 pub matrix-lines : (f : Frame) (W : List ℕ) (rows : List (List ℕ)) (h : Head) (rep r k g c d src : ℕ)

@@ -24,8 +24,7 @@ use Rattle.formulas.specs.Formulas.{Source, start, leader, blockTo, blockBy, in
 use Rattle.lines.specs.declared.Head.{Head}
 use Rattle.level.specs.Stored.{entryIn}
 use Rattle.lines.specs.Lines.{headLine, blockLines}
-use Rattle.level.proofs.Laws.{col-matrixIn}
-use Rattle.extend.proofs.Laws.{col-scale}
+use Rattle.level.proofs.Laws.{col-matrixIn, col-scale}
 use Rattle.survey.specs.declared.Frame.{Frame}
 use Rattle.survey.specs.Below.{degOf, targetOf, matrixOf, sourceIn, Stands}
 use Rattle.induce.specs.Inducing.{partWords, partsIn, staysIn, blockWords, generatorWords}

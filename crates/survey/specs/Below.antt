@@ -5,6 +5,7 @@
 --   sourceIn                   the level, as the formulas ask for it
 --   Stands f W                 the lines of a level stand in W as a build leaves them: bounds, valid matrices, targets of one
 --                              degree, and orbits of the generator on top that close after p steps
+--   listedOf, Located r D      representation r by its first line and degree; D is that one
 --   Rows                       exponents of words in range
 --   Array                      an array that holds a function below the number of representations
 --   Leading                    one that holds it at the least of each orbit, and is below the modulus
@@ -26,6 +27,7 @@ use Rattle.numbers.proofs.Prime.{Units}
 use Rattle.numbers.proofs.Orbits.{leaderOf, positionOf}
 use Rattle.formulas.specs.Formulas.{Source, walk, made, start, around}
 use Rattle.level.specs.Stored.{matrixIn, Below, Holds}
+use Rattle.level.specs.declared.Listed.{Listed}
 use Rattle.survey.specs.declared.Frame.{Frame}
 use Rattle.survey.specs.declared.Carried.{Carried}
 
@@ -43,6 +45,9 @@ module _ (f : Frame) (W : List ℕ) where
 
   abbrev pub targetOf : ℕ → ℕ → ℕ
   targetOf j r = wordAt W (matrixOf j r) REF
+
+  abbrev pub listedOf : ℕ → Listed
+  listedOf r = record { line = firstOf r; deg = degOf r }
 
   abbrev pub sourceIn : List (List ℕ) → Source
   sourceIn rows = record {
@@ -94,6 +99,12 @@ module _ (f : Frame) (W : List ℕ) where
     pub valid : (r : ℕ) → r < f .reps → (g : ℕ) → g < f .gens → Holds (f .m) W (matrixOf g r) (degOf r)
     pub target : (r : ℕ) → r < f .reps → (j : ℕ) → f .top ≤ j → j < f .gens → (targetOf j r < f .reps) × (degOf (targetOf j r) ≡ degOf r)
     pub cycle : (r : ℕ) → r < f .reps → iter (targetOf (f .top)) (f .p) r ≡ r
+
+  -- D is representation r of the level
+  pub record Located (r : ℕ) (D : Listed) : Type 0 where
+    pub stands : Stands
+    pub listed : r < f .reps
+    pub is : D ≡ listedOf r
 
   -- the exponents of the generator on top in its words with the generators above are below its prime
   pub record Rows (rows : List (List ℕ)) : Type 0 where
