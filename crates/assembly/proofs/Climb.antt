@@ -27,7 +27,7 @@ use Rattle.closed.proofs.Table.{rungs, twins}
 use Rattle.rows.specs.Rows.{Reads}
 use Rattle.first.specs.Roots.{firstWords}
 use Rattle.first.proofs.Laws.{firstWords-length}
-use Rattle.lines.specs.Lines.{matrixIn}
+use Rattle.level.specs.Stored.{matrixIn}
 use Rattle.survey.specs.declared.Frame.{Frame}
 use Rattle.survey.specs.Below.{sourceIn, degOf, matrixOf, targetOf, madeIn, numberIn}
 use Rattle.assembly.specs.Built.{upTo, frameAt, Placed}

@@ -25,7 +25,7 @@ use Rattle.closed.proofs.Scalar.{leader-of}
 use Rattle.closed.proofs.Sources.{Twins, left, leader-same, block-same}
 use Rattle.closed.proofs.Table.{rungs, twins}
 use Rattle.rows.specs.Rows.{Reads}
-use Rattle.lines.specs.Lines.{matrixIn}
+use Rattle.level.specs.Stored.{matrixIn}
 use Rattle.survey.specs.declared.Frame.{Frame}
 use Rattle.induce.specs.Inducing.{Cycling}
 use Rattle.survey.specs.Below.{sourceIn, degOf, matrixOf, targetOf, leaderIn, Fixing}

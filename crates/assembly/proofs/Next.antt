@@ -14,7 +14,7 @@ use Rattle.formulas.specs.Formulas.{levelBy}
 use Rattle.clifford.specs.Accepted.{Accepted}
 use Rattle.closed.proofs.Table.{level-told}
 use Rattle.rows.specs.Rows.{Reads}
-use Rattle.lines.specs.Lines.{matrixIn}
+use Rattle.level.specs.Stored.{matrixIn}
 use Rattle.survey.specs.declared.Frame.{Frame}
 use Rattle.survey.specs.Below.{Rows, sourceIn, degOf, matrixOf, targetOf}
 use Rattle.assembly.specs.Built.{upTo, frameAt, Placed}

@@ -12,7 +12,7 @@ use native.Mathlib.Nat.{mul-le-mul-left, mul-le-mul-right, mul-div-right}
 use native.Mathlib.Omega.{arith}
 use lib.ListN.{length}
 use Rattle.definitions.specs.Lists.{sum}
-use Rattle.definitions.specs.Presentation.{Presentation, order, buildWords, lineWords}
+use Rattle.definitions.specs.Presentation.{maxOrder, Presentation, order, buildWords, lineWords}
 use Rattle.definitions.specs.Monomial.{Level}
 use Rattle.definitions.specs.Table.{lineCount}
 use Rattle.definitions.specs.Steps.{levels, tableOf}
@@ -134,10 +134,10 @@ module _ (A : Accepted) where
       let few = S .few in
       let low = S .low in
       let a = lines-le k l in
-      let b : sum k (λ i. order P (suc i)) ≤ k * 4096 = subst (λ x. sum k (λ i. order P (suc i)) ≤ x) (sum-const k 4096) (sum-le k (λ i. order P (suc i)) (λ i. 4096) (λ i h. below i h)) in
+      let b : sum k (λ i. order P (suc i)) ≤ k * maxOrder = subst (λ x. sum k (λ i. order P (suc i)) ≤ x) (sum-const k maxOrder) (sum-le k (λ i. order P (suc i)) (λ i. maxOrder) (λ i h. below i h)) in
       let c : sum k (λ i. order P (suc i)) ≤ 49152 = omega arith in
       let e : n * sum k (λ i. order P (suc i)) ≤ n * 49152 = mul-le-mul-left n c in
       omega arith
     where
-      below : (i : ℕ) → i < k → order P (suc i) ≤ 4096
+      below : (i : ℕ) → i < k → order P (suc i) ≤ maxOrder
       below i h = let z = order-le (suc i) (omega arith) in omega (arith, S .low)

@@ -12,7 +12,7 @@ use native.Mathlib.Nat.{mul-le-mul-left, mul-le-mul-right}
 use native.Mathlib.Omega.{arith}
 use lib.ListN.{length}
 use Rattle.definitions.specs.Lists.{iter}
-use Rattle.definitions.specs.Presentation.{Presentation, order}
+use Rattle.definitions.specs.Presentation.{maxOrder, Presentation, order}
 use Rattle.definitions.specs.Monomial.{Level, repOf}
 use Rattle.definitions.specs.Steps.{levels}
 use Rattle.numbers.proofs.Lists.{iter-zero, iter-suc}
@@ -23,7 +23,7 @@ use Rattle.clifford.proofs.Standing.{Standing, standing, setting, rung}
 use Rattle.clifford.proofs.Agreement.{target-listed}
 use Rattle.clifford.proofs.Numbering.{O}
 use Rattle.closed.proofs.Table.{rungs}
-use Rattle.lines.specs.Lines.{Below, Holds, entryIn}
+use Rattle.level.specs.Stored.{Below, Holds, entryIn}
 use Rattle.survey.specs.declared.Frame.{Frame}
 use Rattle.survey.specs.Below.{Stands, firstOf, degOf, matrixOf, targetOf}
 use Rattle.assembly.specs.Built.{upTo, linesTo, degreeIn, frameAt, Small, Placed}
@@ -86,7 +86,7 @@ module _ (A : Accepted) (k : ℕ) where
     pub inside : (r : ℕ) → r < length (levels (A .C .P) (order (A .C .P) (A .C .P .n)) (suc k)) → firstOf (frameAt A k) (upTo A (suc k)) (suc r) ≤ linesTo A (suc k)
     inside r h = subst (λ x. x ≤ linesTo A (suc k)) (sym (first-of A k l (suc r) h)) (start-end A k (suc r) h)
 
-    pub holds : order (A .C .P) (A .C .P .n) ≤ 4096 → (r : ℕ) → r < length (levels (A .C .P) (order (A .C .P) (A .C .P .n)) (suc k)) → (g : ℕ) → g < A .C .P .n
+    pub holds : order (A .C .P) (A .C .P .n) ≤ maxOrder → (r : ℕ) → r < length (levels (A .C .P) (order (A .C .P) (A .C .P .n)) (suc k)) → (g : ℕ) → g < A .C .P .n
         → Holds (order (A .C .P) (A .C .P .n)) (upTo A (suc k)) (matrixOf (frameAt A k) (upTo A (suc k)) g r) (degOf (frameAt A k) (upTo A (suc k)) r)
     holds low r h g a = record {
       small = omega arith;
@@ -126,13 +126,24 @@ module _ (A : Accepted) (k : ℕ) where
     unfolding order
     prime-order = order-le A (suc (suc k)) l
 
+    -- no level below has more representations than half the order, and no prime above the first is greater
+    halved : 2 * order P (suc k) ≤ m
+    halved = let a : 2 * order P (suc k) ≤ p * order P (suc k) = mul-le-mul-right (order P (suc k)) (A .C .two (suc k)) in omega (arith, prime-order)
+
+    doubled : 2 * p ≤ m
+    unfolding order
+    doubled =
+        let a : P .p k * 1 ≤ P .p k * order P k = mul-le-mul-left (P .p k) (order-positive (A .C) k) in
+        let b : p * 2 ≤ p * order P (suc k) = mul-le-mul-left p (omega (arith, A .C .two k)) in
+        omega (arith, prime-order)
+
     pub stands-at : Small A → Stands (frameAt A k) (upTo A (suc k))
     stands-at S =
         let few = S .few in
         let low = S .low in
         let reps = reps-le A k lower in
-        let ord = order-le A (suc k) (omega arith) in
-        let pl = prime-le A (suc k) l in
+        let half = halved in
+        let double = doubled in
         let end = lines-small A S (suc k) (omega arith) in
         let len = upTo-length A (suc k) in
         record {

@@ -13,7 +13,7 @@ use lib.ListN.{length, getD}
 use lib.Seq.{ext-getD}
 use Rattle.definitions.specs.Presentation.{Presentation, order}
 use Rattle.definitions.specs.Monomial.{Matrix, entry, col, Level, repOf}
-use Rattle.definitions.specs.Table.{lineOf, wordAt}
+use Rattle.definitions.specs.Table.{DEG, REF, ROW, EXP, lineOf, wordAt}
 use Rattle.definitions.specs.Steps.{levels}
 use Rattle.numbers.proofs.Blocks.{getD-table, length-table}
 use Rattle.group.proofs.Order.{order-positive}
@@ -24,7 +24,7 @@ use Rattle.clifford.specs.Stands.{frame}
 use Rattle.clifford.specs.Accepted.{Accepted}
 use Rattle.clifford.proofs.Standing.{Standing, standing, setting}
 use Rattle.closed.proofs.Table.{Reads}
-use Rattle.lines.specs.Lines.{Below, entryIn, matrixIn}
+use Rattle.level.specs.Stored.{Below, entryIn, matrixIn}
 use Rattle.survey.specs.declared.Frame.{Frame}
 use Rattle.survey.specs.Below.{firstOf, degOf, matrixOf, targetOf}
 use Rattle.assembly.specs.Built.{upTo, degreeIn, frameAt}
@@ -55,20 +55,20 @@ module _ (A : Accepted) (k : ℕ) (l : k < A .C .P .n) where
 
   -- ---- Where, and the degree
 
-  degree-at : (r : ℕ) → r < length L → wordAt W (startOf A k r) 2 ≡ d r
+  degree-at : (r : ℕ) → r < length L → wordAt W (startOf A k r) DEG ≡ d r
   unfolding lineOf
   degree-at r h =
       let e : startOf A k r ≡ startOf A k r + (0 * d r + 0) = omega arith in
-      ap (λ x. wordAt W x 2) e ∙ word-in A k r 0 0 2 l h (A .positive) (degree-pos A k l r h) (omega arith)
+      ap (λ x. wordAt W x DEG) e ∙ word-in A k r 0 0 DEG l h (A .positive) (degree-pos A k l r h) (omega arith)
 
   pub first-of : (r : ℕ) → r ≤ length (levels (A .C .P) (order (A .C .P) (A .C .P .n)) (suc k)) → firstOf (frameAt A k) (upTo A (suc k)) r ≡ startOf A k r
   unfolding firstOf
   first-of zero h = sym (start-zero A k)
   first-of (suc r) h =
-      ap (λ x. x + n * wordAt W x 2) (first-of r (omega arith)) ∙ ap (λ x. startOf A k r + n * x) (degree-at r (omega arith)) ∙ sym (start-suc A k r)
+      ap (λ x. x + n * wordAt W x DEG) (first-of r (omega arith)) ∙ ap (λ x. startOf A k r + n * x) (degree-at r (omega arith)) ∙ sym (start-suc A k r)
 
   pub deg-of : (r : ℕ) → r < length (levels (A .C .P) (order (A .C .P) (A .C .P .n)) (suc k)) → degOf (frameAt A k) (upTo A (suc k)) r ≡ degreeIn A k r
-  deg-of r h = ap (λ x. wordAt W x 2) (first-of r (omega arith)) ∙ degree-at r h
+  deg-of r h = ap (λ x. wordAt W x DEG) (first-of r (omega arith)) ∙ degree-at r h
 
   pub line-of : (g r c : ℕ) → r < length (levels (A .C .P) (order (A .C .P) (A .C .P .n)) (suc k)) → matrixOf (frameAt A k) (upTo A (suc k)) g r + c ≡ startOf A k r + (g * degreeIn A k r + c)
   line-of g r c h = ap₂ (λ x y. x + g * y + c) (first-of r (omega arith)) (deg-of r h) ∙ omega arith
@@ -84,12 +84,12 @@ module _ (A : Accepted) (k : ℕ) (l : k < A .C .P .n) where
   unfolding lineOf
   target-of j r h a =
       let e : matrixOf f W j r ≡ matrixOf f W j r + 0 = omega arith in
-      ap (λ x. wordAt W x 4) e ∙ word-of j r 0 4 h a (degree-pos A k l r h) (omega arith)
+      ap (λ x. wordAt W x REF) e ∙ word-of j r 0 REF h a (degree-pos A k l r h) (omega arith)
 
   pub entry-of : (g r c : ℕ) → r < length (levels (A .C .P) (order (A .C .P) (A .C .P .n)) (suc k)) → g < A .C .P .n → c < degreeIn A k r
       → entryIn (upTo A (suc k)) (matrixOf (frameAt A k) (upTo A (suc k)) g r + c) ≡ col (repOf (levels (A .C .P) (order (A .C .P) (A .C .P .n)) (suc k)) r .matrix g) c
   unfolding lineOf
-  entry-of g r c h a b = ap₂ entry (word-of g r c 6 h a b (omega arith)) (word-of g r c 7 h a b (omega arith))
+  entry-of g r c h a b = ap₂ entry (word-of g r c ROW h a b (omega arith)) (word-of g r c EXP h a b (omega arith))
 
   -- ---- Matrices
 

@@ -4,14 +4,14 @@
 --   linesTo k                how many lines they are
 --   degreeIn k r             the degree of representation r of level suc k
 --   frameAt k                the frame of the level above level suc k
---   Small                    what refusal 13 leaves: at most 12 generators, order at most 4096
+--   Small                    what refusal 13 leaves: the ceilings on generators and on the order
 --   Placed i f W             a frame and words are those of the level above level i
 use mathlib.Core.Path.{_≡_}
 use mathlib.Core.List.{List}
 use Prim.Native.Nat.{ℕ, suc, _*_, _-_, _≤_, _<_}
 use lib.ListN.{length}
 use Rattle.definitions.specs.Lists.{blocks, sum}
-use Rattle.definitions.specs.Presentation.{Presentation, order}
+use Rattle.definitions.specs.Presentation.{maxGenerators, maxOrder, Presentation, order}
 use Rattle.definitions.specs.Monomial.{Level, repOf}
 use Rattle.definitions.specs.Table.{levelWords}
 use Rattle.definitions.specs.Steps.{levels}
@@ -53,8 +53,8 @@ module _ (A : Accepted) where
   }
 
   pub record Small : Type 0 where
-    pub few : A .C .P .n ≤ 12
-    pub low : order (A .C .P) (A .C .P .n) ≤ 4096
+    pub few : A .C .P .n ≤ maxGenerators
+    pub low : order (A .C .P) (A .C .P .n) ≤ maxOrder
 
   pub record Placed (i : ℕ) (f : Frame) (W : List ℕ) : Type 0 where
     pub above : 0 < i

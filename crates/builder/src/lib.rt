@@ -109,7 +109,7 @@ pub fn survey_level(
     survey::find_lines(low, first, f);
     survey::mark_orbits(low, first, leaders, places, f);
     let x = survey::count_numbers(low, first, leaders, numbers, f);
-    let t = lines::up(f.top);
+    let t = level::up(f.top);
     let u = rows::word(rows, t, t);
     survey::find_shifts(low, first, leaders, &u, shifts, f);
     x
@@ -244,19 +244,19 @@ pub fn middle_level(words: &mut [u32], rows: &Words, f: Frame) -> Written
     )
 }
 
-// The same with arrays of 4112 words, which suffice for every level. Sixteen more than its representations, so that no two
-// arrays lie whole pages apart.
+// The same with arrays of 2064 words, which suffice for every level: the level below has at most half the order of representations. Sixteen
+// more, so that no two arrays lie whole pages apart.
 pub fn large_level(words: &mut [u32], rows: &Words, f: Frame) -> Written
     requires { ⌜ Sound f (take (8 * f .end) (now words)) (now rows) × (8 * f .end + length (levelWords (f .gens) (suc (f .top)) (levelBy (sourceIn f (take (8 * f .end) (now words)) (now rows)))) ≤ length (now words)) ⌝ }
     ensures { λ t. ⌜ Wrote (now (words .entry)) (8 * f .end) (levelWords (f .gens) (suc (f .top)) (levelBy (sourceIn f (take (8 * f .end) (now (words .entry))) (now (rows .entry))))) (now (words .exit)) (8 * t .end) × (t .reps ≡ numberIn f (take (8 * f .end) (now (words .entry))) (f .reps)) ⌝ }
 {
-    let mut first = [0u32; 4112];
-    let mut leaders = [0u32; 4112];
-    let mut places = [0u32; 4112];
-    let mut numbers = [0u32; 4112];
-    let mut shifts = [0u32; 4112];
-    let mut orbit = [0u32; 4112];
-    let mut c = [0u32; 4112];
+    let mut first = [0u32; 2064];
+    let mut leaders = [0u32; 2064];
+    let mut places = [0u32; 2064];
+    let mut numbers = [0u32; 2064];
+    let mut shifts = [0u32; 2064];
+    let mut orbit = [0u32; 2064];
+    let mut c = [0u32; 2064];
     level_in(
         words,
         rows,

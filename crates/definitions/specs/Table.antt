@@ -1,5 +1,6 @@
 -- Table lines, eight words each, and table text ("Table lines" in the specification).
 --
+--   LEVEL .. EXP               the fields of a line, by their place in it
 --   lineOf, levelWords         the lines of a level's representations, in order
 --   wordAt T l k               word k of line l
 --   lineCount T                how many whole lines
@@ -19,9 +20,35 @@ use Rattle.definitions.specs.Text.{Bytes, render, small}
 use Rattle.definitions.specs.Presentation.{lineWords}
 use Rattle.definitions.specs.Monomial.{entry, col, identity, Rep, Level, repOf}
 
+-- ---- The fields of a line
+
+abbrev pub LEVEL : ℕ
+LEVEL = 0
+
+abbrev pub REP : ℕ
+REP = 1
+
+abbrev pub DEG : ℕ
+DEG = 2
+
+abbrev pub GEN : ℕ
+GEN = 3
+
+abbrev pub REF : ℕ
+REF = 4
+
+abbrev pub COL : ℕ
+COL = 5
+
+abbrev pub ROW : ℕ
+ROW = 6
+
+abbrev pub EXP : ℕ
+EXP = 7
+
 -- ---- Lines
 
--- level rep deg gen ref col row exp, for column c of generator g
+-- LEVEL REP DEG GEN REF COL ROW EXP, in this order, for column c of generator g
 unfoldable pub lineOf : (i r : ℕ) → Rep → (g c : ℕ) → List ℕ
 lineOf i r D g c = i ∷ r ∷ D .deg ∷ suc g ∷ D .ref g c ∷ c ∷ col (D .matrix g) c .row ∷ col (D .matrix g) c .exp ∷ []
 
@@ -43,11 +70,11 @@ lineCount T = length T / lineWords
 
 -- line l is the first of a representation of level i: its gen is 1 and its col is 0
 unfoldable pub begins : List ℕ → ℕ → ℕ → Bool
-begins T i l = eqb (wordAt T l 0) i && eqb (wordAt T l 3) 1 && eqb (wordAt T l 5) 0
+begins T i l = eqb (wordAt T l LEVEL) i && eqb (wordAt T l GEN) 1 && eqb (wordAt T l COL) 0
 
 -- the deg of each such line
 unfoldable pub degrees : List ℕ → ℕ → List ℕ
-degrees T i = blocks (lineCount T) (λ l. cond (begins T i l) (wordAt T l 2 ∷ []) [])
+degrees T i = blocks (lineCount T) (λ l. cond (begins T i l) (wordAt T l DEG ∷ []) [])
 
 -- columns of the first r representations that a list of degrees tells
 unfoldable pub columns : List ℕ → ℕ → ℕ
@@ -62,8 +89,8 @@ firstLine n T (suc i) r = n * (sum i (λ k. columns (degrees T (suc k)) (length 
 unfoldable pub repAt : List ℕ → (l d : ℕ) → Rep
 repAt T l d = record {
   deg = d;
-  matrix = λ g. map (λ c. entry (wordAt T (l + g * d + c) 6) (wordAt T (l + g * d + c) 7)) (upto d);
-  ref = λ g c. wordAt T (l + g * d + c) 4;
+  matrix = λ g. map (λ c. entry (wordAt T (l + g * d + c) ROW) (wordAt T (l + g * d + c) EXP)) (upto d);
+  ref = λ g c. wordAt T (l + g * d + c) REF;
 }
 
 -- level 0 has one representation of degree 1, and its intertwiners are the identity

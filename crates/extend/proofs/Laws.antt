@@ -22,16 +22,17 @@ use mathlib.Core.Bool.{cond}
 use Rattle.numbers.proofs.Bools.{cond-true}
 use Rattle.definitions.specs.declared.Entry.{Entry}
 use Rattle.definitions.specs.Lists.{iter, blocks}
-use Rattle.definitions.specs.Presentation.{toNF, pairNumber}
+use Rattle.definitions.specs.Presentation.{maxGenerators, maxOrder, maxModulus, toNF, pairNumber}
 use Rattle.definitions.specs.Monomial.{Matrix, entry, col, less, act, scale}
 use Rattle.definitions.specs.Table.{lineOf, repWords}
-use Rattle.numbers.proofs.Blocks.{getD-map, length-table, blocks-below, length-even}
+use Rattle.numbers.proofs.Blocks.{length-table, blocks-below, length-even}
 use Rattle.formulas.specs.Formulas.{Source, made, start, around, shift, plus, topEntry, landing, walk, extensionAt}
 use Rattle.lines.specs.declared.Head.{Head}
-use Rattle.lines.specs.Lines.{entryIn, matrixIn, headLine, blockLines}
-use Rattle.lines.proofs.Laws.{col-matrixIn}
+use Rattle.level.specs.Stored.{entryIn, matrixIn, throughIn}
+use Rattle.lines.specs.Lines.{headLine, blockLines}
+use Rattle.level.proofs.Laws.{col-matrixIn, col-scale}
 use Rattle.survey.specs.declared.Frame.{Frame}
-use Rattle.survey.specs.Below.{degOf, matrixOf, sourceIn, targetOf, closingIn, Stands}
+use Rattle.survey.specs.Below.{degOf, matrixOf, listedOf, sourceIn, targetOf, closingIn, Stands}
 use Rattle.survey.proofs.Counting.{number-fits}
 use Rattle.extend.specs.Extending.{conjugatedIn, factorOf, referenceOf, Ready, Extends, matrixWords}
 use Rattle.extend.specs.declared.Origin.{Origin}
@@ -51,8 +52,9 @@ module _ (f : Frame) (W : List ℕ) (rows : List (List ℕ)) where
   shift-below h r = mod-lt _ h
 
   -- the exponents of the two sides, and the number that they tell
-  pub landing-is : (j r a b : ℕ) → a ≡ act (f .m) (sourceIn f W [] .matrix r j) (conjugatedIn f W (getD rows (pairNumber j (f .top)) []) r (shift (sourceIn f W rows) r / f .p)) .exp
-      → b ≡ plus (f .m) (shift (sourceIn f W rows) (targetOf f W j r) / f .p) (act (f .m) (sourceIn f W [] .matrix (targetOf f W j r) (f .top)) (act (f .m) (sourceIn f W [] .matrix r j) (entry 0 0))) .exp
+  pub landing-is : (j r a b : ℕ)
+      → a ≡ act (f .m) (sourceIn f W [] .matrix r j) (conjugatedIn (f .m) (f .top) W (listedOf f W r) (getD rows (pairNumber j (f .top)) []) (shift (sourceIn f W rows) r / f .p)) .exp
+      → b ≡ throughIn (f .m) W (listedOf f W r) j (listedOf f W (targetOf f W j r)) (f .top) (shift (sourceIn f W rows) (targetOf f W j r) / f .p)
       → less (f .m) a b / (f .m / f .p) ≡ landing (sourceIn f W rows) j r
   unfolding landing conjugatedIn topEntry toNF
   landing-is j r a b e e′ = ap₂ (λ x y. less (f .m) x y / (f .m / f .p)) e e′
@@ -76,16 +78,16 @@ factor-below s p m k e h l =
     let b : suc k * (m / p) ≤ p * (m / p) = mul-le-mul-right (m / p) l in
     omega (arith, a, b, e)
 
-pub product-fits : (k a p : ℕ) → k < p → a ≤ p → p ≤ 16384 → k * a ≤ 268435456
+pub product-fits : (k a p : ℕ) → k < p → a ≤ p → p ≤ maxOrder → k * a ≤ 268435456
 product-fits k a p h l q =
-    let x : k * a ≤ k * 16384 = mul-le-mul-left k (omega arith) in
+    let x : k * a ≤ k * maxOrder = mul-le-mul-left k (omega arith) in
     omega (arith, x)
 
-pub landing-small : (f : Frame) (W : List ℕ) (rows : List (List ℕ)) → 0 < f .m → f .m ≤ 16384 → (j r : ℕ) → landing (sourceIn f W rows) j r ≤ 16384
+pub landing-small : (f : Frame) (W : List ℕ) (rows : List (List ℕ)) → 0 < f .m → f .m ≤ maxModulus → (j r : ℕ) → landing (sourceIn f W rows) j r ≤ maxModulus
 unfolding landing less
 landing-small f W rows h l j r = quotient-small _ (f .m) (f .m / f .p) h l
   where
-    quotient-small : (x m q : ℕ) → 0 < m → m ≤ 16384 → x % m / q ≤ 16384
+    quotient-small : (x m q : ℕ) → 0 < m → m ≤ maxModulus → x % m / q ≤ maxModulus
     quotient-small x m q h l = omega (arith, div-le-self (x % m) q, mod-lt x h)
 
 pub start-fits : (f : Frame) (W : List ℕ) (rows : List (List ℕ)) → Stands f W → (r : ℕ) → r ≤ f .reps → start (sourceIn f W rows) r ≤ 268435456
@@ -93,10 +95,6 @@ unfolding start made
 start-fits f W rows S r l = number-fits f W S r l
 
 -- ---- Lines
-
-pub col-scale : (m e : ℕ) (M : Matrix) (k : ℕ) → k < length M → col (scale m e M) k ≡ entry (col M k .row) ((col M k .exp + e) % m)
-unfolding col scale
-col-scale m e M k l = getD-map (λ (x : Entry). entry (x .row) ((x .exp + e) % m)) M k (entry 0 0) (entry 0 0) l
 
 -- the lines of one generator of an extension
 pub matrix-lines : (f : Frame) (W : List ℕ) (rows : List (List ℕ)) (h : Head) (rep r k g c d src : ℕ)
@@ -157,13 +155,13 @@ module _ (f : Frame) (W : List ℕ) (rows : List (List ℕ)) (r : ℕ) (o : Orig
 
 -- what `reference` asks
 pub reference-ready : (f : Frame) (W : List ℕ) (rows : List (List ℕ)) (to by : List ℕ) (r g k : ℕ) → Ready f W rows to by r → g < f .gens → k < f .p
-    → ((f .gens ≤ 12) × (f .top < f .gens) × (g < f .gens) × (f .gens ≤ length to) × (f .gens ≤ length by) × (0 < f .p) × (f .p ≤ 16384) × (k < f .p))
-    × ((f .top < g) → (getD to g 0 ≤ 268435456) × (getD by g 0 ≤ 16384) × (getD (getD rows (pairNumber g (f .top)) []) (f .top) 0 < f .p))
+    → ((f .gens ≤ maxGenerators) × (f .top < f .gens) × (g < f .gens) × (f .gens ≤ length to) × (f .gens ≤ length by) × (0 < f .p) × (f .p ≤ maxOrder) × (k < f .p))
+    × ((f .top < g) → (getD to g 0 ≤ 268435456) × (getD by g 0 ≤ maxModulus) × (getD (getD rows (pairNumber g (f .top)) []) (f .top) 0 < f .p))
 reference-ready f W rows to by r g k R l h = (
   (R .stands .gens .1, R .stands .gens .0, l, R .long .0, R .long .1, omega (arith, R .stands .prime .0), omega (arith, R .stands .prime .1), h),
   λ above. (
     subst (λ x. x ≤ 268435456) (sym (R .to-is g above l)) (start-fits f W rows (R .stands) _ (omega (arith, R .stands .target r (R .listed) g (omega (arith, above)) l .0))),
-    subst (λ x. x ≤ 16384) (sym (R .by-is g above l)) (landing-small f W rows (R .stands .modulus .0) (R .stands .modulus .1) g r),
+    subst (λ x. x ≤ maxModulus) (sym (R .by-is g above l)) (landing-small f W rows (R .stands .modulus .0) (R .stands .modulus .1) g r),
     R .words .below g above l,
   ),
 )

@@ -3,7 +3,7 @@
 --   factorOf, referenceOf      the constant and the reference of a generator
 --   Ready, Extends             what is known where extensions are written: of the targets, and of what is copied
 --   matrixWords, extensionsWords      the words of one generator, and of all extensions
---   conjugatedIn               column 0 of a representation moved by the generators of a word, the one on top scaled
+--   conjugatedIn               column 0 of a representation moved by the generators of a word, the highest scaled
 use mathlib.Core.List.{List, []}
 use mathlib.Core.Bool.{cond}
 use mathlib.Core.Path.{_≡_}
@@ -16,13 +16,15 @@ use Rattle.definitions.specs.Presentation.{toNF, pairNumber}
 use Rattle.definitions.specs.Monomial.{entry, act}
 use Rattle.definitions.specs.Table.{lineOf, repWords}
 use Rattle.formulas.specs.Formulas.{walk, plus, shift, start, landing, extensionAt}
+use Rattle.level.specs.declared.Listed.{Listed}
+use Rattle.level.specs.Stored.{generatorIn}
 use Rattle.survey.specs.declared.Frame.{Frame}
-use Rattle.survey.specs.Below.{firstOf, degOf, targetOf, sourceIn, Stands, Rows}
+use Rattle.survey.specs.Below.{degOf, targetOf, sourceIn, Stands, Located, Rows}
 use Rattle.extend.specs.declared.Origin.{Origin}
 
-unfoldable pub conjugatedIn : Frame → List ℕ → List ℕ → ℕ → ℕ → Entry
-conjugatedIn f W w r c =
-    iter (λ y. plus (f .m) c (act (f .m) (sourceIn f W [] .matrix r (f .top)) y)) (suc (getD w (f .top) 0)) (walk (f .m) (sourceIn f W [] .matrix r) (f .top) (toNF (f .top) w) (entry 0 0))
+unfoldable pub conjugatedIn : (m g : ℕ) → List ℕ → Listed → List ℕ → ℕ → Entry
+conjugatedIn m g W D w c =
+    iter (λ y. plus m c (act m (generatorIn W D g) y)) (suc (getD w g 0)) (walk m (generatorIn W D) g (toNF g w) (entry 0 0))
 
 -- the constant of generator g in extension k, from that of the orbit
 unfoldable pub factorOf : Frame → ℕ → ℕ → ℕ → ℕ
@@ -44,8 +46,7 @@ pub record Ready (f : Frame) (W : List ℕ) (rows : List (List ℕ)) (to by : Li
 
 -- what the extensions of r are copied from
 pub record Extends (f : Frame) (W : List ℕ) (rows : List (List ℕ)) (r : ℕ) (o : Origin) : Type 0 where
-  pub line-is : o .line ≡ firstOf f W r
-  pub deg-is : o .deg ≡ degOf f W r
+  pub source-is : Located f W r (o .source)
   pub root-is : o .root ≡ shift (sourceIn f W rows) r / f .p
   pub step-is : o .step ≡ f .m / f .p
 

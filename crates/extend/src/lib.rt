@@ -5,86 +5,32 @@ ghost use mathlib.Core.Bool.{cond};
 ghost use Prim.Native.Nat.{ℕ, suc, _+_, _*_, _/_, _≤_, _<_};
 ghost use lib.ListN.{length, getD, take};
 ghost use lib.Dec.{eqb};
-ghost use Rattle.definitions.specs.Lists.{iter, blocks};
-ghost use Rattle.definitions.specs.Monomial.{entry, act};
+ghost use Rattle.definitions.specs.Lists.{blocks};
+ghost use Rattle.definitions.specs.Monomial.{entry};
 ghost use Rattle.definitions.specs.Table.{repWords};
-ghost use Rattle.definitions.specs.Presentation.{toNF, pairNumber};
-ghost use Rattle.formulas.specs.Formulas.{walk, plus, landing, shift, start, extensionAt};
+ghost use Rattle.definitions.specs.Presentation.{maxGenerators, maxOrder, maxModulus, pairNumber};
+ghost use Rattle.formulas.specs.Formulas.{landing, shift, start, extensionAt};
 ghost use Rattle.text.specs.Writing.{Wrote};
-ghost use Rattle.lines.specs.Lines.{Below};
-ghost use Rattle.survey.specs.Below.{firstOf, degOf, targetOf, sourceIn, Stands, Rows, Array, Leading, Fixing, Lines};
+ghost use Rattle.level.specs.Stored.{Below, Stored};
+ghost use Rattle.survey.specs.Below.{degOf, targetOf, sourceIn, Stands, Located, Rows, Array, Leading, Fixing, Lines};
 ghost use Rattle.extend.specs.Extending.{conjugatedIn, referenceOf, Ready, Extends, matrixWords, extensionsWords};
 use definitions::Entry;
+use level::Listed;
 use lines::Head;
+use rows::GENERATORS;
 use rows::Row;
 use rows::Words;
 use survey::Frame;
 
-// Generator g of representation r on an entry.
-pub fn moved(low: &[u32], first: &[u32], f: Frame, g: u32, r: u32, x: Entry) -> Entry
-    requires { ⌜ Stands f (now low) × Lines f (now low) (now first) × (r < f .reps) × (g < f .gens) × Below (f .m) (degOf f (now low) r) x ⌝ }
-    ensures { λ y. ⌜ (y ≡ act (f .m) (sourceIn f (now (low .entry)) [] .matrix r g) x) × Below (f .m) (degOf f (now (low .entry)) r) y ⌝ }
+// Column 0 of d moved by j⁻¹ g j in extension 0: by the word w of the two, the part of g scaled by c, and once more by g.
+pub fn conjugated(low: &[u32], w: &Row, d: Listed, g: u32, c: u32, m: u32) -> Entry
+    requires { ⌜ Stored m (suc g) (now low) d × (g < maxGenerators) × (c < m) × (getD (now w) g 0 < maxOrder) ⌝ }
+    ensures { λ y. ⌜ (y ≡ conjugatedIn m g (now (low .entry)) d (now (w .entry)) c) × Below m (d .deg) y ⌝ }
 {
-    let d = survey::degree(low, first, f, r);
-    let at = survey::matrix_line(low, first, f, g, r);
-    lines::apply(low, at, d, x, f.m)
-}
-
-// The generator on top of representation r, times the c-th power of the root, on an entry.
-pub fn scaled(low: &[u32], first: &[u32], f: Frame, r: u32, c: u32, x: Entry) -> Entry
-    requires { ⌜ Stands f (now low) × Lines f (now low) (now first) × (r < f .reps) × (c < f .m) × Below (f .m) (degOf f (now low) r) x ⌝ }
-    ensures { λ y. ⌜ (y ≡ plus (f .m) c (act (f .m) (sourceIn f (now (low .entry)) [] .matrix r (f .top)) x)) × Below (f .m) (degOf f (now (low .entry)) r) y ⌝ }
-{
-    let y = moved(low, first, f, f.top, r, x);
-    Entry {
-        row: y.row,
-        exp: lines::add_mod(y.exp, c, f.m),
-    }
-}
-
-// The same k times.
-pub fn scaled_times(low: &[u32], first: &[u32], f: Frame, r: u32, c: u32, k: u32, x: Entry) -> Entry
-    requires { ⌜ Stands f (now low) × Lines f (now low) (now first) × (r < f .reps) × (c < f .m) × Below (f .m) (degOf f (now low) r) x ⌝ }
-    ensures { λ y. ⌜ (y ≡ iter (λ z. plus (f .m) c (act (f .m) (sourceIn f (now (low .entry)) [] .matrix r (f .top)) z)) k x) × Below (f .m) (degOf f (now (low .entry)) r) y ⌝ }
-{
-    let mut y = x;
-    for i in 0..k {
-        y = scaled(low, first, f, r, c, y);
-    }
-    y
-}
-
-// Column 0 of representation r moved by the word w on the generators below the one on top.
-pub fn walked(low: &[u32], first: &[u32], w: &Row, f: Frame, r: u32) -> Entry
-    requires { ⌜ Stands f (now low) × Lines f (now low) (now first) × (r < f .reps) ⌝ }
-    ensures { λ y. ⌜ (y ≡ walk (f .m) (sourceIn f (now (low .entry)) [] .matrix r) (f .top) (toNF (f .top) (now (w .entry))) (entry 0 0)) × Below (f .m) (degOf f (now (low .entry)) r) y ⌝ }
-{
-    let s = survey::matrix_line(low, first, f, 0, r);
-    let d = survey::degree(low, first, f, r);
-    let t = lines::up(f.top);
-    lines::apply_word(low, s, d, w, t, Entry { row: 0, exp: 0 }, f.m)
-}
-
-// Column 0 of representation r moved by j⁻¹ g j in extension 0, g the generator on top: by the word w of the two, the
-// part of the one on top scaled by c, and once more by that one.
-pub fn conjugated(low: &[u32], first: &[u32], w: &Row, f: Frame, r: u32, c: u32) -> Entry
-    requires { ⌜ Stands f (now low) × Lines f (now low) (now first) × (r < f .reps) × (c < f .m) × (getD (now w) (f .top) 0 < f .p) ⌝ }
-    ensures { λ y. ⌜ (y ≡ conjugatedIn f (now (low .entry)) (now (w .entry)) r c) × Below (f .m) (degOf f (now (low .entry)) r) y ⌝ }
-{
-    let x = walked(low, first, w, f, r);
-    let t = lines::up(f.top);
+    let t = level::up(g);
+    let x = level::walked(low, d, w, t, Entry { row: 0, exp: 0 }, m);
     let k = w[t];
-    scaled_times(low, first, f, r, c, k + 1, x)
-}
-
-// The exponent of column 0 moved by the intertwiner of generator j, and then by the generator on top of q scaled by c.
-pub fn right(low: &[u32], first: &[u32], f: Frame, j: u32, r: u32, q: u32, c: u32) -> u32
-    requires { ⌜ Stands f (now low) × Lines f (now low) (now first) × (r < f .reps) × (j < f .gens) × (c < f .m) × (q < f .reps) × (degOf f (now low) q ≡ degOf f (now low) r) ⌝ }
-    ensures { λ e. ⌜ (e ≡ plus (f .m) c (act (f .m) (sourceIn f (now (low .entry)) [] .matrix q (f .top)) (act (f .m) (sourceIn f (now (low .entry)) [] .matrix r j) (entry 0 0))) .exp) × (e < f .m) ⌝ }
-{
-    let y = moved(low, first, f, j, r, Entry { row: 0, exp: 0 });
-    let z = scaled(low, first, f, q, c, y);
-    z.exp
+    level::scaled_times(low, d, g, c, k + 1, x, m)
 }
 
 // The constant of extension 0.
@@ -102,27 +48,28 @@ pub fn landing(
     rows: &Words,
     shifts: &[u32],
     f: Frame,
+    d: Listed,
     j: u32,
     r: u32,
 ) -> u32
-    requires { ⌜ Stands f (now low) × Lines f (now low) (now first) × Rows f (now low) (now rows) × Leading f (now low) (now shifts) (shift (sourceIn f (now low) (now rows))) × (r < f .reps) × (f .top < j) × (j < f .gens) × (targetOf f (now low) (f .top) r ≡ r) × Fixing f (now low) ⌝ }
+    requires { ⌜ Located f (now low) r d × Lines f (now low) (now first) × Rows f (now low) (now rows) × Leading f (now low) (now shifts) (shift (sourceIn f (now low) (now rows))) × (f .top < j) × (j < f .gens) × (targetOf f (now low) (f .top) r ≡ r) × Fixing f (now low) ⌝ }
     ensures { λ x. ⌜ (x ≡ landing (sourceIn f (now (low .entry)) (now (rows .entry))) j r) × (x ≤ f .m) ⌝ }
 {
-    let w = rows::word(rows, lines::up(j), lines::up(f.top));
+    let w = rows::word(rows, level::up(j), level::up(f.top));
     let c = root(shifts, f, r);
-    let x = conjugated(low, first, &w, f, r, c);
-    let y = moved(low, first, f, j, r, x);
-    let q = survey::target(low, first, f, j, r);
+    let x = conjugated(low, &w, d, f.top, c, f.m);
+    let y = level::moved(low, d, j, x, f.m);
+    let q = level::target(low, d, j);
+    let e = survey::member(low, first, f, d.deg, q);
     let b = root(shifts, f, q);
-    let e = right(low, first, f, j, r, q, b);
-    lines::sub_mod(y.exp, e, f.m) / (f.m / f.p)
+    let z = level::through(low, d, j, e, f.top, b, f.m);
+    level::sub_mod(y.exp, z, f.m) / (f.m / f.p)
 }
 
-// What the extensions of a representation are copied from: its first line, its degree, the constant of extension 0, and
-// what each extension adds to it.
+// What the extensions of a representation are copied from: the representation, the constant of extension 0, and what each
+// extension adds to it.
 pub struct Origin {
-    pub line: usize,
-    pub deg: u32,
+    pub source: Listed,
     pub root: u32,
     pub step: u32,
 }
@@ -130,11 +77,10 @@ pub struct Origin {
 // This of representation r.
 pub fn find_origin(low: &[u32], first: &[u32], shifts: &[u32], f: Frame, r: u32) -> Origin
     requires { ⌜ Stands f (now low) × Lines f (now low) (now first) × (r < f .reps) × (r < length (now shifts)) × (getD (now shifts) r 0 < f .m) ⌝ }
-    ensures { λ o. ⌜ (o .line ≡ firstOf f (now (low .entry)) r) × (o .deg ≡ degOf f (now (low .entry)) r) × (o .root ≡ getD (now (shifts .entry)) r 0 / f .p) × (o .step ≡ f .m / f .p) ⌝ }
+    ensures { λ o. ⌜ Located f (now (low .entry)) r (o .source) × (o .root ≡ getD (now (shifts .entry)) r 0 / f .p) × (o .step ≡ f .m / f .p) ⌝ }
 {
     Origin {
-        line: lines::up(survey::element(first, r)),
-        deg: survey::degree(low, first, f, r),
+        source: survey::listed(low, first, f, r),
         root: root(shifts, f, r),
         step: f.m / f.p,
     }
@@ -142,7 +88,7 @@ pub fn find_origin(low: &[u32], first: &[u32], shifts: &[u32], f: Frame, r: u32)
 
 // The constant of generator g in extension k.
 pub fn factor(f: Frame, o: Origin, g: u32, k: u32) -> u32
-    requires { ⌜ (f .m ≤ 16384) × (o .root + k * o .step < f .m) ⌝ }
+    requires { ⌜ (f .m ≤ maxModulus) × (o .root + k * o .step < f .m) ⌝ }
     ensures { λ c. ⌜ (c ≡ cond (eqb g (f .top)) (o .root + k * o .step) 0) × (c < f .m) ⌝ }
 {
     if g == f.top {
@@ -152,24 +98,16 @@ pub fn factor(f: Frame, o: Origin, g: u32, k: u32) -> u32
 }
 
 // The reference of generator g in extension k.
-pub fn reference(
-    rows: &Words,
-    to: &[u32],
-    by: &[u32],
-    f: Frame,
-    r: u32,
-    g: u32,
-    k: u32,
-) -> u32
-    requires { ⌜ (f .gens ≤ 12) × (f .top < f .gens) × (g < f .gens) × (f .gens ≤ length (now to)) × (f .gens ≤ length (now by)) × (0 < f .p) × (f .p ≤ 16384) × (k < f .p) ⌝ }
-    requires { ⌜ ((f .top < g) → (getD (now to) g 0 ≤ 268435456) × (getD (now by) g 0 ≤ 16384) × (getD (getD (now rows) (pairNumber g (f .top)) []) (f .top) 0 < f .p)) ⌝ }
+pub fn reference(rows: &Words, to: &[u32], by: &[u32], f: Frame, r: u32, g: u32, k: u32) -> u32
+    requires { ⌜ (f .gens ≤ maxGenerators) × (f .top < f .gens) × (g < f .gens) × (f .gens ≤ length (now to)) × (f .gens ≤ length (now by)) × (0 < f .p) × (f .p ≤ maxOrder) × (k < f .p) ⌝ }
+    requires { ⌜ ((f .top < g) → (getD (now to) g 0 ≤ 268435456) × (getD (now by) g 0 ≤ maxModulus) × (getD (getD (now rows) (pairNumber g (f .top)) []) (f .top) 0 < f .p)) ⌝ }
     ensures { λ x. ⌜ x ≡ referenceOf f (now (rows .entry)) (now (to .entry)) (now (by .entry)) r g k ⌝ }
 {
     if g <= f.top {
         return r;
     }
-    let w = rows::word(rows, lines::up(g), lines::up(f.top));
-    let t = lines::up(f.top);
+    let w = rows::word(rows, level::up(g), level::up(f.top));
+    let t = level::up(f.top);
     let a = w[t] + 1;
     let l = survey::element(by, g);
     survey::element(to, g) + (l + k * a) % f.p
@@ -194,16 +132,16 @@ pub fn append_matrix(
 {
     let c = factor(f, o, g, k);
     let x = reference(rows, to, by, f, r, g, k);
-    let d = o.deg;
-    let src = survey::line_of(o.line, g, d);
+    let d = o.source;
+    let src = level::matrix_line(d, g);
     let h = Head {
         level: f.top + 1,
         rep: rep,
-        deg: d,
+        deg: d.deg,
         generator: g + 1,
         refn: x,
     };
-    lines::append_block(words, f.end, at, h, 0, 0, src, d, c, f.m)
+    lines::append_block(words, f.end, at, h, 0, 0, src, d.deg, c, f.m)
 }
 
 // The same for a representation of degree 1.
@@ -225,7 +163,7 @@ pub fn append_single(
 {
     let c = factor(f, o, g, k);
     let x = reference(rows, to, by, f, r, g, k);
-    let src = survey::line_of(o.line, g, 1);
+    let src = level::matrix_line(o.source, g);
     let h = Head {
         level: f.top + 1,
         rep: rep,
@@ -300,7 +238,8 @@ pub fn append_extension(
     requires { ⌜ Ready f (take (8 * f .end) (now words)) (now rows) (now to) (now by) r × Extends f (take (8 * f .end) (now words)) (now rows) r o × (k < f .p) × (f .end ≤ at) × (8 * at + 8 * (f .gens * degOf f (take (8 * f .end) (now words)) r) ≤ length (now words)) ⌝ }
     ensures { λ x. ⌜ Wrote (now (words .entry)) (8 * at) (repWords (f .gens) (suc (f .top)) rep (extensionAt (sourceIn f (take (8 * f .end) (now (words .entry))) (now (rows .entry))) r k)) (now (words .exit)) (8 * x) ⌝ }
 {
-    if o.deg == 1 {
+    let d = o.source;
+    if d.deg == 1 {
         return append_singles(words, rows, to, by, f, o, at, rep, r, k);
     }
     append_matrices(words, rows, to, by, f, o, at, rep, r, k)
@@ -322,13 +261,14 @@ pub fn find_targets(
     requires { ⌜ Stands f (now low) × Lines f (now low) (now first) × Rows f (now low) (now rows) × Array f (now low) (now numbers) (start (sourceIn f (now low) (now rows))) × Leading f (now low) (now shifts) (shift (sourceIn f (now low) (now rows))) × (r < f .reps) × (f .gens ≤ length (now to)) × (f .gens ≤ length (now by)) × (targetOf f (now low) (f .top) r ≡ r) × Fixing f (now low) ⌝ }
     ensures { λ _. ⌜ Ready f (now (low .entry)) (now (rows .entry)) (now (to .exit)) (now (by .exit)) r ⌝ }
 {
+    let d = survey::listed(low, first, f, r);
     let lo = f.top + 1;
     let gens = f.gens;
     for j in lo..gens {
-        let q = survey::target(low, first, f, j, r);
+        let q = level::target(low, d, j);
         let x = survey::element(numbers, q);
         survey::store(to, j, x);
-        let l = landing(low, first, rows, shifts, f, j, r);
+        let l = landing(low, first, rows, shifts, f, d, j, r);
         survey::store(by, j, l);
     }
 }
@@ -371,8 +311,8 @@ pub fn append_extensions(
     ensures { λ x. ⌜ Wrote (now (words .entry)) (8 * at) (extensionsWords f (take (8 * f .end) (now (words .entry))) (now (rows .entry)) (start (sourceIn f (take (8 * f .end) (now (words .entry))) (now (rows .entry))) r) r) (now (words .exit)) (8 * x) ⌝ }
 {
     let n = 8 * f.end;
-    let mut to = [0u32; 12];
-    let mut by = [0u32; 12];
+    let mut to = [0u32; GENERATORS];
+    let mut by = [0u32; GENERATORS];
     find_targets(
         &words[..n],
         first,

@@ -11,7 +11,7 @@ use native.Mathlib.Nat.{mul-le-mul-left}
 use native.Mathlib.Numerals.{add-one}
 use native.Mathlib.Omega.{arith}
 use lib.ListN.{length, getD}
-use Rattle.definitions.specs.Presentation.{pairNumber}
+use Rattle.definitions.specs.Presentation.{maxOrder, maxModulus, pairNumber}
 use Rattle.numbers.proofs.Blocks.{length-even}
 use Rattle.first.specs.Roots.{rootRef, rootExp, rootLine, rootWords, firstWords}
 
@@ -38,5 +38,5 @@ module _ (n p m : ℕ) (rows : List (List ℕ)) where
 pub word-read : (rows : List (List ℕ)) (w : List ℕ) (j g : ℕ) → w ≡ getD rows (pairNumber j 0) [] → j ≡ g → getD w 0 0 ≡ getD (getD rows (pairNumber g 0) []) 0 0
 word-read rows w j g a b = ap (λ x. getD x 0 0) (a ∙ ap (λ i. getD rows (pairNumber i 0) []) b)
 
-pub product-fits : (a b : ℕ) → a ≤ 4096 → b ≤ 16384 → a * b ≤ 67108864
-product-fits a b h l = let x : a * b ≤ a * 16384 = mul-le-mul-left a l in omega (arith, x)
+pub product-fits : (a b : ℕ) → a ≤ maxOrder → b ≤ maxModulus → a * b ≤ 67108864
+product-fits a b h l = let x : a * b ≤ a * maxModulus = mul-le-mul-left a l in omega (arith, x)

@@ -7,22 +7,23 @@ ghost use Rattle.first.specs.Roots.{Exponents, rootRef, rootExp, rootWor
 use definitions::Entry;
 use lines::Head;
 use rows::Words;
+ghost use Rattle.definitions.specs.Presentation.{maxGenerators, maxOrder, maxModulus};
 
 // Where the intertwiner of generator g leads power k; 0 for the generator of the level.
 pub fn reference(rows: &Words, n: u32, p: u32, k: u32, g: u32) -> u32
-    requires { ⌜ (n ≤ 12) × (g < n) × (p ≤ 4096) × (k < p) × Exponents n p (now rows) ⌝ }
+    requires { ⌜ (n ≤ maxGenerators) × (g < n) × (p ≤ maxOrder) × (k < p) × Exponents n p (now rows) ⌝ }
     ensures { λ x. ⌜ x ≡ rootRef p (now (rows .entry)) k g ⌝ }
 {
     if g == 0 {
         return 0;
     }
-    let w = rows::word(rows, lines::up(g), 0);
+    let w = rows::word(rows, level::up(g), 0);
     k * (w[0] + 1) % p
 }
 
 // The exponent of generator g in power k.
 pub fn exponent(p: u32, m: u32, k: u32, g: u32) -> u32
-    requires { ⌜ (p ≤ 4096) × (m ≤ 16384) × (k < p) ⌝ }
+    requires { ⌜ (p ≤ maxOrder) × (m ≤ maxModulus) × (k < p) ⌝ }
     ensures { λ x. ⌜ x ≡ rootExp p m k g ⌝ }
 {
     if g == 0 {
@@ -41,7 +42,7 @@ pub fn append_root(
     at: usize,
     k: u32,
 ) -> usize
-    requires { ⌜ (n ≤ 12) × (p ≤ 4096) × (m ≤ 16384) × (k < p) × Exponents n p (now rows) × (8 * at + 8 * n ≤ length (now words)) ⌝ }
+    requires { ⌜ (n ≤ maxGenerators) × (p ≤ maxOrder) × (m ≤ maxModulus) × (k < p) × Exponents n p (now rows) × (8 * at + 8 * n ≤ length (now words)) ⌝ }
     ensures { λ x. ⌜ Wrote (now (words .entry)) (8 * at) (rootWords n p m (now (rows .entry)) k) (now (words .exit)) (8 * x) ⌝ }
 {
     let mut pos = at;
@@ -62,7 +63,7 @@ pub fn append_root(
 
 // Writes level 1 of n generators, the lowest of prime p, with exponents modulo m. Returns the next line's number.
 pub fn first_level(words: &mut [u32], rows: &Words, n: u32, p: u32, m: u32) -> usize
-    requires { ⌜ (n ≤ 12) × (p ≤ 4096) × (m ≤ 16384) × Exponents n p (now rows) × (8 * (p * n) ≤ length (now words)) ⌝ }
+    requires { ⌜ (n ≤ maxGenerators) × (p ≤ maxOrder) × (m ≤ maxModulus) × Exponents n p (now rows) × (8 * (p * n) ≤ length (now words)) ⌝ }
     ensures { λ x. ⌜ Wrote (now (words .entry)) 0 (firstWords n p m (now (rows .entry))) (now (words .exit)) (8 * x) ⌝ }
 {
     let mut pos = 0usize;

@@ -1,6 +1,7 @@
 -- Laws of orbits and blocks.
 --
 --   orbit-degree               the members of an orbit have one degree
+--   orbit-member               what stands at a block of an array that holds an orbit
 --   cycled-held, conjugate-starts      entries that are held along the generator on top
 --   shifts-below, righting, right-is, left-is    what is known of an orbit, and the two sides at its blocks
 --   plus-zero                  adding 0 to an exponent below the modulus
@@ -20,12 +21,12 @@ use Rattle.definitions.specs.Monomial.{entry, act}
 use Rattle.numbers.proofs.Lists.{iter-zero}
 use Rattle.formulas.specs.Formulas.{Source, plus, walk, shift}
 use Rattle.formulas.specs.Formulas as Fm
-use Rattle.lines.proofs.Laws.{iter-next}
+use Rattle.level.proofs.Laws.{iter-next}
 use Rattle.survey.specs.declared.Frame.{Frame}
 use Rattle.survey.specs.Below.{degOf, targetOf, sourceIn, leaderIn, positionIn, Stands}
 use Rattle.survey.proofs.Marking.{orbit-inside, lead-below, lead-lead}
 use Rattle.induce.specs.declared.Moved.{Moved}
-use Rattle.induce.specs.Inducing.{Inducing, Held, Cycled, Righting, rightIn}
+use Rattle.induce.specs.Inducing.{OrbitArray, Inducing, Held, Cycled, Righting, rightIn}
 
 pub orbit-degree : (f : Frame) (W : List ℕ) → Stands f W → (r k : ℕ) → r < f .reps → degOf f W (iter (targetOf f W (f .top)) k r) ≡ degOf f W r
 orbit-degree f W S r zero l = ap (degOf f W) (iter-zero _ r)
@@ -33,6 +34,12 @@ orbit-degree f W S r (suc k) l =
     let τ = targetOf f W (f .top) in
     let e : iter τ (suc k) r ≡ τ (iter τ k r) = ap (λ n. iter τ n r) (sym (add-one k)) ∙ iter-next τ k r in
     ap (degOf f W) e ∙ S .target (iter τ k r) (orbit-inside f W S r k l) (f .top) (le-refl _) (S .gens .0) .1 ∙ orbit-degree f W S r k l
+
+pub orbit-member : {f : Frame} {W orbit : List ℕ} {r : ℕ} → Stands f W → r < f .reps → OrbitArray f W orbit r → (b q : ℕ) → b < f .p → q ≡ getD orbit b 0
+    → (q ≡ iter (targetOf f W (f .top)) b r) × (q < f .reps) × (degOf f W q ≡ degOf f W r)
+orbit-member {f} {W} {orbit} {r} S l O b q h e =
+    let o : q ≡ iter (targetOf f W (f .top)) b r = e ∙ O .at b h in
+    (o, subst (λ x. x < f .reps) (sym o) (orbit-inside f W S r b l), ap (degOf f W) o ∙ orbit-degree f W S r b l)
 
 pub plus-zero : (m : ℕ) (x : Entry) → x .exp < m → x ≡ plus m 0 x
 unfolding plus

@@ -22,9 +22,9 @@ use Rattle.numbers.proofs.Blocks.{getD-map, length-table, blocks-below, blocks-
 use Rattle.numbers.proofs.Sums.{sum-const}
 use Rattle.formulas.specs.Formulas.{Source, start, leader, blockTo, blockBy, inductionAt}
 use Rattle.lines.specs.declared.Head.{Head}
-use Rattle.lines.specs.Lines.{entryIn, headLine, blockLines}
-use Rattle.lines.proofs.Laws.{col-matrixIn}
-use Rattle.extend.proofs.Laws.{col-scale}
+use Rattle.level.specs.Stored.{entryIn}
+use Rattle.lines.specs.Lines.{headLine, blockLines}
+use Rattle.level.proofs.Laws.{col-matrixIn, col-scale}
 use Rattle.survey.specs.declared.Frame.{Frame}
 use Rattle.survey.specs.Below.{degOf, targetOf, matrixOf, sourceIn, Stands}
 use Rattle.induce.specs.Inducing.{partWords, partsIn, staysIn, blockWords, generatorWords}

@@ -25,7 +25,8 @@ use Rattle.definitions.specs.Monomial.{entry, less, act}
 use Rattle.definitions.specs.Table.{lineOf}
 use Rattle.formulas.specs.Formulas.{plus, shift, start, conjugateEntry, leftAt, rightAt, blockAt, scalar, blockTo, inductionAt}
 use Rattle.formulas.specs.Formulas as Fm
-use Rattle.lines.specs.Lines.{Below, blockLines}
+use Rattle.level.specs.Stored.{Below}
+use Rattle.lines.specs.Lines.{blockLines}
 use Rattle.survey.specs.declared.Frame.{Frame}
 use Rattle.survey.specs.Below.{degOf, targetOf, matrixOf, sourceIn, leaderIn, positionIn, Stands, Rows, Array, Leading, Fixing, Lines}
 use Rattle.induce.specs.declared.Moved.{Moved}

@@ -6,16 +6,17 @@ ghost use mathlib.Core.Bool.{cond};
 ghost use lib.ListN.{length, getD, take};
 ghost use lib.Dec.{ltb, leb};
 ghost use Rattle.definitions.specs.Lists.{iter, blocks};
-ghost use Rattle.definitions.specs.Presentation.{pairNumber};
+ghost use Rattle.definitions.specs.Presentation.{maxOrder, pairNumber};
 ghost use Rattle.definitions.specs.Monomial.{entry, act};
 ghost use Rattle.formulas.specs.Formulas.{shift, start, leader, cycleEntry, conjugateEntry, blockTo, inductionAt};
-ghost use Rattle.lines.specs.Lines.{Below};
+ghost use Rattle.level.specs.Stored.{Below};
 ghost use Rattle.survey.specs.Below.{degOf, targetOf, sourceIn, Stands, Lines};
 ghost use Rattle.induce.specs.Inducing.{OrbitArray, Inducing, BlockScalars, Held, Cycled, Righting, rightIn, NextScalar, Surveyed, Writing, factorIn, referenceIn, partWords, partsIn, staysIn, generatorWords};
 ghost use Rattle.survey.specs.Below.{positionIn, leaderIn, Array};
 ghost use Rattle.text.specs.Writing.{Wrote};
 ghost use Rattle.definitions.specs.Table.{repWords};
 use definitions::Entry;
+use level::Listed;
 use lines::Head;
 use rows::Row;
 use rows::Words;
@@ -32,12 +33,13 @@ pub fn list_orbit(low: &[u32], first: &[u32], orbit: &mut [u32], f: Frame, r: u3
     requires { ⌜ Stands f (now low) × Lines f (now low) (now first) × (r < f .reps) × (f .p ≤ length (now orbit)) ⌝ }
     ensures { λ _. ⌜ OrbitArray f (now (low .entry)) (now (orbit .exit)) r ⌝ }
 {
-    let d = survey::degree(low, first, f, r);
+    let d = survey::listed(low, first, f, r);
     let mut q = r;
     let p = f.p;
     for k in 0..p {
         survey::store(orbit, k, q);
-        q = survey::next_of(low, first, f, d, q);
+        let e = survey::member(low, first, f, d.deg, q);
+        q = level::target(low, e, f.top);
     }
 }
 
@@ -48,7 +50,8 @@ pub fn cycle(low: &[u32], first: &[u32], orbit: &[u32], f: Frame, c: u32, r: u32
 {
     let b = s.block;
     let q = survey::element(orbit, b);
-    let y = extend::moved(low, first, f, f.top, q, s.x);
+    let e = survey::listed(low, first, f, q);
+    let y = level::moved(low, e, f.top, s.x, f.m);
     if b + 1 < f.p {
         return Moved { block: b + 1, x: y };
     }
@@ -56,7 +59,7 @@ pub fn cycle(low: &[u32], first: &[u32], orbit: &[u32], f: Frame, c: u32, r: u32
         block: 0,
         x: Entry {
             row: y.row,
-            exp: lines::add_mod(y.exp, c, f.m),
+            exp: level::add_mod(y.exp, c, f.m),
         },
     }
 }
@@ -97,8 +100,9 @@ pub fn conjugate(
     ensures { λ t. ⌜ ((rows : List (List ℕ)) (j : ℕ) → shift (sourceIn f (now (low .entry)) rows) r ≡ c → getD rows (pairNumber j (f .top)) [] ≡ now (w .entry) → Held f (now (low .entry)) r (conjugateEntry (sourceIn f (now (low .entry)) rows) j r b) t) × (t .block < f .p) × Below (f .m) (degOf f (now (low .entry)) r) (t .x) ⌝ }
 {
     let q = survey::element(orbit, b);
-    let x = extend::walked(low, first, w, f, q);
-    let t = lines::up(f.top);
+    let e = survey::listed(low, first, f, q);
+    let t = level::up(f.top);
+    let x = level::walked(low, e, w, t, Entry { row: 0, exp: 0 }, f.m);
     let k = w[t];
     cycle_times(low, first, orbit, f, c, r, k + 1, Moved { block: b, x: x })
 }
@@ -110,13 +114,14 @@ pub fn left(low: &[u32], first: &[u32], orbit: &[u32], f: Frame, j: u32, r: u32,
 {
     let b = s.block;
     let q = survey::element(orbit, b);
-    let y = extend::moved(low, first, f, j, q, s.x);
+    let e = survey::listed(low, first, f, q);
+    let y = level::moved(low, e, j, s.x, f.m);
     y.exp
 }
 
 // The constant of the generator on top behind representation q of an orbit: 0, and at the end of the orbit what closes it.
 pub fn constant(leaders: &[u32], places: &[u32], shifts: &[u32], f: Frame, q: u32) -> u32
-    requires { ⌜ (q < length (now places)) × (q < length (now leaders)) × (getD (now leaders) q 0 < length (now shifts)) × (0 < f .m) × (getD (now places) q 0 ≤ 16384) × (getD (now shifts) (getD (now leaders) q 0) 0 < f .m) ⌝ }
+    requires { ⌜ (q < length (now places)) × (q < length (now leaders)) × (getD (now leaders) q 0 < length (now shifts)) × (0 < f .m) × (getD (now places) q 0 ≤ maxOrder) × (getD (now shifts) (getD (now leaders) q 0) 0 < f .m) ⌝ }
     ensures { λ c. ⌜ (c ≡ cond (ltb (suc (getD (now (places .entry)) q 0)) (f .p)) 0 (getD (now (shifts .entry)) (getD (now (leaders .entry)) q 0) 0)) × (c < f .m) ⌝ }
 {
     let b = survey::element(places, q);
@@ -143,9 +148,11 @@ pub fn right(
     ensures { λ e. ⌜ (e ≡ rightIn f (now (low .entry)) (now (shifts .entry)) j (getD (now (orbit .entry)) b 0)) × (e < f .m) ⌝ }
 {
     let r = survey::element(orbit, b);
-    let q = survey::target(low, first, f, j, r);
+    let d = survey::listed(low, first, f, r);
+    let q = level::target(low, d, j);
+    let e = survey::member(low, first, f, d.deg, q);
     let c = constant(leaders, places, shifts, f, q);
-    extend::right(low, first, f, j, r, q, c)
+    level::through(low, d, j, e, f.top, c, f.m)
 }
 
 // A block, and its scalar.
@@ -171,15 +178,15 @@ pub fn next_scalar(
     requires { ⌜ Inducing f (now low) (now rows) (now first) (now leaders) (now places) (now shifts) (now orbit) r × (f .top < j) × (j < f .gens) × (s .block < f .p) × (s .exp < f .m) ⌝ }
     ensures { λ t. ⌜ NextScalar f (now (low .entry)) (now (rows .entry)) j r s t ⌝ }
 {
-    let w = rows::word(rows, lines::up(j), lines::up(f.top));
+    let w = rows::word(rows, level::up(j), level::up(f.top));
     let c = survey::element(shifts, r);
     let a = conjugate(low, first, orbit, &w, f, c, r, s.block);
     let l = left(low, first, orbit, f, j, r, a);
     let y = right(low, first, leaders, places, shifts, orbit, f, j, s.block);
-    let e = lines::add_mod(s.exp, y, f.m);
+    let e = level::add_mod(s.exp, y, f.m);
     Scaled {
         block: a.block,
-        exp: lines::sub_mod(e, l, f.m),
+        exp: level::sub_mod(e, l, f.m),
     }
 }
 
@@ -266,13 +273,14 @@ pub fn block_to(
         return if b + 1 < f.p { b + 1 } else { 0 };
     }
     let q = survey::element(orbit, b);
-    let s = survey::target(low, first, f, g, q);
+    let e = survey::listed(low, first, f, q);
+    let s = level::target(low, e, g);
     survey::element(places, s)
 }
 
 // Its constant: the scalars are those of a generator above the one on top.
 pub fn block_by(shifts: &[u32], scalars: &[u32], f: Frame, r: u32, g: u32, b: u32) -> u32
-    requires { ⌜ (r < length (now shifts)) × (b < length (now scalars)) × (b < f .p) × (f .p ≤ 4096) × (0 < f .m) × (getD (now shifts) r 0 < f .m) × (f .top < g → getD (now scalars) b 0 < f .m) ⌝ }
+    requires { ⌜ (r < length (now shifts)) × (b < length (now scalars)) × (b < f .p) × (f .p ≤ maxOrder) × (0 < f .m) × (getD (now shifts) r 0 < f .m) × (f .top < g → getD (now scalars) b 0 < f .m) ⌝ }
     ensures { λ c. ⌜ (c ≡ factorIn f (now (shifts .entry)) (now (scalars .entry)) r g b) × (c < f .m) ⌝ }
 {
     if g < f.top {
@@ -322,7 +330,11 @@ pub fn append_part(
 {
     let q = survey::element(orbit, b);
     let l = survey::element(first, q);
-    let src = survey::line_of(lines::up(l), g, d);
+    let e = Listed {
+        line: level::up(l),
+        deg: d,
+    };
+    let src = level::matrix_line(e, g);
     let h = Head {
         level: f.top + 1,
         rep: rep,
@@ -410,7 +422,8 @@ pub fn append_generator(
     ensures { λ y. ⌜ Wrote (now (words .entry)) (8 * at) (blocks (f .p) (partsIn f (take (8 * f .end) (now (words .entry))) (now (orbit .entry)) (now (shifts .entry)) (now (scalars .entry)) x rep r g)) (now (words .exit)) (8 * y) ⌝ }
 {
     let n = 8 * f.end;
-    let d = survey::degree(&words[..n], first, f, r);
+    let e = survey::listed(&words[..n], first, f, r);
+    let d = e.deg;
     if g < f.top {
         return append_below(words, first, orbit, f, at, rep, r, d, g);
     }
@@ -469,7 +482,8 @@ pub fn induced_target(
     if g <= f.top {
         return 0;
     }
-    let q = survey::target(low, first, f, g, r);
+    let d = survey::listed(low, first, f, r);
+    let q = level::target(low, d, g);
     let l = survey::element(leaders, q);
     survey::element(numbers, l)
 }

@@ -14,7 +14,7 @@ use native.Mathlib.Numerals.{add-one}
 use native.Mathlib.Nat.{zero-add}
 use lib.ListN.{length, getD, take}
 use lib.Seq.{take-append-seam}
-use Rattle.definitions.specs.Presentation.{order}
+use Rattle.definitions.specs.Presentation.{maxGenerators, maxOrder, maxModulus, order}
 use Rattle.definitions.specs.Table.{levelWords}
 use Rattle.definitions.specs.Steps.{levels}
 use Rattle.clifford.specs.Accepted.{Accepted}
@@ -46,7 +46,7 @@ take-wrote b s c next q = ap₂ take (q .end ∙ zero-add _) (q .content) ∙ ta
 module _ (A : Accepted) (rows : List (List ℕ)) (primes : List ℕ) (n m have : ℕ) (G : Given rows primes n m have A) where
   -- ---- Level 1
 
-  pub first-asks : (p : ℕ) → p ≡ getD primes 0 0 → (n ≤ 12) × (p ≤ 4096) × (m ≤ 16384) × Exponents n p rows × (8 * (p * n) ≤ have)
+  pub first-asks : (p : ℕ) → p ≡ getD primes 0 0 → (n ≤ maxGenerators) × (p ≤ maxOrder) × (m ≤ maxModulus) × Exponents n p rows × (8 * (p * n) ≤ have)
   first-asks p e =
       let q : p ≡ A .C .P .p 0 = e ∙ G .reads .p-is 0 (A .positive) in
       let N = G .n-is in (

@@ -10,13 +10,7 @@ use rows::Words;
 use survey::Frame;
 
 // Writes the levels of a presentation from the first word on. Returns how many lines they are.
-pub fn build_levels(
-    words: &mut [u32],
-    rows: &Words,
-    primes: &Row,
-    n: u32,
-    m: u32,
-) -> usize
+pub fn build_levels(words: &mut [u32], rows: &Words, primes: &Row, n: u32, m: u32) -> usize
     requires { ⌜ ((A : Accepted) × Given (now rows) (now primes) n m (length (now words)) A) ⌝ }
     ensures { λ x. ⌜ ((A : Accepted) → Given (now (rows .entry)) (now (primes .entry)) n m (length (now (words .entry))) A → Wrote (now (words .entry)) 0 (upTo A (A .C .P .n)) (now (words .exit)) (8 * x)) ⌝ }
 {
@@ -24,7 +18,7 @@ pub fn build_levels(
     let mut base = 0usize;
     let mut end = first::first_level(words, rows, n, reps, m);
     for i in 1..n {
-        let k = lines::up(i);
+        let k = level::up(i);
         let f = Frame {
             m: m,
             top: i,

@@ -1,2 +1,2 @@
--- What stands in lines.
+-- What is written as lines.
 pub mod Lines

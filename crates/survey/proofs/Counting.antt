@@ -16,9 +16,10 @@ use lib.Dec.{eqb}
 use Rattle.definitions.specs.declared.Entry.{Entry}
 use Rattle.definitions.specs.Lists.{sum, iter}
 use Rattle.definitions.specs.Monomial.{entry, less, act}
+use Rattle.definitions.specs.Presentation.{maxOrder}
 use Rattle.numbers.proofs.Bools.{cond-eq, cond-ne}
 use Rattle.formulas.specs.Formulas.{made, start, around}
-use Rattle.lines.specs.Lines.{Below}
+use Rattle.level.specs.Stored.{Below}
 use Rattle.survey.specs.declared.Frame.{Frame}
 use Rattle.survey.specs.Below.{degOf, targetOf, sourceIn, leaderIn, madeIn, numberIn, aroundIn, closingIn, leadingIn, Stands}
 
@@ -79,7 +80,7 @@ module _ (f : Frame) (W : List ℕ) where
 
   pub number-fits : Stands f W → (r : ℕ) → r ≤ f .reps → numberIn f W r ≤ 268435456
   number-fits S r l =
-      let a : r * f .p ≤ 4096 * f .p = mul-le-mul-right (f .p) (omega (arith, S .few)) in
+      let a : r * f .p ≤ maxOrder * f .p = mul-le-mul-right (f .p) (omega (arith, S .few)) in
       omega (arith, number-small (S .prime .0) r, S .prime .1, a)
 
   -- ---- Along an orbit

@@ -3,6 +3,9 @@
 --   first-zero, first-next     where representations begin
 --   first-room, matrix-room    there is a line at the beginning of a representation, and of a matrix
 --   first-below, matrix-below  they lie before the end of the level
+--   located-stored, located-line     matrices of the representation that D is, and the lines at which they begin
+--   located-degree, located-matrix, located-column      its degree, a matrix, column 0
+--   located-target             where an intertwiner leads it
 --   orbits                     the orbits of the generator on top
 --   Filled, filled-none, filled-more      an array filled up to an index
 use mathlib.Core.Path.{_≡_, refl, ap, ap₂, sym, _∙_, subst}
@@ -16,9 +19,11 @@ use lib.ListN.{length, getD, set}
 use lib.Seq.{getD-set-same, getD-set-other}
 use Rattle.definitions.specs.Table.{wordAt}
 use Rattle.numbers.proofs.Orbits.{Orbits}
-use Rattle.lines.specs.Lines.{Holds}
+use Rattle.level.specs.declared.Listed.{Listed}
+use Rattle.level.specs.Stored.{matrixIn, Below, Holds, lineIn, generatorIn, targetIn, Stored}
+use Rattle.definitions.specs.Monomial.{entry}
 use Rattle.survey.specs.declared.Frame.{Frame}
-use Rattle.survey.specs.Below.{firstOf, degOf, matrixOf, targetOf, Stands}
+use Rattle.survey.specs.Below.{firstOf, degOf, matrixOf, targetOf, Stands, Located}
 
 module _ (f : Frame) (W : List ℕ) where
   pub first-zero : firstOf f W 0 ≡ f .base
@@ -53,6 +58,38 @@ module _ (f : Frame) (W : List ℕ) where
       inside = λ r l. S .target r l (f .top) (omega arith) (S .gens .0) .0;
       home = S .cycle;
     }
+
+-- ---- The representation that D is
+
+module _ {f : Frame} {W : List ℕ} {r : ℕ} {D : Listed} (L : Located f W r D) where
+  pub located-stored : (n : ℕ) → n ≤ f .gens → Stored (f .m) n W D
+  located-stored n l = subst (Stored (f .m) n W) (sym (L .is)) (record {
+    positive = L .stands .wide r (L .listed) .0;
+    degree = refl;
+    holds = λ g h. L .stands .valid r (L .listed) g (omega arith);
+  })
+
+  pub located-degree : D .deg ≡ degOf f W r
+  located-degree = ap (λ (E : Listed). E .deg) (L .is)
+
+  pub located-matrix : (g : ℕ) → generatorIn W D g ≡ matrixIn W (matrixOf f W g r) (degOf f W r)
+  located-matrix g = ap (λ (E : Listed). generatorIn W E g) (L .is)
+
+  pub located-line : (g : ℕ) → g ≤ f .gens → 8 * lineIn D g < 18446744073709551616
+  located-line g l =
+      let e : lineIn D g ≡ matrixOf f W g r = ap (λ (E : Listed). lineIn E g) (L .is) in
+      let h : g * degOf f W r ≤ f .gens * degOf f W r = mul-le-mul-right (degOf f W r) l in
+      omega (arith, e, h, first-below f W (L .stands) r (L .listed), L .stands .short .1)
+
+  pub located-column : Below (f .m) (D .deg) (entry 0 0)
+  located-column = record { row = located-stored 0 (omega arith) .positive; exp = L .stands .modulus .0 }
+
+  pub located-target : (j x : ℕ) → f .top ≤ j → j < f .gens → x ≡ targetIn W D j
+      → (x ≡ targetOf f W j r) × (x < f .reps) × (D .deg ≡ degOf f W x)
+  located-target j x a b e =
+      let t : x ≡ targetOf f W j r = e ∙ ap (λ (E : Listed). targetIn W E j) (L .is) in
+      let q = L .stands .target r (L .listed) j a b in
+      (t, subst (λ y. y < f .reps) (sym t) (q .0), located-degree ∙ sym (q .1) ∙ ap (degOf f W) (sym t))
 
 -- ---- Arrays
 

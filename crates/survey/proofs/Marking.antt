@@ -18,7 +18,7 @@ use borrow.Author.Tests.{eq-eqb}
 use Rattle.numbers.proofs.Lists.{iter-zero}
 use Rattle.numbers.proofs.Searches.{least-least}
 use Rattle.numbers.proofs.Orbits.{Orbits, leader, position, leader-least, leader-below, leader-iter, leader-leader, leader-fixed, position-below, position-back, iter-below}
-use Rattle.lines.proofs.Laws.{iter-next}
+use Rattle.level.proofs.Laws.{iter-next}
 use Rattle.survey.specs.declared.Frame.{Frame}
 use Rattle.survey.specs.Below.{targetOf, leaderIn, positionIn, Stands, Array, Marked, MarkedTo}
 use Rattle.survey.proofs.Level.{orbits}

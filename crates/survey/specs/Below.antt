@@ -5,6 +5,7 @@
 --   sourceIn                   the level, as the formulas ask for it
 --   Stands f W                 the lines of a level stand in W as a build leaves them: bounds, valid matrices, targets of one
 --                              degree, and orbits of the generator on top that close after p steps
+--   listedOf, Located r D      representation r by its first line and degree; D is that one
 --   Rows                       exponents of words in range
 --   Array                      an array that holds a function below the number of representations
 --   Leading                    one that holds it at the least of each orbit, and is below the modulus
@@ -18,31 +19,35 @@ use mathlib.Core.Bool.{cond}
 use lib.ListN.{length, getD, set}
 use lib.Dec.{eqb}
 use Rattle.definitions.specs.Lists.{iter}
-use Rattle.definitions.specs.Presentation.{toNF, pairNumber}
+use Rattle.definitions.specs.Presentation.{maxGenerators, maxOrder, maxModulus, toNF, pairNumber}
 use Rattle.definitions.specs.declared.Entry.{Entry}
 use Rattle.definitions.specs.Monomial.{entry, less, act}
-use Rattle.definitions.specs.Table.{wordAt}
+use Rattle.definitions.specs.Table.{DEG, REF, wordAt}
 use Rattle.numbers.proofs.Prime.{Units}
 use Rattle.numbers.proofs.Orbits.{leaderOf, positionOf}
 use Rattle.formulas.specs.Formulas.{Source, walk, made, start, around}
-use Rattle.lines.specs.Lines.{matrixIn, Below, Holds}
+use Rattle.level.specs.Stored.{matrixIn, Below, Holds}
+use Rattle.level.specs.declared.Listed.{Listed}
 use Rattle.survey.specs.declared.Frame.{Frame}
 use Rattle.survey.specs.declared.Carried.{Carried}
 
 module _ (f : Frame) (W : List ℕ) where
   unfoldable pub firstOf : ℕ → ℕ
   firstOf zero = f .base
-  firstOf (suc r) = firstOf r + f .gens * wordAt W (firstOf r) 2
+  firstOf (suc r) = firstOf r + f .gens * wordAt W (firstOf r) DEG
 
   abbrev pub degOf : ℕ → ℕ
-  degOf r = wordAt W (firstOf r) 2
+  degOf r = wordAt W (firstOf r) DEG
 
   -- the line of column 0 of generator g
   abbrev pub matrixOf : ℕ → ℕ → ℕ
   matrixOf g r = firstOf r + g * degOf r
 
   abbrev pub targetOf : ℕ → ℕ → ℕ
-  targetOf j r = wordAt W (matrixOf j r) 4
+  targetOf j r = wordAt W (matrixOf j r) REF
+
+  abbrev pub listedOf : ℕ → Listed
+  listedOf r = record { line = firstOf r; deg = degOf r }
 
   abbrev pub sourceIn : List (List ℕ) → Source
   sourceIn rows = record {
@@ -82,11 +87,11 @@ module _ (f : Frame) (W : List ℕ) where
   leadingIn u r = cond (eqb (leaderIn r) r) (closingIn u r) 0
 
   pub record Stands : Type 0 where
-    pub few : f .reps ≤ 4096
-    pub gens : (f .top < f .gens) × (f .gens ≤ 12)
-    pub prime : (1 < f .p) × (f .p ≤ 4096)
+    pub few : 2 * f .reps ≤ maxOrder
+    pub gens : (f .top < f .gens) × (f .gens ≤ maxGenerators)
+    pub prime : (1 < f .p) × (2 * f .p ≤ maxOrder)
     pub units : Units (f .p)
-    pub modulus : (0 < f .m) × (f .m ≤ 16384)
+    pub modulus : (0 < f .m) × (f .m ≤ maxModulus)
     pub whole : f .m ≡ f .p * (f .m / f .p)
     pub short : (8 * f .end ≤ length W) × (f .end ≤ 16777216)
     pub inside : (r : ℕ) → r < f .reps → firstOf (suc r) ≤ f .end
@@ -94,6 +99,12 @@ module _ (f : Frame) (W : List ℕ) where
     pub valid : (r : ℕ) → r < f .reps → (g : ℕ) → g < f .gens → Holds (f .m) W (matrixOf g r) (degOf r)
     pub target : (r : ℕ) → r < f .reps → (j : ℕ) → f .top ≤ j → j < f .gens → (targetOf j r < f .reps) × (degOf (targetOf j r) ≡ degOf r)
     pub cycle : (r : ℕ) → r < f .reps → iter (targetOf (f .top)) (f .p) r ≡ r
+
+  -- D is representation r of the level
+  pub record Located (r : ℕ) (D : Listed) : Type 0 where
+    pub stands : Stands
+    pub listed : r < f .reps
+    pub is : D ≡ listedOf r
 
   -- the exponents of the generator on top in its words with the generators above are below its prime
   pub record Rows (rows : List (List ℕ)) : Type 0 where

@@ -1,12 +1,13 @@
 // What is to be known of a level before the next is written: where its representations begin, the orbits of the generator
 // on top, the numbers of what they give, and the constants that close each orbit.
 ghost use mathlib.Core.Path.{_≡_};
-ghost use Prim.Native.Nat.{ℕ, _+_, _*_, _%_, _≤_, _<_};
+ghost use Prim.Native.Nat.{ℕ, _+_, _≤_, _<_};
 ghost use lib.ListN.{length, getD, set};
-ghost use Rattle.definitions.specs.Presentation.{Presentation};
-ghost use Rattle.survey.specs.Below.{firstOf, degOf, matrixOf, targetOf, leaderIn, positionIn, madeIn, numberIn, aroundIn, closingIn, leadingIn, Stands, Array, Lines, Marked, MarkedTo, Turned};
-ghost use Rattle.lines.specs.Lines.{Below};
+ghost use Rattle.survey.specs.Below.{degOf, leaderIn, positionIn, madeIn, numberIn, aroundIn, closingIn, leadingIn, Stands, Located, Array, Lines, Marked, MarkedTo, Turned};
+ghost use Rattle.level.specs.Stored.{Below};
 use definitions::Entry;
+use level::Listed;
+use rows::Row;
 
 // What a level is made with: the modulus, the generator on top (from 0), how many generators there are, the prime of the
 // one on top, the first line of the level below, how many representations that has, and the line behind it.
@@ -28,59 +29,25 @@ pub fn element(a: &[u32], r: u32) -> u32
     a[r as usize]
 }
 
-// The degree of representation r.
-pub fn degree(low: &[u32], first: &[u32], f: Frame, r: u32) -> u32
+// Representation r, by its first line.
+pub fn listed(low: &[u32], first: &[u32], f: Frame, r: u32) -> Listed
     requires { ⌜ Stands f (now low) × Lines f (now low) (now first) × (r < f .reps) ⌝ }
-    ensures { λ d. ⌜ d ≡ degOf f (now (low .entry)) r ⌝ }
+    ensures { λ d. ⌜ Located f (now (low .entry)) r d ⌝ }
 {
     let s = element(first, r);
-    lines::word_at(low, lines::up(s), 2)
+    level::representation(low, level::up(s))
 }
 
-// The line at which generator g of representation r begins.
-pub fn matrix_line(low: &[u32], first: &[u32], f: Frame, g: u32, r: u32) -> usize
-    requires { ⌜ Stands f (now low) × Lines f (now low) (now first) × (r < f .reps) × (g < f .gens) ⌝ }
-    ensures { λ x. ⌜ x ≡ matrixOf f (now (low .entry)) g r ⌝ }
-{
-    let s = lines::up(element(first, r));
-    let d = lines::word_at(low, s, 2);
-    s + lines::up(g) * lines::up(d)
-}
-
-// The line at which generator g begins, of a representation of degree d that begins at line s.
-pub fn line_of(s: usize, g: u32, d: u32) -> usize
-    requires { ⌜ s + g * d ≤ 1000000000 ⌝ }
-    ensures { λ x. ⌜ x ≡ s + g * d ⌝ }
-{
-    s + lines::up(g) * lines::up(d)
-}
-
-// Where the intertwiner of generator j leads representation r.
-pub fn target(low: &[u32], first: &[u32], f: Frame, j: u32, r: u32) -> u32
-    requires { ⌜ Stands f (now low) × Lines f (now low) (now first) × (r < f .reps) × (f .top ≤ j) × (j < f .gens) ⌝ }
-    ensures { λ x. ⌜ (x ≡ targetOf f (now (low .entry)) j r) × (x < f .reps) ⌝ }
-{
-    let at = matrix_line(low, first, f, j, r);
-    lines::word_at(low, at, 4)
-}
-
-// Where the generator on top leads representation r of degree d.
-pub fn next_of(low: &[u32], first: &[u32], f: Frame, d: u32, r: u32) -> u32
+// The same where its degree d is known, as along an orbit.
+pub fn member(low: &[u32], first: &[u32], f: Frame, d: u32, r: u32) -> Listed
     requires { ⌜ Stands f (now low) × Lines f (now low) (now first) × (r < f .reps) × (d ≡ degOf f (now low) r) ⌝ }
-    ensures { λ x. ⌜ (x ≡ targetOf f (now (low .entry)) (f .top) r) × (x < f .reps) × (d ≡ degOf f (now (low .entry)) x) ⌝ }
+    ensures { λ e. ⌜ Located f (now (low .entry)) r e ⌝ }
 {
-    let l = element(first, r);
-    let at = line_of(lines::up(l), f.top, d);
-    lines::word_at(low, at, 4)
-}
-
-// The line behind representation r, which begins at line s.
-pub fn next_line(low: &[u32], f: Frame, r: u32, s: usize) -> usize
-    requires { ⌜ Stands f (now low) × (r < f .reps) × (s ≡ firstOf f (now low) r) ⌝ }
-    ensures { λ x. ⌜ x ≡ firstOf f (now (low .entry)) (r + 1) ⌝ }
-{
-    let d = lines::word_at(low, s, 2);
-    s + lines::up(f.gens) * lines::up(d)
+    let s = element(first, r);
+    Listed {
+        line: level::up(s),
+        deg: d,
+    }
 }
 
 // Stores x at r.
@@ -100,7 +67,8 @@ pub fn find_lines(low: &[u32], first: &mut [u32], f: Frame)
     let reps = f.reps;
     for r in 0..reps {
         store(first, r, s as u32);
-        s = next_line(low, f, r, s);
+        let d = level::representation(low, s);
+        s = level::matrix_line(d, f.gens);
     }
 }
 
@@ -128,12 +96,13 @@ pub fn mark_orbit(
     requires { ⌜ MarkedTo f (now low) (now leaders) (now places) r 0 ⌝ }
     ensures { λ _. ⌜ MarkedTo f (now (low .entry)) (now (leaders .exit)) (now (places .exit)) r (f .p) × (length (now (leaders .exit)) ≡ length (now (leaders .entry))) × (length (now (places .exit)) ≡ length (now (places .entry))) ⌝ }
 {
-    let d = degree(low, first, f, r);
+    let d = listed(low, first, f, r);
     let mut q = r;
     let p = f.p;
     for k in 0..p {
         mark(leaders, places, f.reps, r, q, k);
-        q = next_of(low, first, f, d, q);
+        let e = member(low, first, f, d.deg, q);
+        q = level::target(low, e, f.top);
     }
 }
 
@@ -182,7 +151,8 @@ pub fn made(low: &[u32], first: &[u32], leaders: &[u32], f: Frame, r: u32) -> u3
     requires { ⌜ Stands f (now low) × Lines f (now low) (now first) × Array f (now low) (now leaders) (leaderIn f (now low)) × (r < f .reps) ⌝ }
     ensures { λ x. ⌜ x ≡ madeIn f (now (low .entry)) r ⌝ }
 {
-    if target(low, first, f, f.top, r) == r {
+    let d = listed(low, first, f, r);
+    if level::target(low, d, f.top) == r {
         return f.p;
     }
     if element(leaders, r) == r {
@@ -222,54 +192,43 @@ pub fn carry(low: &[u32], first: &[u32], f: Frame, d: u32, s: Carried) -> Carrie
     requires { ⌜ Stands f (now low) × Lines f (now low) (now first) × (s .rep < f .reps) × (d ≡ degOf f (now low) (s .rep)) × Below (f .m) d (s .x) ⌝ }
     ensures { λ t. ⌜ Turned f (now (low .entry)) d s t ⌝ }
 {
-    let rep = s.rep;
-    let l = element(first, rep);
-    let at = line_of(lines::up(l), f.top, d);
+    let e = member(low, first, f, d, s.rep);
     Carried {
-        rep: lines::word_at(low, at, 4),
-        x: lines::apply(low, at, d, s.x, f.m),
+        rep: level::target(low, e, f.top),
+        x: level::moved(low, e, f.top, s.x, f.m),
     }
 }
 
 // Column 0 of representation r taken around its orbit.
-pub fn around(low: &[u32], first: &[u32], f: Frame, r: u32) -> Entry
-    requires { ⌜ Stands f (now low) × Lines f (now low) (now first) × (r < f .reps) ⌝ }
+pub fn around(low: &[u32], first: &[u32], f: Frame, d: Listed, r: u32) -> Entry
+    requires { ⌜ Located f (now low) r d × Lines f (now low) (now first) ⌝ }
     ensures { λ x. ⌜ (x ≡ aroundIn f (now (low .entry)) r (f .p)) × Below (f .m) (degOf f (now (low .entry)) r) x ⌝ }
 {
-    let d = degree(low, first, f, r);
     let mut s = Carried {
         rep: r,
         x: Entry { row: 0, exp: 0 },
     };
     let p = f.p;
     for k in 0..p {
-        s = carry(low, first, f, d, s);
+        s = carry(low, first, f, d.deg, s);
     }
     s.x
 }
 
 // The constant that closes the orbit of r: an exponent of the power word u less that of the intertwiners around it.
-pub fn closing(low: &[u32], first: &[u32], u: &[u32; 12], f: Frame, r: u32) -> u32
+pub fn closing(low: &[u32], first: &[u32], u: &Row, f: Frame, r: u32) -> u32
     requires { ⌜ Stands f (now low) × Lines f (now low) (now first) × (r < f .reps) ⌝ }
     ensures { λ x. ⌜ (x ≡ closingIn f (now (low .entry)) (now (u .entry)) r) × (x < f .m) ⌝ }
 {
-    let a = around(low, first, f, r);
-    let s = lines::up(element(first, r));
-    let d = lines::word_at(low, s, 2);
-    let b = lines::apply_word(
-        low,
-        s,
-        d,
-        u,
-        lines::up(f.top),
-        Entry { row: 0, exp: 0 },
-        f.m,
-    );
-    lines::sub_mod(b.exp, a.exp, f.m)
+    let d = listed(low, first, f, r);
+    let a = around(low, first, f, d, r);
+    let t = level::up(f.top);
+    let b = level::walked(low, d, u, t, Entry { row: 0, exp: 0 }, f.m);
+    level::sub_mod(b.exp, a.exp, f.m)
 }
 
 // The same if r is the least of its orbit, and 0 else.
-pub fn leading(low: &[u32], first: &[u32], leaders: &[u32], u: &[u32; 12], f: Frame, r: u32) -> u32
+pub fn leading(low: &[u32], first: &[u32], leaders: &[u32], u: &Row, f: Frame, r: u32) -> u32
     requires { ⌜ Stands f (now low) × Lines f (now low) (now first) × Array f (now low) (now leaders) (leaderIn f (now low)) × (r < f .reps) ⌝ }
     ensures { λ x. ⌜ (x ≡ leadingIn f (now (low .entry)) (now (u .entry)) r) × (x < f .m) ⌝ }
 {
@@ -284,7 +243,7 @@ pub fn find_shifts(
     low: &[u32],
     first: &[u32],
     leaders: &[u32],
-    u: &[u32; 12],
+    u: &Row,
     shifts: &mut [u32],
     f: Frame,
 )

@@ -1,4 +1,4 @@
--- `large_level` makes arrays of 4112 words.
+-- `large_level` makes arrays of 2064 words.
 use native.Mathlib.Omega.{arith}
 use borrow.Author.Needs.{needs}
 use Rattle.builder.proofs.large_level.Statement.{statement}

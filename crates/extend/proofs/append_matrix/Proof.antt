@@ -1,29 +1,52 @@
 -- `append_matrix` appends the lines of one matrix of the level below, shifted.
-use mathlib.Core.Path.{_≡_, refl, sym, ap, ap₂, _∙_, subst}
-use Prim.Native.Nat.{ℕ, _+_, _*_, _≤_}
+use mathlib.Core.Path.{refl, sym, ap, _∙_, subst}
+use Prim.Native.Nat.{suc, _*_, _≤_}
 use native.Mathlib.Omega.{arith}
 use native.Mathlib.Numerals.{add-one}
+use native.Mathlib.Nat.{le-refl}
 use lib.ListN.{take}
 use denote.Ref.{now}
 use Rattle.text.proofs.Writing.{wrote-as}
-use Rattle.lines.specs.Lines.{Holds}
-use Rattle.survey.specs.Below.{matrixOf}
-use Rattle.survey.proofs.Level.{matrix-below}
+use Rattle.level.specs.declared.Listed.{Listed}
+use Rattle.level.specs.Stored.{Holds, lineIn}
+use Rattle.survey.proofs.Level.{located-stored, located-line, located-degree}
 use Rattle.extend.proofs.Laws.{origin-below, origin-factor, reference-ready, reference-is, matrix-lines, factor-small}
 use borrow.Author.Needs.{needs}
 use Rattle.extend.proofs.append_matrix.Statement.{statement}
 use Rattle.extend.proofs.append_matrix.Tie as tie
 
 factor-requires : tie.Need-factor-requires
-factor-requires c κs = let z = c .before .before .before in (z .pre .0 .stands .modulus .1, origin-below (z .args .f) (take (8 * z .args .f .end) (now (z .args .words))) (now (z .args .rows)) (z .args .r) (z .args .o) (z .args .k) (z .pre .1) (z .pre .0 .stands) (z .pre .2))
+factor-requires c κs = let z = c .before .before .before in
+    let f = z .args .f in
+    let g = z .args .g in
+    let k = z .args .k in
+    let r = z .args .r in
+    let W = take (8 * f .end) (now (z .args .words)) in
+    let rows = now (z .args .rows) in
+    let L = z .pre .1 .source-is in
+    (z .pre .0 .stands .modulus .1, origin-below f W rows r (z .args .o) k (z .pre .1) (z .pre .0 .stands) (z .pre .2))
 
 reference-requires : tie.Need-reference-requires
-reference-requires c κs = let z = c .before .before .before .before in reference-ready (z .args .f) (take (8 * z .args .f .end) (now (z .args .words))) (now (z .args .rows)) (now (z .args .to)) (now (z .args .by)) (z .args .r) (z .args .g) (z .args .k) (z .pre .0) (z .pre .3) (z .pre .2)
+reference-requires c κs = let z = c .before .before .before .before in
+    let f = z .args .f in
+    let g = z .args .g in
+    let k = z .args .k in
+    let r = z .args .r in
+    let W = take (8 * f .end) (now (z .args .words)) in
+    let rows = now (z .args .rows) in
+    let L = z .pre .1 .source-is in
+    reference-ready f W rows (now (z .args .to)) (now (z .args .by)) r g k (z .pre .0) (z .pre .3) (z .pre .2)
 
-line-of-requires : tie.Need-line-of-requires
-line-of-requires c κs = let z = c .before .before .before .before .before in
-    let e : z .args .o .line + z .args .g * z .args .o .deg ≡ matrixOf (z .args .f) (take (8 * z .args .f .end) (now (z .args .words))) (z .args .g) (z .args .r) = ap₂ (λ a b. a + z .args .g * b) (z .pre .1 .line-is) (z .pre .1 .deg-is) in
-    omega (arith, e, matrix-below (z .args .f) (take (8 * z .args .f .end) (now (z .args .words))) (z .pre .0 .stands) (z .args .g) (z .args .r) (z .pre .3) (z .pre .0 .listed))
+matrix-line-requires : tie.Need-matrix-line-requires
+matrix-line-requires c κs = let z = c .before .before .before .before .before .before in
+    let f = z .args .f in
+    let g = z .args .g in
+    let k = z .args .k in
+    let r = z .args .r in
+    let W = take (8 * f .end) (now (z .args .words)) in
+    let rows = now (z .args .rows) in
+    let L = z .pre .1 .source-is in
+    located-line L g (omega (arith, z .pre .3))
 
 add-t17 : tie.Need-add-t17
 add-t17 c = search needs
@@ -32,31 +55,37 @@ add-t18 : tie.Need-add-t18
 add-t18 c = search needs
 
 append-block-requires : tie.Need-append-block-requires
-append-block-requires c κs = let z = c .before .before .before .before .before .before .before .before in
-    let e : z .args .o .line + z .args .g * z .args .o .deg ≡ matrixOf (z .args .f) (take (8 * z .args .f .end) (now (z .args .words))) (z .args .g) (z .args .r) = ap₂ (λ a b. a + z .args .g * b) (z .pre .1 .line-is) (z .pre .1 .deg-is) in
-    let small : z .args .o .deg ≤ 65536 = subst (λ x. x ≤ 65536) (sym (z .pre .1 .deg-is)) (factor-small (z .args .f .p) _ 65536 (z .pre .0 .stands .prime .0) (z .pre .0 .stands .wide (z .args .r) (z .pre .0 .listed) .1)) in (
-      (c .before .before .before .before .factor .ensures .1, z .pre .4, omega (arith, z .pre .1 .deg-is, z .pre .5), omega (arith, small), omega (arith, small)),
-      subst (λ a. Holds (z .args .f .m) (take (8 * z .args .f .end) (now (z .args .words))) a (z .args .o .deg)) (sym (c .before .before .line-of .ensures ∙ e)) (subst (Holds (z .args .f .m) (take (8 * z .args .f .end) (now (z .args .words))) (matrixOf (z .args .f) (take (8 * z .args .f .end) (now (z .args .words))) (z .args .g) (z .args .r))) (sym (z .pre .1 .deg-is)) (z .pre .0 .stands .valid (z .args .r) (z .pre .0 .listed) (z .args .g) (z .pre .3))),
+append-block-requires c κs = let z = c .before .before .before .before .before .before .before .before .before in
+    let f = z .args .f in
+    let g = z .args .g in
+    let k = z .args .k in
+    let r = z .args .r in
+    let W = take (8 * f .end) (now (z .args .words)) in
+    let rows = now (z .args .rows) in
+    let L = z .pre .1 .source-is in
+    let d = located-degree L in
+    let small : z .args .o .source .deg ≤ 65536 = subst (λ x. x ≤ 65536) (sym d) (factor-small (f .p) _ 65536 (z .pre .0 .stands .prime .0) (z .pre .0 .stands .wide r (z .pre .0 .listed) .1)) in (
+      (c .before .before .before .before .before .factor .ensures .1, z .pre .4, omega (arith, d, z .pre .5), omega (arith, small), omega (arith, small)),
+      subst (λ a. Holds (f .m) W a (z .args .o .source .deg)) (sym (c .before .before .matrix-line .ensures)) (located-stored L (suc g) (z .pre .3) .holds g (le-refl _)),
     )
 
 same-length : tie.Need-same-length
 same-length c = search needs
 
 returns : tie.Need-returns
-returns c = let z = c .before .before .before .before .before .before .before .before .before .before .before in
-    let e : z .args .o .line + z .args .g * z .args .o .deg ≡ matrixOf (z .args .f) (take (8 * z .args .f .end) (now (z .args .words))) (z .args .g) (z .args .r) = ap₂ (λ a b. a + z .args .g * b) (z .pre .1 .line-is) (z .pre .1 .deg-is) in
-    wrote-as (c .before .before .append-block .ensures)
-    (matrix-lines (z .args .f) (take (8 * z .args .f .end) (now (z .args .words))) (now (z .args .rows)) _ (z .args .rep) (z .args .r) (z .args .k) (z .args .g) _ _ _ (add-one _) refl (z .pre .1 .deg-is) (add-one _) (λ x. c .before .before .before .before .before .before .reference .ensures ∙ reference-is (z .args .f) (take (8 * z .args .f .end) (now (z .args .words))) (now (z .args .rows)) (now (z .args .to)) (now (z .args .by)) (z .args .r) (z .pre .0) (z .args .g) (z .args .k) x (z .pre .3)) (z .pre .1 .deg-is) (c .before .before .before .before .before .line-of .ensures ∙ e) (c .before .before .before .before .before .before .before .factor .ensures .0 ∙ origin-factor (z .args .f) (take (8 * z .args .f .end) (now (z .args .words))) (now (z .args .rows)) (z .args .r) (z .args .o) (z .args .k) (z .pre .1) (z .args .g)))
+returns c = let z = c .before .before .before .before .before .before .before .before .before .before .before .before in
+    let f = z .args .f in
+    let g = z .args .g in
+    let k = z .args .k in
+    let r = z .args .r in
+    let W = take (8 * f .end) (now (z .args .words)) in
+    let rows = now (z .args .rows) in
+    let L = z .pre .1 .source-is in
+    let o = z .args .o in
+    let src = c .before .before .before .before .before .matrix-line .ensures ∙ ap (λ (E : Listed). lineIn E g) (L .is) in
+    let c′ = c .before .before .before .before .before .before .before .before .factor .ensures .0 ∙ origin-factor f W rows r o k (z .pre .1) g in
+    wrote-as (c .before .before .append-block .ensures) (matrix-lines f W rows _ (z .args .rep) r k g _ _ _ (add-one _) refl (located-degree L) (add-one _)
+    (λ y. c .before .before .before .before .before .before .before .reference .ensures ∙ reference-is f W rows (now (z .args .to)) (now (z .args .by)) r (z .pre .0) g k y (z .pre .3)) (located-degree L) src c′)
 
 pub append-matrix-spec : {M : Type 1} → statement M
-append-matrix-spec =
-    tie.close
-    (tie.spec
-    factor-requires
-    reference-requires
-    line-of-requires
-    add-t17
-    add-t18
-    append-block-requires
-    same-length
-    returns)
+append-matrix-spec = tie.close (tie.spec factor-requires reference-requires matrix-line-requires add-t17 add-t18 append-block-requires same-length returns)

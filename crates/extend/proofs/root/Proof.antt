@@ -8,7 +8,7 @@ use denote.Ref.{now}
 use Rattle.definitions.specs.declared.Entry.{Entry}
 use Rattle.definitions.specs.Monomial.{entry, act}
 use Rattle.formulas.specs.Formulas.{plus, walk}
-use Rattle.lines.specs.Lines.{matrixIn, Below, Holds}
+use Rattle.level.specs.Stored.{matrixIn, Below, Holds}
 use Rattle.survey.specs.Below.{firstOf, degOf, matrixOf, sourceIn}
 use Rattle.extend.proofs.Laws.{divide-below}
 use Prim.Native.Nat.{_/_}

@@ -9,13 +9,14 @@ use Rattle.first.specs.Roots.{rootExp}
 use Rattle.first.proofs.Laws.{product-fits}
 use Rattle.first.proofs.exponent.Statement.{statement}
 use Rattle.first.proofs.exponent.Tie as tie
+use Rattle.definitions.specs.Presentation.{maxModulus}
 
 div-result : tie.Need-div-result
 div-result c = search needs
 
 mul-result : tie.Need-mul-result
 mul-result c = let z = c .before in
-    let q : z .args .m / z .args .p ≤ 16384 = omega (arith, div-le-self (z .args .m) (z .args .p), z .pre .1) in
+    let q : z .args .m / z .args .p ≤ maxModulus = omega (arith, div-le-self (z .args .m) (z .args .p), z .pre .1) in
     omega (arith, product-fits (z .args .k) (z .args .m / z .args .p) (omega (arith, z .pre .0, z .pre .2)) q)
 
 returns : tie.Need-returns

@@ -46,7 +46,7 @@ block-by-requires c κs = let z = c .before .before .before .before .before .bef
     let l = c .before .before .before .loop in
     let R = z .pre .0 in
     let less-than : l .b < z .args .f .p = search needs in
-    (R .shift-below .0, omega (arith, less-than, R .scalars-long), less-than, R .stands .prime .1, R .stands .modulus .0, R .shift-below .1, λ above. R .scalars-below above (l .b) less-than)
+    (R .shift-below .0, omega (arith, less-than, R .scalars-long), less-than, omega (arith, R .stands .prime .1), R .stands .modulus .0, R .shift-below .1, λ above. R .scalars-below above (l .b) less-than)
 
 block-reference-requires : tie.Need-block-reference-requires Inv-loop μ-loop
 block-reference-requires c κs = let z = c .before .before .before .before .before .before .before .before .before .before .before .before in

@@ -5,11 +5,11 @@ use Prim.Native.Nat.{ℕ, _-_, _≤_, _<_}
 use native.Mathlib.Omega.{arith}
 use denote.Ref.{now}
 use Rattle.definitions.specs.Lists.{iter}
-use Rattle.lines.specs.Lines.{Below}
+use Rattle.level.specs.Stored.{Below}
 use Rattle.survey.specs.Below.{degOf, sourceIn}
 use borrow.Author.Needs.{needs}
 use Rattle.numbers.proofs.Lists.{iter-zero}
-use Rattle.lines.proofs.Laws.{iter-next}
+use Rattle.level.proofs.Laws.{iter-next}
 use Rattle.formulas.specs.Formulas.{shift, cycleEntry}
 use Rattle.formulas.specs.Formulas as Fm
 use Rattle.induce.specs.Inducing.{Held, Cycled}

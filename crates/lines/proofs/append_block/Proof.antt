@@ -8,7 +8,8 @@ use lib.ListN.{take}
 use lib.Seq.{length-take-le}
 use Rattle.definitions.specs.Monomial.{entry}
 use Rattle.lines.specs.declared.Head.{Head}
-use Rattle.lines.specs.Lines.{entryIn, headLine, blockLines}
+use Rattle.level.specs.Stored.{entryIn}
+use Rattle.lines.specs.Lines.{headLine, blockLines}
 use Rattle.lines.proofs.Laws.{headLine-eight}
 use Rattle.lines.proofs.Appending.{Going, going-none, going-more, going-line}
 use Rattle.lines.proofs.append_block.Statement.{statement}

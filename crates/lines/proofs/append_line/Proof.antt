@@ -5,7 +5,7 @@ use native.Mathlib.Omega.{arith}
 use lib.ListN.{take}
 use lib.Seq.{length-take-le}
 use denote.Ref.{now}
-use Rattle.definitions.specs.Table.{wordAt}
+use Rattle.definitions.specs.Table.{EXP, wordAt}
 use Rattle.text.proofs.Writing.{wrote-as}
 use Rattle.lines.proofs.Laws.{block-single}
 use borrow.Author.Needs.{needs}
@@ -27,7 +27,7 @@ word-at-requires c κs = search needs
 add-mod-requires : tie.Need-add-mod-requires
 add-mod-requires c κs = let z = c .before .before .before in
     let s : z .args .src + 0 ≡ z .args .src = omega arith in
-    let e : wordAt (take (8 * z .args .low) (now (z .args .words))) (z .args .src) 7 < z .args .m = subst (λ l. wordAt (take (8 * z .args .low) (now (z .args .words))) l 7 < z .args .m) s (z .pre .1 .valid 0 (omega arith) .exp) in
+    let e : wordAt (take (8 * z .args .low) (now (z .args .words))) (z .args .src) EXP < z .args .m = subst (λ l. wordAt (take (8 * z .args .low) (now (z .args .words))) l EXP < z .args .m) s (z .pre .1 .valid 0 (omega arith) .exp) in
     (subst (λ x. x < z .args .m) (sym (c .word-at .ensures)) e, z .pre .0 .0, z .pre .1 .small)
 
 put-line-requires : tie.Need-put-line-requires

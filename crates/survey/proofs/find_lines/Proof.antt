@@ -1,14 +1,15 @@
 -- `find_lines`: the array is filled up to r, and s is where r begins.
-use mathlib.Core.Path.{_≡_, sym, ap, ap₂, _∙_, subst}
+use mathlib.Core.Path.{_≡_, sym, ap, _∙_, subst}
 use Prim.Native.Nat.{ℕ, _+_, _*_, _-_, _≤_, _<_}
 use native.Mathlib.Omega.{arith}
-use lib.ListN.{length, getD}
+use native.Mathlib.Nat.{le-refl}
+use lib.ListN.{length, set, length-set}
 use denote.Ref.{now}
-use Rattle.definitions.specs.Table.{wordAt}
-use Rattle.survey.specs.Below.{firstOf, degOf, matrixOf, targetOf}
+use Rattle.definitions.specs.Table.{DEG, wordAt}
+use Rattle.level.specs.declared.Listed.{Listed}
+use Rattle.survey.specs.Below.{firstOf}
+use Rattle.survey.proofs.Level.{first-zero, first-next, first-room, first-below, located-line, Filled, filled-none, filled-more}
 use borrow.Author.Needs.{needs}
-use lib.ListN.{length-set, set}
-use Rattle.survey.proofs.Level.{Filled, filled-none, filled-more, first-zero, first-below}
 use Rattle.survey.proofs.find_lines.Statement.{statement}
 use Rattle.survey.proofs.find_lines.Tie as tie
 
@@ -30,9 +31,16 @@ cast-store c = let z = c .before .before .before .before .before in
 store-requires : tie.Need-store-requires Inv-loop μ-loop
 store-requires c κs = omega (arith, c .before .before .loop .inv .2, c .before .before .before .before .before .pre .1)
 
-next-line-requires : tie.Need-next-line-requires Inv-loop μ-loop
-next-line-requires c κs = let z = c .before .before .before .before .before .before .before .before in
-    (z .pre .0, search needs, c .before .before .before .before .before .loop .inv .3)
+representation-requires : tie.Need-representation-requires Inv-loop μ-loop
+representation-requires c κs = let z = c .before .before .before .before .before .before .before .before in
+    let l = c .before .before .before .before .before .loop in
+    omega (arith, l .inv .3, first-room (z .args .f) (now (z .args .low)) (z .pre .0) (l .r) (search needs))
+
+matrix-line-requires : tie.Need-matrix-line-requires Inv-loop μ-loop
+matrix-line-requires c κs = let z = c .before .before .before .before .before .before .before .before .before in
+    let l = c .before .before .before .before .before .before .loop in
+    let e = c .representation .ensures ∙ ap (λ s. record { line = s; deg = wordAt (now (z .args .low)) s DEG }) (l .inv .3) in
+    located-line {f = z .args .f} {W = now (z .args .low)} {r = l .r} (record { stands = z .pre .0; listed = search needs; is = e }) (z .args .f .gens) (le-refl _)
 
 add-r : tie.Need-add-r Inv-loop μ-loop
 add-r c = search needs
@@ -41,14 +49,16 @@ loop-less : tie.Need-loop-less Inv-loop μ-loop
 loop-less c = search needs
 
 loop-again : tie.Need-loop-again Inv-loop μ-loop
-loop-again c = let z = c .before .before .before .before .before .before .before .before .before in
-    let l = c .before .before .before .before .before .before .loop in
-    let a : c .before .before .before .store .last .0 ≡ set (l .first) (l .r) (l .s) = c .before .before .before .store .ensures in
+loop-again c = let z = c .before .before .before .before .before .before .before .before .before .before in
+    let l = c .before .before .before .before .before .before .before .loop in
+    let F : Listed → ℕ = λ d. d .line + z .args .f .gens * d .deg in
+    let e = c .before .representation .ensures ∙ ap (λ s. record { line = s; deg = wordAt (now (z .args .low)) s DEG }) (l .inv .3) in
+    let a : c .before .before .before .before .store .last .0 ≡ set (l .first) (l .r) (l .s) = c .before .before .before .before .store .ensures in
     let room : l .r < length (l .first) = omega (arith, l .inv .2, z .pre .1) in (
       search needs,
       search needs,
       ap length a ∙ length-set (l .first) (l .r) (l .s) ∙ l .inv .2,
-      c .next-line .ensures,
+      c .matrix-line .ensures ∙ ap F e ∙ sym (first-next (z .args .f) (now (z .args .low)) (l .r)),
       subst (λ x. Filled x (firstOf (z .args .f) (now (z .args .low))) (l .r + 1)) (sym a) (filled-more (l .first) _ (l .r) (l .s) room (l .inv .3) (l .inv .4)),
     )
 
@@ -62,17 +72,4 @@ returns c = let z = c .before .before .before .before in
     (record { long = omega (arith, l .inv .2, z .pre .1); at = λ k h. l .inv .4 k (omega (arith, e)) }, l .inv .2)
 
 pub find-lines-spec : {M : Type 1} → statement M
-find-lines-spec =
-    tie.close
-    (tie.spec
-    Inv-loop
-    μ-loop
-    loop-holds
-    cast-store
-    store-requires
-    next-line-requires
-    add-r
-    loop-less
-    loop-again
-    same-length
-    returns)
+find-lines-spec = tie.close (tie.spec Inv-loop μ-loop loop-holds cast-store store-requires representation-requires matrix-line-requires add-r loop-less loop-again same-length returns)

@@ -1,0 +1,114 @@
+-- Laws of what stands in lines.
+--
+--   mod-once, less-below, less-above      sums and differences modulo m of numbers below it
+--   times-fit                  a product of a word and a number below the modulus fits in 64 bits
+--   col-matrixIn               a column of a matrix that stands in lines
+--   act-in                     a matrix on an entry, from its line
+--   col-scale                  a column of a matrix times a power of the root
+--   iter-next, iter-once       one more turn behind the others; one turn
+--   iter-rest                  the turns behind the first
+--   iter-fixed                 turns that keep the basis index add up their exponents
+--   act-fixed, plus-fixed      a matrix that fixes a basis index, and the same times a power of the root
+--   walk-zero, walk-next       the clauses of `walk`
+--   stored-fewer               fewer generators stand where more do
+use mathlib.Core.Path.{_≡_, refl, ap, ap₂, sym, _∙_}
+use Prim.Native.Nat.{ℕ, zero, suc, _+_, _-_, _*_, _%_, _<_, _≤_}
+use native.Mathlib.Nat.{mod-eq-of-lt, mod-eq-sub-mod, mod-lt, mod-add-mod, add-mod-mod, mul-le-mul-right}
+use native.Mathlib.Omega.{arith}
+use native.Mathlib.Numerals.{add-one}
+use mathlib.Core.List.{List}
+use lib.ListN.{length, getD}
+use Rattle.definitions.specs.declared.Entry.{Entry}
+use Rattle.definitions.specs.Lists.{iter}
+use Rattle.definitions.specs.Presentation.{toNF}
+use Rattle.definitions.specs.Monomial.{Matrix, entry, less, col, act, scale}
+use Rattle.numbers.proofs.Lists.{iter-suc, iter-add, iter-zero}
+use Rattle.numbers.proofs.Blocks.{getD-map, getD-table}
+use Rattle.formulas.specs.Formulas.{walk, plus}
+use Rattle.level.specs.declared.Listed.{Listed}
+use Rattle.level.specs.Stored.{entryIn, matrixIn, Stored}
+
+-- ---- Sums modulo m
+
+pub mod-once : (s m : ℕ) → m ≤ s → s < m + m → s - m ≡ s % m
+mod-once s m h l = sym (mod-eq-sub-mod h ∙ mod-eq-of-lt (omega arith))
+
+pub less-below : (m a b : ℕ) → b ≤ a → a < m → b < m → a - b ≡ less m a b
+unfolding less
+less-below m a b h l k =
+    let e : b % m ≡ b = mod-eq-of-lt k in
+    let s : a + (m - b) - m ≡ a - b = omega arith in
+    sym (ap (λ z. (a + (m - z)) % m) e ∙ sym (mod-once (a + (m - b)) m (omega arith) (omega arith)) ∙ s)
+
+pub less-above : (m a b : ℕ) → a < b → b < m → a + (m - b) ≡ less m a b
+unfolding less
+less-above m a b h k =
+    let e : b % m ≡ b = mod-eq-of-lt k in
+    let l : a + (m - b) < m = omega arith in
+    sym (ap (λ z. (a + (m - z)) % m) e ∙ mod-eq-of-lt l)
+
+pub times-fit : (a k b m : ℕ) → a < m → b < m → m ≤ 2147483648 → k < 4294967296 → a + k * b < 18446744073709551616
+times-fit a k b m h l s f = let x : k * b ≤ 4294967295 * b = mul-le-mul-right b (omega arith) in omega arith
+
+-- ---- Matrices in lines
+
+pub col-matrixIn : (W : List ℕ) (at d k : ℕ) → k < d → col (matrixIn W at d) k ≡ entryIn W (at + k)
+unfolding col
+col-matrixIn W at d k l = getD-table (λ c. entryIn W (at + c)) d k (entry 0 0) l
+
+pub act-in : (m : ℕ) (W : List ℕ) (at d : ℕ) (x : Entry) → x .row < d
+    → act m (matrixIn W at d) x ≡ entry (entryIn W (at + x .row) .row) ((entryIn W (at + x .row) .exp + x .exp) % m)
+unfolding act
+act-in m W at d x l = ap (λ (e : Entry). entry (e .row) ((e .exp + x .exp) % m)) (col-matrixIn W at d (x .row) l)
+
+pub col-scale : (m e : ℕ) (M : Matrix) (k : ℕ) → k < length M → col (scale m e M) k ≡ entry (col M k .row) ((col M k .exp + e) % m)
+unfolding col scale
+col-scale m e M k l = getD-map (λ (x : Entry). entry (x .row) ((x .exp + e) % m)) M k (entry 0 0) (entry 0 0) l
+
+-- ---- Iterates and words
+
+pub iter-next : {A : Type 0} (f : A → A) (k : ℕ) (x : A) → iter f (k + 1) x ≡ f (iter f k x)
+iter-next f k x = sym (iter-add f k 1 x) ∙ iter-suc f 0 (iter f k x) ∙ iter-zero f (f (iter f k x))
+
+pub iter-once : {A : Type 0} (f : A → A) (x : A) → iter f 1 x ≡ f x
+iter-once f x = iter-suc f 0 x ∙ iter-zero f (f x)
+
+pub iter-rest : {A : Type 0} (f : A → A) (k : ℕ) (x y : A) → 0 < k → y ≡ f x → iter f (k - 1) y ≡ iter f k x
+iter-rest f k x y l e = let s : suc (k - 1) ≡ k = omega arith in ap (iter f (k - 1)) e ∙ sym (iter-suc f (k - 1) x) ∙ ap (λ n. iter f n x) s
+
+pub iter-fixed : (m r e : ℕ) (f : Entry → Entry) → ((t : ℕ) → f (entry r t) ≡ entry r ((t + e) % m)) → (k t : ℕ) → t < m
+    → iter f k (entry r t) ≡ entry r ((t + k * e) % m)
+iter-fixed m r e f h zero t l =
+    let z : t + 0 * e ≡ t = omega arith in
+    iter-zero f (entry r t) ∙ sym (ap (λ x. entry r (x % m)) z ∙ ap (entry r) (mod-eq-of-lt l))
+iter-fixed m r e f h (suc k) t l =
+    let z : t + e + k * e ≡ t + suc k * e = omega arith in
+    iter-suc f k (entry r t) ∙ ap (iter f k) (h t) ∙ iter-fixed m r e f h k ((t + e) % m) (mod-lt (t + e) (omega arith))
+    ∙ ap (entry r) (mod-add-mod (t + e) m (k * e)) ∙ ap (λ x. entry r (x % m)) z
+
+module _ (m : ℕ) (W : List ℕ) (at d r : ℕ) (l : r < d) (fixed : entryIn W (at + r) .row ≡ r) where
+  pub act-fixed : (t : ℕ) → act m (matrixIn W at d) (entry r t) ≡ entry r ((t + entryIn W (at + r) .exp) % m)
+  act-fixed t =
+      let z : entryIn W (at + r) .exp + t ≡ t + entryIn W (at + r) .exp = omega arith in
+      act-in m W at d (entry r t) l ∙ ap₂ (λ x y. entry x (y % m)) fixed z
+
+  pub plus-fixed : (c t : ℕ) → plus m c (act m (matrixIn W at d) (entry r t)) ≡ entry r ((t + (entryIn W (at + r) .exp + c) % m) % m)
+  unfolding plus
+  plus-fixed c t =
+      let e = entryIn W (at + r) .exp in
+      let z : t + e + c ≡ t + (e + c) = omega arith in
+      ap (λ (x : Entry). entry (x .row) ((x .exp + c) % m)) (act-fixed t) ∙ ap (entry r) (mod-add-mod (t + e) m c ∙ ap (λ x. x % m) z ∙ sym (add-mod-mod t (e + c) m))
+
+pub walk-zero : (m : ℕ) (M : ℕ → Matrix) (w : List ℕ) (x : Entry) → walk m M 0 (toNF 0 w) x ≡ x
+unfolding walk
+walk-zero m M w x = refl
+
+pub walk-next : (m : ℕ) (M : ℕ → Matrix) (w : List ℕ) (k : ℕ) (x : Entry)
+    → walk m M (k + 1) (toNF (k + 1) w) x ≡ iter (act m (M k)) (getD w k 0) (walk m M k (toNF k w) x)
+unfolding walk toNF
+walk-next m M w k x = ap (λ n. walk m M n (toNF n w) x) (add-one k)
+
+-- ---- Representations
+
+pub stored-fewer : {m n : ℕ} {W : List ℕ} {D : Listed} (k : ℕ) → k ≤ n → Stored m n W D → Stored m k W D
+stored-fewer k l S = record { positive = S .positive; degree = S .degree; holds = λ g h. S .holds g (omega arith) }

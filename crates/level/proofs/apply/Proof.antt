@@ -1,0 +1,26 @@
+-- `apply` reads one line and adds two exponents.
+use mathlib.Core.Path.{_≡_, ap, ap₂, sym, _∙_}
+use Prim.Native.Nat.{_+_, _%_}
+use denote.Ref.{now}
+use Rattle.definitions.specs.declared.Entry.{Entry}
+use Rattle.definitions.specs.Monomial.{entry}
+use Rattle.level.proofs.Laws.{act-in}
+use borrow.Author.Needs.{needs}
+use Rattle.level.proofs.apply.Statement.{statement}
+use Rattle.level.proofs.apply.Tie as tie
+
+column-requires : tie.Need-column-requires
+column-requires c κs = search needs
+
+add-mod-requires : tie.Need-add-mod-requires
+add-mod-requires c κs = search needs
+
+returns : tie.Need-returns
+returns c = let z = c .before .before .before in
+    let e = c .before .column .ensures .0 in (
+      ap₂ entry (ap (λ (x : Entry). x .row) e) (c .add-mod .ensures .0 ∙ ap (λ (x : Entry). (x .exp + z .args .x .exp) % z .args .m) e) ∙ sym (act-in (z .args .m) (now (z .args .words)) (z .args .at) (z .args .d) (z .args .x) (z .pre .1 .row)),
+      search needs,
+    )
+
+pub apply-spec : {M : Type 1} → statement M
+apply-spec = tie.close (tie.spec column-requires add-mod-requires returns)

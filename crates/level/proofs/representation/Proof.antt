@@ -1,0 +1,15 @@
+-- `representation` reads the degree.
+use mathlib.Core.Path.{ap}
+use Rattle.level.specs.declared.Listed.{Listed}
+use borrow.Author.Needs.{needs}
+use Rattle.level.proofs.representation.Statement.{statement}
+use Rattle.level.proofs.representation.Tie as tie
+
+word-at-requires : tie.Need-word-at-requires
+word-at-requires c κs = search needs
+
+returns : tie.Need-returns
+returns c = ap (λ d. record { line = c .before .before .args .line; deg = d }) (c .word-at .ensures)
+
+pub representation-spec : {M : Type 1} → statement M
+representation-spec = tie.close (tie.spec word-at-requires returns)

@@ -1,0 +1,78 @@
+-- `single_word`: after k generators y is the exponent that their part of the word makes of e.
+use borrow.Author.Needs.{needs}
+use mathlib.Core.Path.{_≡_, sym, ap₂, _∙_, subst}
+use Prim.Native.Nat.{ℕ, _≤_, _<_, _-_, _+_, _*_}
+use native.Mathlib.Omega.{arith}
+use lib.ListN.{length, getD}
+use denote.Ref.{now}
+use Rattle.definitions.specs.declared.Entry.{Entry}
+use Rattle.definitions.specs.Lists.{iter}
+use Rattle.definitions.specs.Presentation.{toNF}
+use Rattle.definitions.specs.Monomial.{Matrix, entry, act}
+use Rattle.formulas.specs.Formulas.{walk}
+use Rattle.level.specs.Stored.{matrixIn, Holds}
+use Rattle.level.proofs.Laws.{walk-zero, walk-next}
+use Rattle.level.proofs.single_word.Statement.{statement}
+use Rattle.level.proofs.single_word.Tie as tie
+
+abbrev Inv-loop : tie.InvT-loop
+Inv-loop words at w n e m y₀ k₀ y k = (k ≤ n) × (entry 0 y ≡ walk m (λ (j : ℕ). matrixIn words (at + j * 1) 1) k (toNF k w) (entry 0 e)) × (y < m)
+
+abbrev μ-loop : tie.MeasureT-loop
+μ-loop words at w n e m y₀ k₀ y k = n - k
+
+loop-holds : tie.Need-loop-holds Inv-loop μ-loop
+loop-holds c = let z = c .before in
+    (search needs, sym (walk-zero (z .args .m) (λ (j : ℕ). matrixIn (now (z .args .words)) (z .args .at + j * 1) 1) (now (z .args .w)) (entry 0 (z .args .e))), z .pre .2)
+
+add-single-times : tie.Need-add-single-times Inv-loop μ-loop
+add-single-times c = let z = c .before .before .before in
+    let l = c .before .loop in
+    let f : 8 * (z .args .at + l .k * 1 + 1) ≤ length (now (z .args .words)) = z .pre .1 (l .k) (search needs) .fits in
+    omega (arith, f, z .good)
+
+mul-single-times : tie.Need-mul-single-times Inv-loop μ-loop
+mul-single-times c = search needs
+
+element-copy-out-single-times : tie.Need-element-copy-out-single-times Inv-loop μ-loop
+element-copy-out-single-times c = search needs
+
+single-times-requires : tie.Need-single-times-requires Inv-loop μ-loop
+single-times-requires c κs = let z = c .before .before .before .before in
+    let l = c .before .before .loop in
+    let i : z .args .at + l .k * 1 ≡ z .args .at + l .k = omega arith in
+    (subst (λ g. Holds (z .args .m) (now (z .args .words)) g 1) i (z .pre .1 (l .k) (search needs)), l .inv .2)
+
+add-k : tie.Need-add-k Inv-loop μ-loop
+add-k c = search needs
+
+loop-less : tie.Need-loop-less Inv-loop μ-loop
+loop-less c = search needs
+
+loop-again : tie.Need-loop-again Inv-loop μ-loop
+loop-again c = let z = c .before .before .before .before .before in
+    let l = c .before .before .before .loop in
+    let W = now (z .args .words) in
+    let F : ℕ → Matrix = λ j. matrixIn W (z .args .at + j * 1) 1 in
+    let i : z .args .at + l .k ≡ z .args .at + l .k * 1 = omega arith in
+    (search needs, c .single-times .ensures .0 ∙ ap₂ (λ g (x : Entry). iter (act (z .args .m) (matrixIn W g 1)) (getD (now (z .args .w)) (l .k) 0) x) i (l .inv .1) ∙ sym (walk-next (z .args .m) F (now (z .args .w)) (l .k) (entry 0 (z .args .e))), c .single-times .ensures .1)
+
+returns : tie.Need-returns Inv-loop μ-loop
+returns c = let e : c .before .loop .k ≡ c .before .before .before .args .n = omega arith in
+    (rw e at (c .before .loop .inv .1), c .before .loop .inv .2)
+
+pub single-word-spec : {M : Type 1} → statement M
+single-word-spec =
+    tie.close
+    (tie.spec
+    Inv-loop
+    μ-loop
+    loop-holds
+    add-single-times
+    mul-single-times
+    element-copy-out-single-times
+    single-times-requires
+    add-k
+    loop-less
+    loop-again
+    returns)

@@ -1,0 +1,2 @@
+-- What stands in lines.
+pub mod Stored

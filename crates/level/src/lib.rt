@@ -1,0 +1,301 @@
+// Reading a level off words, eight words to a line. No matrix is stored apart: a matrix of degree d is the d lines from one
+// on. Nothing is asked but what whole lines, complete and in order, with valid matrices guarantee.
+//
+//   LEVEL .. EXP                 the fields of a line
+//   add_mod, sub_mod             sums and differences of exponents
+//   word_at, entry_at, column    what stands in a line
+//   apply, apply_times           a column moved through a matrix, once or several times
+//   Listed, representation       a representation: its first line and its degree
+//   matrix_line, target          the line of a generator's matrix, and where its intertwiner leads
+//   moved, moved_times, walked   a column moved through a generator, through it several times, through a word
+//   scaled, scaled_times         the same through a generator times a power of the root
+//   through                      column 0 moved through a generator of one representation and one of another
+ghost use mathlib.Core.Path.{_≡_};
+ghost use Prim.Native.Nat.{ℕ, suc, _+_, _*_, _%_, _≤_, _<_};
+ghost use lib.ListN.{length};
+ghost use Rattle.definitions.specs.Lists.{iter};
+ghost use Rattle.definitions.specs.Presentation.{maxGenerators, toNF};
+ghost use Rattle.definitions.specs.Monomial.{entry, less, act};
+ghost use Rattle.definitions.specs.Table.{wordAt};
+ghost use Rattle.formulas.specs.Formulas.{walk, plus};
+ghost use Rattle.level.specs.Stored.{entryIn, matrixIn, Below, Holds, lineIn, generatorIn, targetIn, listedIn, throughIn, Stored};
+use definitions::Entry;
+use rows::Row;
+
+// The fields of a line, by their place in it.
+pub const LEVEL: usize = 0;
+
+pub const REP: usize = 1;
+
+pub const DEG: usize = 2;
+
+pub const GEN: usize = 3;
+
+pub const REF: usize = 4;
+
+pub const COL: usize = 5;
+
+pub const ROW: usize = 6;
+
+pub const EXP: usize = 7;
+
+pub fn up(x: u32) -> usize
+    ensures { λ r. ⌜ r ≡ x ⌝ }
+{
+    x as usize
+}
+
+// The sum modulo m of two numbers below m.
+pub fn add_mod(a: u32, b: u32, m: u32) -> u32
+    requires { ⌜ (a < m) × (b < m) × (m ≤ 2147483648) ⌝ }
+    ensures { λ r. ⌜ (r ≡ (a + b) % m) × (r < m) ⌝ }
+{
+    let s = a + b;
+    if s < m { s } else { s - m }
+}
+
+// Their difference modulo m.
+pub fn sub_mod(a: u32, b: u32, m: u32) -> u32
+    requires { ⌜ (a < m) × (b < m) × (m ≤ 2147483648) ⌝ }
+    ensures { λ r. ⌜ (r ≡ less m a b) × (r < m) ⌝ }
+{
+    if b <= a { a - b } else { a + (m - b) }
+}
+
+// Word k of a line.
+pub fn word_at(words: &[u32], line: usize, k: usize) -> u32
+    requires { ⌜ (8 * line + 8 ≤ length (now words)) × (k < 8) ⌝ }
+    ensures { λ r. ⌜ r ≡ wordAt (now (words .entry)) line k ⌝ }
+{
+    words[8 * line + k]
+}
+
+// Row and exponent of a line.
+pub fn entry_at(words: &[u32], line: usize) -> Entry
+    requires { ⌜ 8 * line + 8 ≤ length (now words) ⌝ }
+    ensures { λ r. ⌜ r ≡ entryIn (now (words .entry)) line ⌝ }
+{
+    Entry {
+        row: word_at(words, line, ROW),
+        exp: word_at(words, line, EXP),
+    }
+}
+
+// Column k of the matrix of degree d at line `at`.
+pub fn column(words: &[u32], at: usize, d: u32, k: u32, m: u32) -> Entry
+    requires { ⌜ Holds m (now words) at d × (k < d) ⌝ }
+    ensures { λ r. ⌜ (r ≡ entryIn (now (words .entry)) (at + k)) × Below m d r ⌝ }
+{
+    entry_at(words, at + up(k))
+}
+
+// The matrix of degree d at line `at`, on the x.exp-th power of the root times basis vector x.row.
+pub fn apply(words: &[u32], at: usize, d: u32, x: Entry, m: u32) -> Entry
+    requires { ⌜ Holds m (now words) at d ⌝ }
+    requires { ⌜ Below m d x ⌝ }
+    ensures { λ r. ⌜ (r ≡ act m (matrixIn (now (words .entry)) at d) x) × Below m d r ⌝ }
+{
+    let e = column(words, at, d, x.row, m);
+    Entry {
+        row: e.row,
+        exp: add_mod(e.exp, x.exp, m),
+    }
+}
+
+// a + k * b modulo m.
+pub fn add_times(a: u32, k: u32, b: u32, m: u32) -> u32
+    requires { ⌜ (a < m) × (b < m) × (m ≤ 2147483648) ⌝ }
+    ensures { λ r. ⌜ (r ≡ (a + k * b) % m) × (r < m) ⌝ }
+{
+    if k == 1 {
+        return add_mod(a, b, m);
+    }
+    ((up(a) + up(k) * up(b)) % up(m)) as u32
+}
+
+// The same k times. A basis index that the matrix fixes stays, and its exponent is a product.
+pub fn apply_times(words: &[u32], at: usize, d: u32, k: u32, x: Entry, m: u32) -> Entry
+    requires { ⌜ Holds m (now words) at d ⌝ }
+    requires { ⌜ Below m d x ⌝ }
+    ensures { λ r. ⌜ (r ≡ iter (act m (matrixIn (now (words .entry)) at d)) k x) × Below m d r ⌝ }
+{
+    if k == 0 {
+        return x;
+    }
+    let y = apply(words, at, d, x, m);
+    if k == 1 {
+        return y;
+    }
+    if y.row == x.row {
+        let e = column(words, at, d, x.row, m);
+        return Entry {
+            row: x.row,
+            exp: add_times(x.exp, k, e.exp, m),
+        };
+    }
+    let mut r = y;
+    for i in 1..k {
+        r = apply(words, at, d, r, m);
+    }
+    r
+}
+
+// The value of the word w on its first n generators, whose matrices of degree d stand one behind the other from line `at`.
+pub fn walk_word(
+    words: &[u32],
+    at: usize,
+    d: u32,
+    w: &Row,
+    n: usize,
+    x: Entry,
+    m: u32,
+) -> Entry
+    requires { ⌜ (n ≤ maxGenerators) × ((k : ℕ) → k < n → Holds m (now words) (at + k * d) d) ⌝ }
+    requires { ⌜ Below m d x ⌝ }
+    ensures { λ r. ⌜ (r ≡ walk m (λ (k : ℕ). matrixIn (now (words .entry)) (at + k * d) d) n (toNF n (now (w .entry))) x) × Below m d r ⌝ }
+{
+    let mut r = x;
+    let mut g = at;
+    for k in 0..n {
+        r = apply_times(words, g, d, w[k], r, m);
+        g += up(d);
+    }
+    r
+}
+
+// A matrix of degree 1, k times: e is the exponent of the root.
+pub fn single_times(words: &[u32], at: usize, k: u32, e: u32, m: u32) -> u32
+    requires { ⌜ Holds m (now words) at 1 × (e < m) ⌝ }
+    ensures { λ r. ⌜ (entry 0 r ≡ iter (act m (matrixIn (now (words .entry)) at 1)) k (entry 0 e)) × (r < m) ⌝ }
+{
+    if k == 0 {
+        return e;
+    }
+    let z = column(words, at, 1, 0, m);
+    add_times(e, k, z.exp, m)
+}
+
+// The value of the word w on its first n generators, of degree 1.
+pub fn single_word(words: &[u32], at: usize, w: &Row, n: usize, e: u32, m: u32) -> u32
+    requires { ⌜ (n ≤ maxGenerators) × ((k : ℕ) → k < n → Holds m (now words) (at + k * 1) 1) × (e < m) ⌝ }
+    ensures { λ r. ⌜ (entry 0 r ≡ walk m (λ (k : ℕ). matrixIn (now (words .entry)) (at + k * 1) 1) n (toNF n (now (w .entry))) (entry 0 e)) × (r < m) ⌝ }
+{
+    let mut y = e;
+    for k in 0..n {
+        y = single_times(words, at + k, w[k], y, m);
+    }
+    y
+}
+
+// A representation that stands in lines: its first line, and its degree.
+pub struct Listed {
+    pub line: usize,
+    pub deg: u32,
+}
+
+// The one that begins at a line.
+pub fn representation(words: &[u32], line: usize) -> Listed
+    requires { ⌜ 8 * line + 8 ≤ length (now words) ⌝ }
+    ensures { λ r. ⌜ r ≡ listedIn (now (words .entry)) line ⌝ }
+{
+    Listed {
+        line: line,
+        deg: word_at(words, line, DEG),
+    }
+}
+
+// The line at which the matrix of generator g begins; of the number of generators, the line behind the representation.
+pub fn matrix_line(d: Listed, g: u32) -> usize
+    requires { ⌜ 8 * lineIn d g < 18446744073709551616 ⌝ }
+    ensures { λ r. ⌜ r ≡ lineIn d g ⌝ }
+{
+    d.line + up(g) * up(d.deg)
+}
+
+// Where the intertwiner of generator g leads.
+pub fn target(words: &[u32], d: Listed, g: u32) -> u32
+    requires { ⌜ ((m : ℕ) × Stored m (suc g) (now words) d) ⌝ }
+    ensures { λ r. ⌜ r ≡ targetIn (now (words .entry)) d g ⌝ }
+{
+    word_at(words, matrix_line(d, g), REF)
+}
+
+// Generator g on an entry.
+pub fn moved(words: &[u32], d: Listed, g: u32, x: Entry, m: u32) -> Entry
+    requires { ⌜ Stored m (suc g) (now words) d × Below m (d .deg) x ⌝ }
+    ensures { λ r. ⌜ (r ≡ act m (generatorIn (now (words .entry)) d g) x) × Below m (d .deg) r ⌝ }
+{
+    apply(words, matrix_line(d, g), d.deg, x, m)
+}
+
+// The same k times.
+pub fn moved_times(words: &[u32], d: Listed, g: u32, k: u32, x: Entry, m: u32) -> Entry
+    requires { ⌜ Stored m (suc g) (now words) d × Below m (d .deg) x ⌝ }
+    ensures { λ r. ⌜ (r ≡ iter (act m (generatorIn (now (words .entry)) d g)) k x) × Below m (d .deg) r ⌝ }
+{
+    apply_times(words, matrix_line(d, g), d.deg, k, x, m)
+}
+
+// The word w on its first n generators on an entry, by exponents alone where the degree is 1.
+pub fn walked(words: &[u32], d: Listed, w: &Row, n: usize, x: Entry, m: u32) -> Entry
+    requires { ⌜ (n ≤ maxGenerators) × Stored m n (now words) d × Below m (d .deg) x ⌝ }
+    ensures { λ r. ⌜ (r ≡ walk m (generatorIn (now (words .entry)) d) n (toNF n (now (w .entry))) x) × Below m (d .deg) r ⌝ }
+{
+    let at = d.line;
+    if d.deg == 1 {
+        return Entry {
+            row: 0,
+            exp: single_word(words, at, w, n, x.exp, m),
+        };
+    }
+    walk_word(words, at, d.deg, w, n, x, m)
+}
+
+// Generator g, times the c-th power of the root, on an entry.
+pub fn scaled(words: &[u32], d: Listed, g: u32, c: u32, x: Entry, m: u32) -> Entry
+    requires { ⌜ Stored m (suc g) (now words) d × Below m (d .deg) x × (c < m) ⌝ }
+    ensures { λ r. ⌜ (r ≡ plus m c (act m (generatorIn (now (words .entry)) d g) x)) × Below m (d .deg) r ⌝ }
+{
+    let y = moved(words, d, g, x, m);
+    Entry {
+        row: y.row,
+        exp: add_mod(y.exp, c, m),
+    }
+}
+
+// The same k times. A basis index that the generator fixes stays, and its exponent is a product.
+pub fn scaled_times(words: &[u32], d: Listed, g: u32, c: u32, k: u32, x: Entry, m: u32) -> Entry
+    requires { ⌜ Stored m (suc g) (now words) d × Below m (d .deg) x × (c < m) ⌝ }
+    ensures { λ r. ⌜ (r ≡ iter (λ z. plus m c (act m (generatorIn (now (words .entry)) d g) z)) k x) × Below m (d .deg) r ⌝ }
+{
+    if k == 0 {
+        return x;
+    }
+    let y = scaled(words, d, g, c, x, m);
+    if k == 1 {
+        return y;
+    }
+    if y.row == x.row {
+        let e = column(words, matrix_line(d, g), d.deg, x.row, m);
+        return Entry {
+            row: x.row,
+            exp: add_times(x.exp, k, add_mod(e.exp, c, m), m),
+        };
+    }
+    let mut r = y;
+    for i in 1..k {
+        r = scaled(words, d, g, c, r, m);
+    }
+    r
+}
+
+// The exponent of column 0 moved through generator j, and then through generator g of e, of the same degree, times the c-th
+// power of the root.
+pub fn through(words: &[u32], d: Listed, j: u32, e: Listed, g: u32, c: u32, m: u32) -> u32
+    requires { ⌜ Stored m (suc j) (now words) d × Stored m (suc g) (now words) e × (e .deg ≡ d .deg) × (c < m) ⌝ }
+    ensures { λ r. ⌜ (r ≡ throughIn m (now (words .entry)) d j e g c) × (r < m) ⌝ }
+{
+    let y = moved(words, d, j, Entry { row: 0, exp: 0 }, m);
+    let z = scaled(words, e, g, c, y, m);
+    z.exp
+}
