@@ -17,7 +17,7 @@ use borrow.Author.Tests.{eqb-true, ltb-true}
 use Rattle.definitions.specs.Lists.{blocks, sum, same, allBelow}
 use Rattle.definitions.specs.Presentation.{lineWords}
 use Rattle.definitions.specs.Monomial.{col, Rep, Level, repOf, noRep}
-use Rattle.definitions.specs.Table.{lineOf, repWords, levelWords, wordAt, lineCount, begins, degrees, firstLine, repAt, levelAt, complete}
+use Rattle.definitions.specs.Table.{DEG, lineOf, repWords, levelWords, wordAt, lineCount, begins, degrees, firstLine, repAt, levelAt, complete}
 use Rattle.numbers.proofs.Bools.{and-left, and-right}
 use Rattle.numbers.proofs.Lists.{allBelow-elim, length-blocks}
 use Rattle.numbers.proofs.Sums.{sum-zero, sum-suc, owner, first-le}
@@ -38,7 +38,7 @@ same-eq (x ∷ xs) (y ∷ ys) h = ap₂ (_∷_) (eqb-true x y (and-left (eqb x y
 record Wide (xs : List ℕ) : Type 0 where
   lines : ℕ
   size : length xs ≡ lineWords * lines
-  each : (l : ℕ) → l < lines → 0 < wordAt xs l 2
+  each : (l : ℕ) → l < lines → 0 < wordAt xs l DEG
 
 wide-append : (xs ys : List ℕ) → Wide xs → Wide ys → Wide (xs ++ ys)
 unfolding lineWords wordAt
@@ -134,7 +134,7 @@ module _ (n : ℕ) (positive : 0 < n) (T : List ℕ) (H : complete n T ≡ true)
   complete-degree k r l h =
       let f : ℕ → Rep = λ r. repAt T (firstLine n T (suc k) r) (getD (degrees T (suc k)) r 0) in
       let d = ap (λ (D : Rep). D .deg) (getD-table f (length (degrees T (suc k))) r noRep (omega (arith, count-is k))) in
-      let p = chosen-from (begins T (suc k)) (λ l. wordAt T l 2) (lineCount T) r (omega (arith, count-is k)) in
+      let p = chosen-from (begins T (suc k)) (λ l. wordAt T l DEG) (lineCount T) r (omega (arith, count-is k)) in
       let W = complete-wide in
       let inside : p .0 < W .lines = omega (arith, p .1, W .size) in
       subst (λ z. 0 < z) (sym (d ∙ p .2)) (W .each (p .0) inside)
@@ -158,17 +158,17 @@ module _ (n : ℕ) (positive : 0 < n) (T : List ℕ) (H : complete n T ≡ true)
   abbrev start : ℕ → ℕ → ℕ
   start k r = sum k (levelLines W) + sum r (repLines W k)
 
-  degree-at : (k r : ℕ) → k < n → r < count k → wordAt T (start k r) 2 ≡ repOf (L k) r .deg
+  degree-at : (k r : ℕ) → k < n → r < count k → wordAt T (start k r) DEG ≡ repOf (L k) r .deg
   unfolding lineNumber lineOf lineWords
   degree-at k r a b =
       let e : start k r ≡ lineNumber W k r 0 0 = omega arith in
-      ap (λ l. wordAt T l 2) e ∙ word-is k r 0 0 2 a b positive (complete-degree k r a b) (omega arith)
+      ap (λ l. wordAt T l DEG) e ∙ word-is k r 0 0 2 a b positive (complete-degree k r a b) (omega arith)
 
   first-is : (k r : ℕ) → k < n → r ≤ count k → firstFrom n T (sum k (levelLines W)) r ≡ start k r
   first-is k zero a b = omega (arith, first-zero n T (sum k (levelLines W)), sum-zero (repLines W k))
   first-is k (suc r) a b =
       let f = first-is k r a (omega arith) in
-      let d : wordAt T (firstFrom n T (sum k (levelLines W)) r) 2 ≡ repOf (L k) r .deg = ap (λ l. wordAt T l 2) f ∙ degree-at k r a b in
+      let d : wordAt T (firstFrom n T (sum k (levelLines W)) r) DEG ≡ repOf (L k) r .deg = ap (λ l. wordAt T l DEG) f ∙ degree-at k r a b in
       let e : repLines W k r ≡ n * repOf (L k) r .deg = unfold repLines in refl in
       omega (arith, first-suc n T (sum k (levelLines W)) r, f, ap (λ d. n * d) d, sum-suc r (repLines W k), e)
 
@@ -204,14 +204,14 @@ module _ (n : ℕ) (positive : 0 < n) (T : List ℕ) (H : complete n T ≡ true)
       let e = degree-at k r a b in
       let l = first-le (repLines W k) r (count k) b in
       let m = first-le (levelLines W) k n a in
-      let q : wordAt T (start k r) 2 * n ≡ d * n = ap (λ d. d * n) e in
+      let q : wordAt T (start k r) DEG * n ≡ d * n = ap (λ d. d * n) e in
       record {
         positive = subst (λ d. 0 < d) (sym e) (complete-degree k r a b);
         inside = omega (arith, lines-all, q, l, m);
         head = λ g c gl cl.
             let c-below : c < d = subst (λ d. c < d) e cl in
-            let line : lineNumber W k r g c ≡ start k r + g * wordAt T (start k r) 2 + c = omega (arith, ap (λ d. g * d) e) in
-            subst (λ d. LineHead T (start k r + g * wordAt T (start k r) 2 + c) (suc k) r d g c) (sym e)
+            let line : lineNumber W k r g c ≡ start k r + g * wordAt T (start k r) DEG + c = omega (arith, ap (λ d. g * d) e) in
+            subst (λ d. LineHead T (start k r + g * wordAt T (start k r) DEG + c) (suc k) r d g c) (sym e)
             (subst (λ l. LineHead T l (suc k) r d g c) line (head-at k r g c a b gl c-below));
       }
 

@@ -16,7 +16,7 @@ use lib.ListN.{length}
 use borrow.Author.Tests.{eqb-true}
 use Rattle.definitions.specs.Presentation.{lineWords}
 use Rattle.definitions.specs.Monomial.{repOf}
-use Rattle.definitions.specs.Table.{wordAt, lineCount, levelAt, complete}
+use Rattle.definitions.specs.Table.{DEG, wordAt, lineCount, levelAt, complete}
 use Rattle.numbers.proofs.Bools.{and-left, and-right, and-intro}
 use Rattle.heads.specs.Heads.{Headed, firstFrom, baseOf}
 use Rattle.heads.specs.Walk.{nextLevel, nextRep, stepOk, walkFrom, headsOk}
@@ -34,14 +34,14 @@ module _ (n : ℕ) (T : List ℕ) (ord : ℕ → ℕ) where
   going-none = record { fuel = lineCount T; enough = omega arith; same = refl }
 
   pub going-more : (l i r : ℕ) → 0 < n → Walking l i r → l < lineCount T → stepOk n T ord l i r ≡ true
-      → Walking (l + n * wordAt T l 2) (nextLevel T l i r) (suc (nextRep T l i r))
+      → Walking (l + n * wordAt T l DEG) (nextLevel T l i r) (suc (nextRep T l i r))
   going-more l i r positive G h e = go (G .fuel) (G .enough) (G .same)
     where
       go : (f : ℕ) → lineCount T ≤ l + f → walkFrom n T ord f l i r ≡ walkFrom n T ord (lineCount T) 0 1 0
-          → Walking (l + n * wordAt T l 2) (nextLevel T l i r) (suc (nextRep T l i r))
+          → Walking (l + n * wordAt T l DEG) (nextLevel T l i r) (suc (nextRep T l i r))
       go zero enough s = absurd (omega arith)
       go (suc f) enough s =
-          let d : 0 < n * wordAt T l 2 = mul-pos positive (step-kept n T ord l i r e .heads .positive) in
+          let d : 0 < n * wordAt T l DEG = mul-pos positive (step-kept n T ord l i r e .heads .positive) in
           record { fuel = f; enough = omega arith; same = sym (walk-step n T ord f l i r h e) ∙ s }
 
   pub going-fails : (l i r : ℕ) → Walking l i r → l < lineCount T → stepOk n T ord l i r ≡ false → walkFrom n T ord (lineCount T) 0 1 0 ≡ false

@@ -17,7 +17,7 @@ use borrow.Author.Tests.{eq-eqb, lt-ltb}
 use Rattle.definitions.specs.Lists.{upto, blocks, sum, same}
 use Rattle.definitions.specs.Presentation.{lineWords}
 use Rattle.definitions.specs.Monomial.{entry, col, Rep, Level, repOf, noRep}
-use Rattle.definitions.specs.Table.{lineOf, levelWords, wordAt, lineCount, firstLine, repAt, levelAt, complete}
+use Rattle.definitions.specs.Table.{DEG, ROW, EXP, lineOf, levelWords, wordAt, lineCount, firstLine, repAt, levelAt, complete}
 use Rattle.numbers.proofs.Bools.{and-intro}
 use Rattle.numbers.proofs.Lists.{allBelow-intro}
 use Rattle.numbers.proofs.Sums.{sum-zero, sum-suc}
@@ -37,7 +37,7 @@ module _ (n : ℕ) (positive : 0 < n) (T : List ℕ) (H : Headed n T) where
   at k r = firstFrom n T (baseOf n T (H .count) k) r
 
   abbrev deg : ℕ → ℕ → ℕ
-  deg k r = wordAt T (firstFrom n T (baseOf n T (H .count) k) r) 2
+  deg k r = wordAt T (firstFrom n T (baseOf n T (H .count) k) r) DEG
 
   -- ---- The levels that begin where the heads say
 
@@ -106,10 +106,10 @@ module _ (n : ℕ) (positive : 0 < n) (T : List ℕ) (H : Headed n T) where
       l : ℕ
       l = at k r + g * deg k r + c
 
-      cols : col (D .matrix g) c ≡ entry (wordAt T l 6) (wordAt T l 7)
+      cols : col (D .matrix g) c ≡ entry (wordAt T l ROW) (wordAt T l EXP)
       cols =
           ap (λ (D : Rep). col (D .matrix g) c) (level-rep k r b)
-          ∙ col-table (λ c. entry (wordAt T (at k r + g * deg k r + c) 6) (wordAt T (at k r + g * deg k r + c) 7)) (deg k r) c e
+          ∙ col-table (λ c. entry (wordAt T (at k r + g * deg k r + c) ROW) (wordAt T (at k r + g * deg k r + c) EXP)) (deg k r) c e
 
       go : (w : ℕ) → w < 8 → LineHead T l (suc k) r (deg k r) g c
           → wordAt T l w ≡ getD (suc k ∷ r ∷ D .deg ∷ suc g ∷ D .ref g c ∷ c ∷ col (D .matrix g) c .row ∷ col (D .matrix g) c .exp ∷ []) w 0
@@ -146,7 +146,7 @@ module _ (n : ℕ) (positive : 0 < n) (T : List ℕ) (H : Headed n T) where
   headed-count k l = ap (λ T. length (levelAt n T (suc k))) table-is ∙ sym (read-back W k l .same-length) ∙ level-count k
 
   pub headed-degree : (k r : ℕ) → k < n → r < H .count k
-      → repOf (levelAt n T (suc k)) r .deg ≡ wordAt T (firstFrom n T (baseOf n T (H .count) k) r) 2
+      → repOf (levelAt n T (suc k)) r .deg ≡ wordAt T (firstFrom n T (baseOf n T (H .count) k) r) DEG
   headed-degree k r l h =
       ap (λ T. repOf (levelAt n T (suc k)) r .deg) table-is ∙ sym (read-back W k l .same-degree r (listed k r h)) ∙ level-degree k r h
 

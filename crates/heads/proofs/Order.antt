@@ -17,7 +17,7 @@ use lib.Dec.{eqb, ltb}
 use lib.ListN.{length}
 use borrow.Author.Tests.{eq-eqb, ne-eqb, lt-ltb, le-ltb}
 use Rattle.definitions.specs.Monomial.{repOf}
-use Rattle.definitions.specs.Table.{wordAt, lineCount, firstLine, levelAt, complete}
+use Rattle.definitions.specs.Table.{LEVEL, REP, DEG, wordAt, lineCount, firstLine, levelAt, complete}
 use Rattle.numbers.proofs.Bools.{or-left, or-right, and-intro}
 use Rattle.heads.specs.Heads.{LineHead, firstFrom, baseOf, Headed}
 use Rattle.heads.specs.Order.{before, Split}
@@ -37,32 +37,32 @@ split-one T i r s x S X = go (decLt x s) (decLt s x)
 pub record Last (T : List ℕ) (e reps : ℕ) : Type 0 where
   pub some : 0 < e
   pub inside : e ≤ lineCount T
-  pub count : wordAt T (e - 1) 1 + 1 ≡ reps
+  pub count : wordAt T (e - 1) REP + 1 ≡ reps
 
 -- ---- Tests
 
 module _ (T : List ℕ) (i r l : ℕ) where
   abbrev earlier : Bool
-  earlier = ltb (wordAt T l 0) i
+  earlier = ltb (wordAt T l LEVEL) i
 
   abbrev within : Bool
-  within = eqb (wordAt T l 0) i && ltb (wordAt T l 1) r
+  within = eqb (wordAt T l LEVEL) i && ltb (wordAt T l REP) r
 
-  before-level : wordAt T l 0 < i → before T i r l ≡ true
+  before-level : wordAt T l LEVEL < i → before T i r l ≡ true
   unfolding before
-  before-level h = or-left earlier within (lt-ltb (wordAt T l 0) i h)
+  before-level h = or-left earlier within (lt-ltb (wordAt T l LEVEL) i h)
 
-  before-rep : wordAt T l 0 ≡ i → wordAt T l 1 < r → before T i r l ≡ true
+  before-rep : wordAt T l LEVEL ≡ i → wordAt T l REP < r → before T i r l ≡ true
   unfolding before
-  before-rep a b = or-right earlier within (and-intro (eqb (wordAt T l 0) i) _ (eq-eqb _ _ a) (lt-ltb (wordAt T l 1) r b))
+  before-rep a b = or-right earlier within (and-intro (eqb (wordAt T l LEVEL) i) _ (eq-eqb _ _ a) (lt-ltb (wordAt T l REP) r b))
 
-  behind-level : i < wordAt T l 0 → before T i r l ≡ false
+  behind-level : i < wordAt T l LEVEL → before T i r l ≡ false
   unfolding before
-  behind-level h = ap₂ (_||_) (le-ltb (wordAt T l 0) i (omega arith)) (ap (λ b. b && ltb (wordAt T l 1) r) (ne-eqb (wordAt T l 0) i (λ e. omega (arith, e))))
+  behind-level h = ap₂ (_||_) (le-ltb (wordAt T l LEVEL) i (omega arith)) (ap (λ b. b && ltb (wordAt T l REP) r) (ne-eqb (wordAt T l LEVEL) i (λ e. omega (arith, e))))
 
-  behind-rep : wordAt T l 0 ≡ i → r ≤ wordAt T l 1 → before T i r l ≡ false
+  behind-rep : wordAt T l LEVEL ≡ i → r ≤ wordAt T l REP → before T i r l ≡ false
   unfolding before
-  behind-rep a b = ap₂ (_||_) (le-ltb (wordAt T l 0) i (omega (arith, a))) (ap₂ (_&&_) (eq-eqb (wordAt T l 0) i a) (le-ltb (wordAt T l 1) r b))
+  behind-rep a b = ap₂ (_||_) (le-ltb (wordAt T l LEVEL) i (omega (arith, a))) (ap₂ (_&&_) (eq-eqb (wordAt T l LEVEL) i a) (le-ltb (wordAt T l REP) r b))
 
 -- ---- Lines by level and representation
 
@@ -74,7 +74,7 @@ module _ (n : ℕ) (positive : 0 < n) (T : List ℕ) (H : Headed n T) where
   at k r = firstFrom n T (baseOf n T (H .count) k) r
 
   abbrev deg : ℕ → ℕ → ℕ
-  deg k r = wordAt T (at k r) 2
+  deg k r = wordAt T (at k r) DEG
 
   first-rises : (k q r : ℕ) → q ≤ r → at k q ≤ at k r
   first-rises k q zero l = let e : q ≡ zero = omega arith in omega (arith, ap (at k) e)
@@ -98,8 +98,8 @@ module _ (n : ℕ) (positive : 0 < n) (T : List ℕ) (H : Headed n T) where
     q-below : q < H .count j
     from : at j q ≤ l
     to : l < at j (suc q)
-    level : wordAt T l 0 ≡ suc j
-    rep : wordAt T l 1 ≡ q
+    level : wordAt T l LEVEL ≡ suc j
+    rep : wordAt T l REP ≡ q
 
   line-in : (l : ℕ) → l < lineCount T → (j : ℕ) × (q : ℕ) × In l j q
   line-in l h =
@@ -135,7 +135,7 @@ module _ (n : ℕ) (positive : 0 < n) (T : List ℕ) (H : Headed n T) where
         let f : at k q ≤ l = subst (λ j. at j q ≤ l) e (I .from) in
         before-rep T (suc k) r l (omega (arith, I .level)) (go (decLt q r) f)
       where
-        go : Dec (q < r) → at k q ≤ l → wordAt T l 1 < r
+        go : Dec (q < r) → at k q ≤ l → wordAt T l REP < r
         go (yes c) f = omega (arith, I .rep)
         go (no c) f = absurd (omega (arith, f, first-rises k r q (omega arith)))
 
@@ -147,7 +147,7 @@ module _ (n : ℕ) (positive : 0 < n) (T : List ℕ) (H : Headed n T) where
         let f : l < at k (suc q) = subst (λ j. l < at j (suc q)) e (I .to) in
         behind-rep T (suc k) r l (omega (arith, I .level)) (go (decLt q r) f)
       where
-        go : Dec (q < r) → l < at k (suc q) → r ≤ wordAt T l 1
+        go : Dec (q < r) → l < at k (suc q) → r ≤ wordAt T l REP
         go (yes c) f = absurd (omega (arith, f, first-rises k (suc q) r c))
         go (no c) f = omega (arith, I .rep)
 
@@ -176,7 +176,7 @@ module _ (n : ℕ) (positive : 0 < n) (T : List ℕ) (H : Headed n T) where
       record {
         some = omega (arith, e, m);
         inside = omega (arith, e, K .inside);
-        count = ap (λ z. z + 1) (ap (λ l. wordAt T l 1) (sym line) ∙ head .rep) ∙ omega arith;
+        count = ap (λ z. z + 1) (ap (λ l. wordAt T l REP) (sym line) ∙ head .rep) ∙ omega arith;
       }
 
 -- ---- In a complete table
@@ -195,13 +195,13 @@ module _ (n : ℕ) (positive : 0 < n) (T : List ℕ) (C : complete n T ≡ true)
     pub complete-split : Split T (suc k) r (firstLine n T (suc k) r)
     complete-split = subst (Split T (suc k) r) (sym first-is) (headed-split n positive T H k r k-below listed)
 
-    pub complete-word : wordAt T (firstLine n T (suc k) r) 2 ≡ repOf (levelAt n T (suc k)) r .deg
-    complete-word = ap (λ l. wordAt T l 2) first-is ∙ sym (headed-degree n positive T H k r k-below listed)
+    pub complete-word : wordAt T (firstLine n T (suc k) r) DEG ≡ repOf (levelAt n T (suc k)) r .deg
+    complete-word = ap (λ l. wordAt T l DEG) first-is ∙ sym (headed-degree n positive T H k r k-below listed)
 
     pub complete-room : firstLine n T (suc k) r + n * repOf (levelAt n T (suc k)) r .deg ≤ lineCount T
     complete-room =
         subst (λ d. firstLine n T (suc k) r + n * d ≤ lineCount T) (sym (headed-degree n positive T H k r k-below listed))
-        (subst (λ l. l + n * wordAt T (firstFrom n T (baseOf n T (H .count) k) r) 2 ≤ lineCount T) (sym first-is) (H .heads k r k-below listed .inside))
+        (subst (λ l. l + n * wordAt T (firstFrom n T (baseOf n T (H .count) k) r) DEG ≤ lineCount T) (sym first-is) (H .heads k r k-below listed .inside))
 
     pub complete-next : firstLine n T (suc k) (suc r) ≡ firstLine n T (suc k) r + n * repOf (levelAt n T (suc k)) r .deg
     complete-next =

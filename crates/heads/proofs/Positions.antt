@@ -9,7 +9,7 @@ use Prim.Native.Nat.{ℕ, zero, suc, _+_, _*_, _-_, _/_, _%_, _≤_, _<_}
 use native.Mathlib.Nat.{mod-lt, mod-add-div', div-lt-iff-lt-mul}
 use native.Mathlib.Omega.{arith}
 use native.Mathlib.Decide.{decLt}
-use Rattle.definitions.specs.Table.{wordAt, lineCount}
+use Rattle.definitions.specs.Table.{DEG, wordAt, lineCount}
 use Rattle.heads.specs.Heads.{firstFrom, baseOf, Headed}
 
 pub record Between (f : ℕ → ℕ) (N x : ℕ) : Type 0 where
@@ -26,7 +26,7 @@ between f (suc N) x a b = go (decLt x (f N)) (between f N x a)
     go (yes h) rec = let o = rec h in record { s = o .s; below = omega (arith, o .below); from = o .from; to = o .to }
     go (no h) rec = record { s = N; below = omega arith; from = omega arith; to = b }
 
-pub first-suc : (n : ℕ) (T : List ℕ) (b r : ℕ) → firstFrom n T b (suc r) ≡ firstFrom n T b r + n * wordAt T (firstFrom n T b r) 2
+pub first-suc : (n : ℕ) (T : List ℕ) (b r : ℕ) → firstFrom n T b (suc r) ≡ firstFrom n T b r + n * wordAt T (firstFrom n T b r) DEG
 unfolding firstFrom
 first-suc n T b r = refl
 
@@ -47,7 +47,7 @@ module _ (n : ℕ) (T : List ℕ) (H : Headed n T) where
   at k r = firstFrom n T (baseOf n T (H .count) k) r
 
   abbrev deg : ℕ → ℕ → ℕ
-  deg k r = wordAt T (at k r) 2
+  deg k r = wordAt T (at k r) DEG
 
   pub record Position (l : ℕ) : Type 0 where
     pub k : ℕ
@@ -57,8 +57,8 @@ module _ (n : ℕ) (T : List ℕ) (H : Headed n T) where
     pub k-below : k < n
     pub r-below : r < H .count k
     pub g-below : g < n
-    pub c-below : c < wordAt T (firstFrom n T (baseOf n T (H .count) k) r) 2
-    pub is : firstFrom n T (baseOf n T (H .count) k) r + g * wordAt T (firstFrom n T (baseOf n T (H .count) k) r) 2 + c ≡ l
+    pub c-below : c < wordAt T (firstFrom n T (baseOf n T (H .count) k) r) DEG
+    pub is : firstFrom n T (baseOf n T (H .count) k) r + g * wordAt T (firstFrom n T (baseOf n T (H .count) k) r) DEG + c ≡ l
 
   -- in the representation that begins at line a and ends behind l
   pub position : (l : ℕ) → l < lineCount T → Position l

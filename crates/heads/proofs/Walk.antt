@@ -16,7 +16,7 @@ use native.Mathlib.Decide.{decLt}
 use lib.Dec.{eqb, ltb, leb}
 use borrow.Author.Tests.{eqb-true, ltb-true, leb-true, eq-eqb, ne-eqb, lt-ltb, le-ltb, le-leb}
 use Rattle.definitions.specs.Lists.{allBelow}
-use Rattle.definitions.specs.Table.{wordAt, lineCount}
+use Rattle.definitions.specs.Table.{LEVEL, REP, DEG, GEN, COL, wordAt, lineCount}
 use Rattle.numbers.proofs.Bools.{and-left, and-right, and-intro, cond-true, cond-false}
 use Rattle.numbers.proofs.Lists.{below-suc, allBelow-elim, allBelow-intro}
 use Rattle.heads.specs.Heads.{LineHead, Heads, firstFrom, baseOf}
@@ -44,19 +44,19 @@ and-false false b h = refl
 head-is : (T : List ℕ) (l i r d g c : ℕ) → headIs T l i r d g c ≡ true → LineHead T l i r d g c
 unfolding headIs
 head-is T l i r d g c h =
-    let a : Bool = eqb (wordAt T l 0) i in
-    let b : Bool = eqb (wordAt T l 1) r in
-    let e : Bool = eqb (wordAt T l 2) d in
-    let f : Bool = eqb (wordAt T l 3) (suc g) in
-    let h₃ : a && b && e && f ≡ true = and-left (a && b && e && f) (eqb (wordAt T l 5) c) h in
+    let a : Bool = eqb (wordAt T l LEVEL) i in
+    let b : Bool = eqb (wordAt T l REP) r in
+    let e : Bool = eqb (wordAt T l DEG) d in
+    let f : Bool = eqb (wordAt T l GEN) (suc g) in
+    let h₃ : a && b && e && f ≡ true = and-left (a && b && e && f) (eqb (wordAt T l COL) c) h in
     let h₂ : a && b && e ≡ true = and-left (a && b && e) f h₃ in
     let h₁ : a && b ≡ true = and-left (a && b) e h₂ in
     record {
-      level = eqb-true (wordAt T l 0) i (and-left a b h₁);
-      rep = eqb-true (wordAt T l 1) r (and-right a b h₁);
-      deg = eqb-true (wordAt T l 2) d (and-right (a && b) e h₂);
-      gen = eqb-true (wordAt T l 3) (suc g) (and-right (a && b && e) f h₃);
-      col = eqb-true (wordAt T l 5) c (and-right (a && b && e && f) (eqb (wordAt T l 5) c) h);
+      level = eqb-true (wordAt T l LEVEL) i (and-left a b h₁);
+      rep = eqb-true (wordAt T l REP) r (and-right a b h₁);
+      deg = eqb-true (wordAt T l DEG) d (and-right (a && b) e h₂);
+      gen = eqb-true (wordAt T l GEN) (suc g) (and-right (a && b && e) f h₃);
+      col = eqb-true (wordAt T l COL) c (and-right (a && b && e && f) (eqb (wordAt T l COL) c) h);
     }
 
 is-head : (T : List ℕ) (l i r d g c : ℕ) → LineHead T l i r d g c → headIs T l i r d g c ≡ true
@@ -67,11 +67,11 @@ is-head T l i r d g c h =
 
 module _ (n : ℕ) (T : List ℕ) (ord : ℕ → ℕ) where
   abbrev deg : ℕ → ℕ
-  deg l = wordAt T l 2
+  deg l = wordAt T l DEG
 
   pub record Passing (l i r : ℕ) : Type 0 where
     pub heads : Heads n T l i r
-    pub square : wordAt T l 2 * wordAt T l 2 ≤ ord i
+    pub square : wordAt T l DEG * wordAt T l DEG ≤ ord i
 
   pub heads-kept : (l i r : ℕ) → repHeads n T ord l i r ≡ true → Passing l i r
   unfolding repHeads matrixHeads
@@ -114,7 +114,7 @@ module _ (n : ℕ) (T : List ℕ) (ord : ℕ → ℕ) where
   walk-on f l i r h = cond-true (ltb l (lineCount T)) _ (eqb i n && ltb 0 r) (lt-ltb l (lineCount T) h)
 
   pub walk-step : (f l i r : ℕ) → l < lineCount T → stepOk n T ord l i r ≡ true
-      → walkFrom n T ord (suc f) l i r ≡ walkFrom n T ord f (l + n * wordAt T l 2) (nextLevel T l i r) (suc (nextRep T l i r))
+      → walkFrom n T ord (suc f) l i r ≡ walkFrom n T ord f (l + n * wordAt T l DEG) (nextLevel T l i r) (suc (nextRep T l i r))
   walk-step f l i r h e = walk-on f l i r h ∙ ap (λ t. t && walk f (l + n * deg l) (nextLevel T l i r) (suc (nextRep T l i r))) e
 
   pub walk-fails : (f l i r : ℕ) → l < lineCount T → stepOk n T ord l i r ≡ false → walkFrom n T ord (suc f) l i r ≡ false
@@ -138,7 +138,7 @@ module _ (n : ℕ) (T : List ℕ) (ord : ℕ → ℕ) where
 
   begins-some : (l i r : ℕ) → begins T l i r ≡ true → 0 < r
   unfolding begins
-  begins-some l i r e = ltb-true 0 r (and-left (ltb 0 r) (eqb (wordAt T l 0) (suc i)) e)
+  begins-some l i r e = ltb-true 0 r (and-left (ltb 0 r) (eqb (wordAt T l LEVEL) (suc i)) e)
 
   -- ---- What a walk has met
 
@@ -284,10 +284,10 @@ module _ (n : ℕ) (T : List ℕ) (ord : ℕ → ℕ) where
       before-end : place k r < lineCount T
       before-end = omega (arith, some-lines, here .heads .inside)
 
-      level-is : wordAt T (place k r) 0 ≡ suc k
+      level-is : wordAt T (place k r) LEVEL ≡ suc k
       level-is =
           let e : place k r + 0 * deg (place k r) + 0 ≡ place k r = omega arith in
-          subst (λ l. wordAt T l 0 ≡ suc k) e (here .heads .head 0 0 positive (here .heads .positive) .level)
+          subst (λ l. wordAt T l LEVEL ≡ suc k) e (here .heads .head 0 0 positive (here .heads .positive) .level)
 
       -- the step at the line of a representation, from a level and a number that lead to those of it
       step : (i q f : ℕ) → nextLevel T (place k r) i q ≡ suc k → nextRep T (place k r) i q ≡ r
@@ -303,7 +303,7 @@ module _ (n : ℕ) (T : List ℕ) (ord : ℕ → ℕ) where
       stays : (f : ℕ) → walk f (place k (suc r)) (suc k) (suc r) ≡ true → walk (suc f) (place k r) (suc k) r ≡ true
       unfolding begins
       stays f h =
-          let b : begins T (place k r) (suc k) r ≡ false = and-false (ltb 0 r) _ (ne-eqb (wordAt T (place k r) 0) (suc (suc k)) (λ e. omega (arith, level-is, e))) in
+          let b : begins T (place k r) (suc k) r ≡ false = and-false (ltb 0 r) _ (ne-eqb (wordAt T (place k r) LEVEL) (suc (suc k)) (λ e. omega (arith, level-is, e))) in
           let (i, q) = begins-no (place k r) (suc k) r b in
           step (suc k) r f i q h
 

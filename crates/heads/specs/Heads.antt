@@ -10,25 +10,25 @@ use mathlib.Core.List.{List}
 use Prim.Native.Nat.{ℕ, zero, suc, _+_, _*_, _≤_, _<_}
 use lib.ListN.{length}
 use Rattle.definitions.specs.Presentation.{lineWords}
-use Rattle.definitions.specs.Table.{wordAt, lineCount}
+use Rattle.definitions.specs.Table.{LEVEL, REP, DEG, GEN, COL, wordAt, lineCount}
 
 pub record LineHead (T : List ℕ) (l i r d g c : ℕ) : Type 0 where
-  pub level : wordAt T l 0 ≡ i
-  pub rep : wordAt T l 1 ≡ r
-  pub deg : wordAt T l 2 ≡ d
-  pub gen : wordAt T l 3 ≡ suc g
-  pub col : wordAt T l 5 ≡ c
+  pub level : wordAt T l LEVEL ≡ i
+  pub rep : wordAt T l REP ≡ r
+  pub deg : wordAt T l DEG ≡ d
+  pub gen : wordAt T l GEN ≡ suc g
+  pub col : wordAt T l COL ≡ c
 
 module _ (n : ℕ) (T : List ℕ) where
   -- as many as n generators of the degree of the first have, by generator and column
   pub record Heads (l i r : ℕ) : Type 0 where
-    pub positive : 0 < wordAt T l 2
-    pub inside : l + n * wordAt T l 2 ≤ lineCount T
-    pub head : (g c : ℕ) → g < n → c < wordAt T l 2 → LineHead T (l + g * wordAt T l 2 + c) i r (wordAt T l 2) g c
+    pub positive : 0 < wordAt T l DEG
+    pub inside : l + n * wordAt T l DEG ≤ lineCount T
+    pub head : (g c : ℕ) → g < n → c < wordAt T l DEG → LineHead T (l + g * wordAt T l DEG + c) i r (wordAt T l DEG) g c
 
   unfoldable pub firstFrom : ℕ → ℕ → ℕ
   firstFrom b zero = b
-  firstFrom b (suc r) = firstFrom b r + n * wordAt T (firstFrom b r) 2
+  firstFrom b (suc r) = firstFrom b r + n * wordAt T (firstFrom b r) DEG
 
   unfoldable pub baseOf : (ℕ → ℕ) → ℕ → ℕ
   baseOf count zero = 0

@@ -8,10 +8,10 @@ use mathlib.Core.Bool.{Bool, true, false, _&&_, _||_}
 use mathlib.Core.List.{List}
 use Prim.Native.Nat.{ℕ, _≤_, _<_}
 use lib.Dec.{eqb, ltb}
-use Rattle.definitions.specs.Table.{wordAt, lineCount}
+use Rattle.definitions.specs.Table.{LEVEL, REP, wordAt, lineCount}
 
 unfoldable pub before : List ℕ → (i r l : ℕ) → Bool
-before T i r l = ltb (wordAt T l 0) i || (eqb (wordAt T l 0) i && ltb (wordAt T l 1) r)
+before T i r l = ltb (wordAt T l LEVEL) i || (eqb (wordAt T l LEVEL) i && ltb (wordAt T l REP) r)
 
 pub record Split (T : List ℕ) (i r s : ℕ) : Type 0 where
   pub inside : s ≤ lineCount T

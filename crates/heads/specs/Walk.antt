@@ -13,18 +13,18 @@ use lib.ListN.{length}
 use lib.Dec.{eqb, leb, ltb}
 use Rattle.definitions.specs.Lists.{allBelow}
 use Rattle.definitions.specs.Presentation.{lineWords}
-use Rattle.definitions.specs.Table.{wordAt, lineCount}
+use Rattle.definitions.specs.Table.{LEVEL, REP, DEG, GEN, COL, wordAt, lineCount}
 
 module _ (T : List ℕ) where
   unfoldable pub headIs : (l i r d g c : ℕ) → Bool
   headIs l i r d g c =
-      eqb (wordAt T l 0) i && eqb (wordAt T l 1) r && eqb (wordAt T l 2) d && eqb (wordAt T l 3) (suc g) && eqb (wordAt T l 5) c
+      eqb (wordAt T l LEVEL) i && eqb (wordAt T l REP) r && eqb (wordAt T l DEG) d && eqb (wordAt T l GEN) (suc g) && eqb (wordAt T l COL) c
 
   unfoldable pub matrixHeads : (l i r d g : ℕ) → Bool
   matrixHeads l i r d g = allBelow d (λ c. headIs (l + g * d + c) i r d g c)
 
   unfoldable pub begins : (l i r : ℕ) → Bool
-  begins l i r = ltb 0 r && eqb (wordAt T l 0) (suc i)
+  begins l i r = ltb 0 r && eqb (wordAt T l LEVEL) (suc i)
 
   unfoldable pub nextLevel : (l i r : ℕ) → ℕ
   nextLevel l i r = cond (begins l i r) (suc i) i
@@ -35,8 +35,8 @@ module _ (T : List ℕ) where
 module _ (n : ℕ) (T : List ℕ) (ord : ℕ → ℕ) where
   unfoldable pub repHeads : (l i r : ℕ) → Bool
   repHeads l i r =
-      ltb 0 (wordAt T l 2) && leb (wordAt T l 2 * wordAt T l 2) (ord i) && leb (l + n * wordAt T l 2) (lineCount T)
-      && allBelow n (λ g. matrixHeads T l i r (wordAt T l 2) g)
+      ltb 0 (wordAt T l DEG) && leb (wordAt T l DEG * wordAt T l DEG) (ord i) && leb (l + n * wordAt T l DEG) (lineCount T)
+      && allBelow n (λ g. matrixHeads T l i r (wordAt T l DEG) g)
 
   unfoldable pub stepOk : (l i r : ℕ) → Bool
   stepOk l i r = leb (nextLevel T l i r) n && repHeads l (nextLevel T l i r) (nextRep T l i r)
@@ -46,7 +46,7 @@ module _ (n : ℕ) (T : List ℕ) (ord : ℕ → ℕ) where
   walkFrom zero l i r = eqb i n && ltb 0 r
   walkFrom (suc f) l i r =
       cond (ltb l (lineCount T))
-      (stepOk l i r && walkFrom f (l + n * wordAt T l 2) (nextLevel T l i r) (suc (nextRep T l i r)))
+      (stepOk l i r && walkFrom f (l + n * wordAt T l DEG) (nextLevel T l i r) (suc (nextRep T l i r)))
       (eqb i n && ltb 0 r)
 
   unfoldable pub headsOk : Bool
