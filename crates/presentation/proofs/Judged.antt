@@ -27,8 +27,8 @@ use Rattle.group.proofs.Context.{exponent-unused}
 use Rattle.rows.specs.Rows.{Reads}
 use Rattle.rows.proofs.Pairs.{pair-below}
 use Rattle.presentation.specs.declared.Outcome.{Outcome}
-use Rattle.presentation.specs.Lines.{NamesLine, NoNames}
-use Rattle.presentation.specs.Rows.{noRow, rowText, AllLines, NoLines}
+use Rattle.reader.specs.Lines.{NamesLine, NoNames}
+use Rattle.reader.specs.Rows.{noRow, rowText, AllLines, NoLines}
 use Rattle.conditions.specs.Conditions.{product, entryWell, rowWells, pairWell, allWell, Primes}
 use Rattle.presentation.specs.Outcome.{Held, ReadText, Concluded}
 use Rattle.conditions.proofs.Primes.{not-prime-small}

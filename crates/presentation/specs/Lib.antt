@@ -1,4 +1,2 @@
--- What stands in a presentation text, and what the read presentation holds of it.
-pub mod Lines
-pub mod Rows
+-- What reading a presentation text leaves.
 pub mod Outcome

@@ -1,11 +1,10 @@
-// The read presentation, and the reader of presentation text (refusals 11 to 14).
+// The read presentation, and the answer to its text (refusals 11 to 14).
 //
 //   Presentation          n, the primes, and the words in rows
 //   make, words_of        the two functions that touch the rows as a field
 //   Outcome, refused      what reading leaves: a refusal, or 0 and the presentation
 //   conclude              refusals 13 and 14 on what was kept of a text whose generators have room
-//   read                  the reader
-//   reader                the lines of a text
+//   read                  the presentation that a text says
 use conditions::judge;
 use rows::GENERATORS;
 use rows::PAIRS;
@@ -17,8 +16,6 @@ ghost use Prim.Native.Nat.{ℕ, _<_, _≤_};
 ghost use lib.ListN.{getD};
 ghost use Rattle.definitions.specs.Presentation.{maxGenerators, pairNumber};
 ghost use Rattle.presentation.specs.Outcome.{Concluded, ReadText};
-
-pub mod reader;
 
 // The read presentation.
 pub struct Presentation {

@@ -4,10 +4,10 @@ use borrow.Author.Needs.{needs}
 use borrow.Author.Tests.{not-true, not-false}
 use native.Mathlib.Omega.{arith}
 use lib.ListN.{length}
-use Rattle.presentation.proofs.Rows.{line-no-head, line-no-word}
-use Rattle.presentation.proofs.Reading.{Reading, reading-none, reading-more, reading-no-line, reading-refused, reading-end}
-use Rattle.presentation.proofs.reader.read_lines.Statement.{statement}
-use Rattle.presentation.proofs.reader.read_lines.Tie as tie
+use Rattle.reader.proofs.Rows.{line-no-head, line-no-word}
+use Rattle.reader.proofs.Reading.{Reading, reading-none, reading-more, reading-no-line, reading-refused, reading-end}
+use Rattle.reader.proofs.read_lines.Statement.{statement}
+use Rattle.reader.proofs.read_lines.Tie as tie
 
 abbrev Inv-loop : tie.InvT-loop
 Inv-loop text start n words₀ ps₀ at₀ j₀ i₀ k₀ primes₀ words ps at j i k primes = Reading text start n at j i k words ps primes

@@ -1,10 +1,10 @@
 -- One law for each way to go on.
 use native.Mathlib.Omega.{arith}
 use Rattle.definitions.specs.Text.{largest}
-use Rattle.presentation.proofs.Pairs.{next-inner, next-generator, next-first, next-power}
+use Rattle.reader.proofs.Pairs.{next-inner, next-generator, next-first, next-power}
 use borrow.Author.Needs.{needs}
-use Rattle.presentation.proofs.reader.next_pair.Statement.{statement}
-use Rattle.presentation.proofs.reader.next_pair.Tie as tie
+use Rattle.reader.proofs.next_pair.Statement.{statement}
+use Rattle.reader.proofs.next_pair.Tie as tie
 
 add-if2 : tie.Need-add-if2
 add-if2 c = search needs

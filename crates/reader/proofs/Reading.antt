@@ -26,10 +26,10 @@ use Rattle.numbers.proofs.Lists.{all-getD}
 use Rattle.numbers.proofs.Sums.{sum-zero}
 use Rattle.group.proofs.Pairs.{length-pairs, pairNumber-power, pairNumber-commutator, pairNumber-below}
 use Rattle.text.proofs.Trail.{all-one}
-use Rattle.presentation.specs.Lines.{HeadLine, WordLine}
-use Rattle.presentation.specs.Rows.{noRow, rowText, passes, Kept, Stored, AllLines, NoLines, LinesAt}
-use Rattle.presentation.proofs.Words.{getD-snoc, getD-snoc-other}
-use Rattle.presentation.proofs.Rows.{pairs-at, NoLine, line-some, rowText-nil, rowText-one, rows-ahead, rows-whole, formed-row}
+use Rattle.reader.specs.Lines.{HeadLine, WordLine}
+use Rattle.reader.specs.Rows.{noRow, rowText, passes, Kept, Stored, AllLines, NoLines, LinesAt}
+use Rattle.reader.proofs.Words.{getD-snoc, getD-snoc-other}
+use Rattle.reader.proofs.Rows.{pairs-at, NoLine, line-some, rowText-nil, rowText-one, rows-ahead, rows-whole, formed-row}
 
 -- ---- What is kept of a line
 

@@ -2,10 +2,10 @@
 use mathlib.Core.Path.{sym, ap, _∙_}
 use mathlib.Core.Bool.{Bool, _&&_}
 use borrow.Author.Tests.{not-true, not-false, eq-eqb, ne-eqb}
-use Rattle.presentation.specs.Rows.{passes}
+use Rattle.reader.specs.Rows.{passes}
 use borrow.Author.Needs.{needs}
-use Rattle.presentation.proofs.reader.still_prime.Statement.{statement}
-use Rattle.presentation.proofs.reader.still_prime.Tie as tie
+use Rattle.reader.proofs.still_prime.Statement.{statement}
+use Rattle.reader.proofs.still_prime.Tie as tie
 
 returns : tie.Need-returns
 returns c =

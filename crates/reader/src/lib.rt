@@ -21,8 +21,8 @@ ghost use lib.ListN.{length, drop};
 ghost use Rattle.definitions.specs.Text.{largest};
 ghost use Rattle.definitions.specs.Presentation.{pairCount, pairNumber};
 ghost use Rattle.text.specs.Reading.{Ends, ReadAt};
-ghost use Rattle.presentation.specs.Lines.{NamesAt, HeadAt, WordAt};
-ghost use Rattle.presentation.specs.Rows.{passes, Kept, LinesAt};
+ghost use Rattle.reader.specs.Lines.{NamesAt, HeadAt, WordAt};
+ghost use Rattle.reader.specs.Rows.{passes, Kept, LinesAt};
 
 // The number in the exponent's name at a position.
 fn next_name(text: &[u8], at: usize) -> Read

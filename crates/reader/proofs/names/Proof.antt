@@ -8,9 +8,9 @@ use native.Mathlib.Omega.{arith}
 use lib.ListN.{length}
 use Rattle.definitions.specs.Text.{largest}
 use Rattle.text.proofs.Reading.{byte-within}
-use Rattle.presentation.proofs.Names.{NamesGoing, names-unstarted, names-none, names-more, names-fails, names-other, names-stops, names-end}
-use Rattle.presentation.proofs.reader.names.Statement.{statement}
-use Rattle.presentation.proofs.reader.names.Tie as tie
+use Rattle.reader.proofs.Naming.{NamesGoing, names-unstarted, names-none, names-more, names-fails, names-other, names-stops, names-end}
+use Rattle.reader.proofs.names.Statement.{statement}
+use Rattle.reader.proofs.names.Tie as tie
 
 abbrev Inv-loop : tie.InvT-loop
 Inv-loop text n₀ at₀ n at = NamesGoing text n at

@@ -4,8 +4,8 @@ use mathlib.Core.List.{[], _∷_}
 use native.Mathlib.Omega.{arith}
 use Rattle.text.proofs.Reading.{byte-within, behind-none, behind-some}
 use borrow.Author.Needs.{needs}
-use Rattle.presentation.proofs.reader.next_name.Statement.{statement}
-use Rattle.presentation.proofs.reader.next_name.Tie as tie
+use Rattle.reader.proofs.next_name.Statement.{statement}
+use Rattle.reader.proofs.next_name.Tie as tie
 
 byte-at-requires : tie.Need-byte-at-requires
 byte-at-requires c κs = search needs

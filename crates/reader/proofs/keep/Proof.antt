@@ -2,8 +2,8 @@
 use mathlib.Core.Path.{refl}
 use native.Mathlib.Omega.{arith}
 use borrow.Author.Needs.{needs}
-use Rattle.presentation.proofs.reader.keep.Statement.{statement}
-use Rattle.presentation.proofs.reader.keep.Tie as tie
+use Rattle.reader.proofs.keep.Statement.{statement}
+use Rattle.reader.proofs.keep.Tie as tie
 
 mul-e : tie.Need-mul-e
 mul-e c = search needs

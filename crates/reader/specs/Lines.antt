@@ -13,7 +13,7 @@ use Rattle.definitions.specs.Presentation.{maxGenerators, presentationNames}
 use Rattle.text.specs.Reading.{Ends, trail}
 use Rattle.text.specs.declared.Read.{Read}
 use Rattle.text.specs.declared.Read.the-variants.{Value, Nothing}
-use Rattle.presentation.specs.declared.reader.Word.{Word}
+use Rattle.reader.specs.declared.Word.{Word}
 
 -- ---- The names line
 

@@ -22,7 +22,7 @@ use Rattle.text.specs.Reading.{Ends, ValueAt, NoValue, StartsAt, fieldTrail}
 use Rattle.text.specs.declared.Read.the-variants.{Value, Nothing}
 use Rattle.text.proofs.Reading.{drop-front, drop-byte, read-known}
 use Rattle.text.proofs.Trail.{fieldTrail-one, line-trail}
-use Rattle.presentation.specs.Lines.{NamesLine, NoNames, NamesAt}
+use Rattle.reader.specs.Lines.{NamesLine, NoNames, NamesAt}
 
 -- ---- The names
 

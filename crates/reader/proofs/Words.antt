@@ -19,7 +19,7 @@ use Rattle.definitions.specs.Presentation.{maxGenerators}
 use Rattle.text.specs.Reading.{Ends, ValueAt, NoValue, trail}
 use Rattle.text.proofs.Reading.{drop-front, drop-byte}
 use Rattle.text.proofs.Trail.{trail-nil, trail-cons, trail-one, trail-ahead, ends-byte, ends-trail, small-nil, small-one, small-at}
-use Rattle.presentation.specs.Lines.{NoWord, WordAt}
+use Rattle.reader.specs.Lines.{NoWord, WordAt}
 
 -- ---- The last element of a list
 

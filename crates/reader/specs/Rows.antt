@@ -15,7 +15,7 @@ use Rattle.definitions.specs.Lists.{all}
 use Rattle.definitions.specs.Text.{Bytes, valueLine}
 use Rattle.definitions.specs.Presentation.{maxGenerators, pairCount, Row, pairs, pairNumber, rowValues, isPrime}
 use Rattle.definitions.proofs.Rendering.{rowFormed}
-use Rattle.presentation.specs.declared.reader.Lines.{Lines}
+use Rattle.reader.specs.declared.Lines.{Lines}
 
 abbrev pub noRow : Row
 noRow = record { p = 2; word = [] }

@@ -15,7 +15,7 @@ use Rattle.text.specs.declared.Read.{Read}
 use Rattle.text.specs.declared.Read.the-variants.{Nothing}
 use Rattle.text.proofs.Reading.{read-known, value-unique}
 use Rattle.text.proofs.Trail.{trail-nil, trail-cons}
-use Rattle.presentation.specs.Lines.{headText, HeadLine, NoHead, HeadAt}
+use Rattle.reader.specs.Lines.{headText, HeadLine, NoHead, HeadAt}
 
 pub head-text : (j i p : ℕ) (r : Bytes) → headText j i p ++ r ≡ decimal (suc j) ++ (32 ∷ decimal (suc i) ++ (32 ∷ decimal p ++ r))
 unfolding headText

@@ -26,9 +26,9 @@ use Rattle.numbers.proofs.Blocks.{getD-blocks, getD-table}
 use Rattle.group.proofs.Pairs.{length-pairsOf, pairNumber-power, pairNumber-commutator}
 use Rattle.text.specs.Reading.{Ends, trail}
 use Rattle.text.proofs.Trail.{trail-cons, valueLine-trail, ends-trail}
-use Rattle.presentation.specs.Lines.{headText, HeadLine, NoHead, WordLine, NoWord}
-use Rattle.presentation.specs.Rows.{noRow, rowText}
-use Rattle.presentation.proofs.Heads.{head-text, head-known}
+use Rattle.reader.specs.Lines.{headText, HeadLine, NoHead, WordLine, NoWord}
+use Rattle.reader.specs.Rows.{noRow, rowText}
+use Rattle.reader.proofs.Heads.{head-text, head-known}
 
 -- ---- Pairs
 

@@ -3,10 +3,10 @@ use mathlib.Core.Path.{sym, _∙_}
 use native.Mathlib.Numerals.{add-one}
 use native.Mathlib.Omega.{arith}
 use Rattle.definitions.specs.Text.{largest}
-use Rattle.presentation.proofs.Heads.{head-none, head-other, head-none-2, head-other-2, head-some}
+use Rattle.reader.proofs.Heads.{head-none, head-other, head-none-2, head-other-2, head-some}
 use borrow.Author.Needs.{needs}
-use Rattle.presentation.proofs.reader.head.Statement.{statement}
-use Rattle.presentation.proofs.reader.head.Tie as tie
+use Rattle.reader.proofs.head.Statement.{statement}
+use Rattle.reader.proofs.head.Tie as tie
 
 value-requires : tie.Need-value-requires
 value-requires c κs = search needs
