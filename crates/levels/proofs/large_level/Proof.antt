@@ -1,8 +1,8 @@
--- `middle_level` makes arrays of 528 words.
+-- `large_level` makes arrays of 2064 words.
 use native.Mathlib.Omega.{arith}
 use borrow.Author.Needs.{needs}
-use Rattle.builder.proofs.middle_level.Statement.{statement}
-use Rattle.builder.proofs.middle_level.Tie as tie
+use Rattle.levels.proofs.large_level.Statement.{statement}
+use Rattle.levels.proofs.large_level.Tie as tie
 
 slice-aggregate-level-in : tie.Need-slice-aggregate-level-in
 slice-aggregate-level-in c = search needs
@@ -27,8 +27,8 @@ slice-aggregate-level-in-7 c = search needs
 
 level-in-requires : tie.Need-level-in-requires
 level-in-requires c κs = let z = c .before .before .before .before .before .before .before .before .before in
-    let a = z .pre .2 in
-    let b = z .pre .3 in
+    let a = z .pre .0 .stands .few in
+    let b = z .pre .0 .stands .prime .1 in
     (z .pre .0, z .pre .1, omega (arith, a), omega (arith, a), omega (arith, a), omega (arith, a), omega (arith, a), omega (arith, b), omega (arith, b))
 
 same-length : tie.Need-same-length
@@ -37,8 +37,8 @@ same-length c = search needs
 returns : tie.Need-returns
 returns c = search needs
 
-pub middle-level-spec : {M : Type 1} → statement M
-middle-level-spec =
+pub large-level-spec : {M : Type 1} → statement M
+large-level-spec =
     tie.close
     (tie.spec
     slice-aggregate-level-in

@@ -1,8 +1,8 @@
--- `tiny_level` makes arrays of 16 words.
+-- `small_level` makes arrays of 80 words.
 use native.Mathlib.Omega.{arith}
 use borrow.Author.Needs.{needs}
-use Rattle.builder.proofs.tiny_level.Statement.{statement}
-use Rattle.builder.proofs.tiny_level.Tie as tie
+use Rattle.levels.proofs.small_level.Statement.{statement}
+use Rattle.levels.proofs.small_level.Tie as tie
 
 slice-aggregate-level-in : tie.Need-slice-aggregate-level-in
 slice-aggregate-level-in c = search needs
@@ -37,8 +37,8 @@ same-length c = search needs
 returns : tie.Need-returns
 returns c = search needs
 
-pub tiny-level-spec : {M : Type 1} → statement M
-tiny-level-spec =
+pub small-level-spec : {M : Type 1} → statement M
+small-level-spec =
     tie.close
     (tie.spec
     slice-aggregate-level-in
