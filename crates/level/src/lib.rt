@@ -141,15 +141,7 @@ pub fn apply_times(words: &[u32], at: usize, d: u32, k: u32, x: Entry, m: u32) -
 }
 
 // The value of the word w on its first n generators, whose matrices of degree d stand one behind the other from line `at`.
-pub fn walk_word(
-    words: &[u32],
-    at: usize,
-    d: u32,
-    w: &Row,
-    n: usize,
-    x: Entry,
-    m: u32,
-) -> Entry
+pub fn walk_word(words: &[u32], at: usize, d: u32, w: &Row, n: usize, x: Entry, m: u32) -> Entry
     requires { ⌜ (n ≤ maxGenerators) × ((k : ℕ) → k < n → Holds m (now words) (at + k * d) d) ⌝ }
     requires { ⌜ Below m d x ⌝ }
     ensures { λ r. ⌜ (r ≡ walk m (λ (k : ℕ). matrixIn (now (words .entry)) (at + k * d) d) n (toNF n (now (w .entry))) x) × Below m d r ⌝ }
