@@ -13,10 +13,10 @@ use Rattle.numbers.proofs.Bools.{cond-lt, cond-ge}
 use Rattle.level.specs.Stored.{Below}
 use Rattle.survey.specs.Below.{targetOf, sourceIn}
 use Rattle.survey.proofs.Level.{located-stored, located-degree, located-matrix}
-use Rattle.induce.proofs.Laws.{orbit-member, plus-zero}
+use Rattle.orbits.proofs.Laws.{orbit-member, plus-zero}
 use borrow.Author.Needs.{needs}
-use Rattle.induce.proofs.cycle.Statement.{statement}
-use Rattle.induce.proofs.cycle.Tie as tie
+use Rattle.orbits.proofs.cycle.Statement.{statement}
+use Rattle.orbits.proofs.cycle.Tie as tie
 
 element-requires : tie.Need-element-requires
 element-requires c κs = let z = c .before .before .before in omega (arith, z .pre .3 .long, z .pre .4)

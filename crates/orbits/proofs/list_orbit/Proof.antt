@@ -12,8 +12,8 @@ use Rattle.survey.specs.Below.{degOf, targetOf}
 use Rattle.survey.proofs.Level.{Filled, filled-none, filled-more, located-stored, located-degree, located-target}
 use Rattle.survey.proofs.Marking.{orbit-inside}
 use borrow.Author.Needs.{needs}
-use Rattle.induce.proofs.list_orbit.Statement.{statement}
-use Rattle.induce.proofs.list_orbit.Tie as tie
+use Rattle.orbits.proofs.list_orbit.Statement.{statement}
+use Rattle.orbits.proofs.list_orbit.Tie as tie
 
 abbrev Inv-loop : tie.InvT-loop
 Inv-loop low first orbit₀ f r d q₀ p k₀ orbit q k = (k ≤ p) × (p ≡ f .p) × (q ≡ iter (targetOf f low (f .top)) k r) × (length orbit ≡ length orbit₀)

@@ -10,9 +10,9 @@ use Rattle.level.specs.Stored.{throughIn}
 use Rattle.survey.specs.Below.{targetOf, listedOf, leaderIn, positionIn}
 use Rattle.survey.proofs.Level.{located-stored, located-degree, located-target}
 use Rattle.survey.proofs.Marking.{pos-below, lead-below}
-use Rattle.induce.specs.Inducing.{rightIn}
-use Rattle.induce.proofs.right.Statement.{statement}
-use Rattle.induce.proofs.right.Tie as tie
+use Rattle.orbits.specs.Orbit.{rightIn}
+use Rattle.orbits.proofs.right.Statement.{statement}
+use Rattle.orbits.proofs.right.Tie as tie
 
 element-requires : tie.Need-element-requires
 element-requires c κs = let z = c .before .before .before .before .before .before in omega (arith, z .pre .0 .orbit-long, z .pre .3)

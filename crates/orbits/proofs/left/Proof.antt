@@ -9,9 +9,9 @@ use Rattle.definitions.specs.Monomial.{act}
 use Rattle.level.specs.Stored.{Below}
 use Rattle.survey.specs.Below.{sourceIn}
 use Rattle.survey.proofs.Level.{located-stored, located-degree, located-matrix}
-use Rattle.induce.proofs.Laws.{orbit-member}
-use Rattle.induce.proofs.left.Statement.{statement}
-use Rattle.induce.proofs.left.Tie as tie
+use Rattle.orbits.proofs.Laws.{orbit-member}
+use Rattle.orbits.proofs.left.Statement.{statement}
+use Rattle.orbits.proofs.left.Tie as tie
 
 element-requires : tie.Need-element-requires
 element-requires c κs = let z = c .before .before .before in omega (arith, z .pre .3 .long, z .pre .4)

@@ -8,9 +8,9 @@ use Rattle.survey.specs.Below.{sourceIn}
 use borrow.Author.Needs.{needs}
 use Rattle.definitions.specs.Monomial.{less}
 use Rattle.formulas.specs.Formulas.{conjugateEntry, leftAt, rightAt, blockAt, scalarAt}
-use Rattle.induce.proofs.Along.{Along, along-none, along-more, along-all, block-next, scalar-next}
-use Rattle.induce.proofs.scalars.Statement.{statement}
-use Rattle.induce.proofs.scalars.Tie as tie
+use Rattle.orbits.proofs.Along.{Along, along-none, along-more, along-all, block-next, scalar-next}
+use Rattle.orbits.proofs.scalars.Statement.{statement}
+use Rattle.orbits.proofs.scalars.Tie as tie
 
 abbrev Inv-loop : tie.InvT-loop
 Inv-loop low first rows leaders places shifts orbit c₀ f j r s₀ p k₀ c s k = (k ≤ p) × (p ≡ f .p) × (k < f .p → s .block ≡ blockAt (sourceIn f low rows) j r k) × (k < f .p → s .exp ≡ scalarAt (sourceIn f low rows) j r k) × (s .block < f .p) × (s .exp < f .m) × (length c ≡ length c₀) × Along f low rows j r c k

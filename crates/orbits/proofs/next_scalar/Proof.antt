@@ -8,10 +8,10 @@ use denote.Ref.{now}
 use Rattle.definitions.specs.Presentation.{pairNumber}
 use Rattle.definitions.specs.Monomial.{less}
 use Rattle.formulas.specs.Formulas as Fm
-use Rattle.induce.proofs.Laws.{shifts-below, righting, right-is, left-is}
+use Rattle.orbits.proofs.Laws.{shifts-below, righting, right-is, left-is}
 use borrow.Author.Needs.{needs}
-use Rattle.induce.proofs.next_scalar.Statement.{statement}
-use Rattle.induce.proofs.next_scalar.Tie as tie
+use Rattle.orbits.proofs.next_scalar.Statement.{statement}
+use Rattle.orbits.proofs.next_scalar.Tie as tie
 
 up-requires : tie.Need-up-requires
 up-requires c κs = search needs

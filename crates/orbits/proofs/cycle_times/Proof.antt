@@ -12,10 +12,10 @@ use Rattle.numbers.proofs.Lists.{iter-zero}
 use Rattle.level.proofs.Laws.{iter-next}
 use Rattle.formulas.specs.Formulas.{shift, cycleEntry}
 use Rattle.formulas.specs.Formulas as Fm
-use Rattle.induce.specs.Inducing.{Held, Cycled}
-use Rattle.induce.proofs.Laws.{cycled-held}
-use Rattle.induce.proofs.cycle_times.Statement.{statement}
-use Rattle.induce.proofs.cycle_times.Tie as tie
+use Rattle.orbits.specs.Orbit.{Held, Cycled}
+use Rattle.orbits.proofs.Laws.{cycled-held}
+use Rattle.orbits.proofs.cycle_times.Statement.{statement}
+use Rattle.orbits.proofs.cycle_times.Tie as tie
 
 abbrev Inv-loop : tie.InvT-loop
 Inv-loop low first orbit f c r k t₀ i₀ t i = (i ≤ k) × ((rows : List (List ℕ)) → shift (sourceIn f low rows) r ≡ c → Held f low r (iter (cycleEntry (sourceIn f low rows) r) i (record { block = t₀ .block; at = t₀ .x })) t) × (t .block < f .p) × Below (f .m) (degOf f low r) (t .x)

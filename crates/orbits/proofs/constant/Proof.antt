@@ -6,8 +6,8 @@ use lib.ListN.{getD}
 use denote.Ref.{now}
 use Rattle.numbers.proofs.Bools.{cond-lt, cond-ge}
 use borrow.Author.Needs.{needs}
-use Rattle.induce.proofs.constant.Statement.{statement}
-use Rattle.induce.proofs.constant.Tie as tie
+use Rattle.orbits.proofs.constant.Statement.{statement}
+use Rattle.orbits.proofs.constant.Tie as tie
 
 element-requires : tie.Need-element-requires
 element-requires c κs = search needs

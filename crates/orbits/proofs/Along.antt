@@ -19,7 +19,7 @@ use Rattle.numbers.proofs.Searches.{least-is}
 use Rattle.formulas.specs.Formulas.{Source, conjugateEntry, leftAt, rightAt, blockAt, scalarAt, scalar}
 use Rattle.survey.specs.declared.Frame.{Frame}
 use Rattle.survey.specs.Below.{sourceIn}
-use Rattle.induce.specs.Inducing.{Cycles, BlockScalars}
+use Rattle.orbits.specs.Orbit.{Cycles, BlockScalars}
 
 module _ (f : Frame) (W : List ℕ) (rows : List (List ℕ)) (j r : ℕ) where
   abbrev S : Source

@@ -12,12 +12,12 @@ use Rattle.formulas.specs.Formulas.{walk}
 use Rattle.level.specs.Stored.{Below, generatorIn}
 use Rattle.survey.specs.Below.{listedOf, sourceIn}
 use Rattle.survey.proofs.Level.{located-stored, located-degree, located-column}
-use Rattle.induce.specs.Inducing.{Held}
-use Rattle.induce.proofs.Laws.{orbit-member, conjugate-starts}
+use Rattle.orbits.specs.Orbit.{Held}
+use Rattle.orbits.proofs.Laws.{orbit-member, conjugate-starts}
 use Rattle.formulas.specs.Formulas as Fm
 use borrow.Author.Needs.{needs}
-use Rattle.induce.proofs.conjugate.Statement.{statement}
-use Rattle.induce.proofs.conjugate.Tie as tie
+use Rattle.orbits.proofs.conjugate.Statement.{statement}
+use Rattle.orbits.proofs.conjugate.Tie as tie
 
 element-requires : tie.Need-element-requires
 element-requires c κs = let z = c .before .before .before in omega (arith, z .pre .3 .long, z .pre .4)

@@ -25,8 +25,8 @@ use Rattle.level.proofs.Laws.{iter-next}
 use Rattle.survey.specs.declared.Frame.{Frame}
 use Rattle.survey.specs.Below.{degOf, targetOf, sourceIn, leaderIn, positionIn, Stands}
 use Rattle.survey.proofs.Marking.{orbit-inside, lead-below, lead-lead}
-use Rattle.induce.specs.declared.Moved.{Moved}
-use Rattle.induce.specs.Inducing.{OrbitArray, Inducing, Held, Cycled, Righting, rightIn}
+use Rattle.orbits.specs.declared.Moved.{Moved}
+use Rattle.orbits.specs.Orbit.{OrbitArray, Inducing, Held, Cycled, Righting, rightIn}
 
 pub orbit-degree : (f : Frame) (W : List ℕ) → Stands f W → (r k : ℕ) → r < f .reps → degOf f W (iter (targetOf f W (f .top)) k r) ≡ degOf f W r
 orbit-degree f W S r zero l = ap (degOf f W) (iter-zero _ r)
