@@ -27,7 +27,7 @@ use Rattle.closed.proofs.Table.{rungs, twins}
 use Rattle.rows.specs.Rows.{Reads}
 use Rattle.level.specs.Stored.{matrixIn}
 use Rattle.survey.specs.declared.Frame.{Frame}
-use Rattle.induce.specs.Inducing.{Cycling}
+use Rattle.orbits.specs.Orbit.{Cycling}
 use Rattle.survey.specs.Below.{sourceIn, degOf, matrixOf, targetOf, leaderIn, Fixing}
 use Rattle.assembly.specs.Built.{upTo, frameAt, Placed}
 use Rattle.assembly.proofs.Words.{reads, target-of}

@@ -2,6 +2,7 @@
 pub mod Places
 pub mod Room
 pub mod Words
+pub mod Distinct
 pub mod Standing
 pub mod Next
 pub mod Cycles

@@ -11,6 +11,7 @@ use Prim.Native.Nat.{ℕ, zero, suc, _+_, _*_, _-_, _≤_, _<_}
 use native.Mathlib.Nat.{mul-le-mul-left, mul-le-mul-right}
 use native.Mathlib.Omega.{arith}
 use lib.ListN.{length}
+use Rattle.definitions.specs.declared.Entry.{Entry}
 use Rattle.definitions.specs.Lists.{iter}
 use Rattle.definitions.specs.Presentation.{maxOrder, Presentation, order}
 use Rattle.definitions.specs.Monomial.{Level, repOf}
@@ -29,6 +30,7 @@ use Rattle.survey.specs.Below.{Stands, firstOf, degOf, matrixOf, targetOf}
 use Rattle.assembly.specs.Built.{upTo, linesTo, degreeIn, frameAt, Small, Placed}
 use Rattle.assembly.proofs.Places.{upTo-length, startOf, start-suc, start-end}
 use Rattle.assembly.proofs.Room.{order-le, prime-le, whole, degree-pos, degree-le, reps-le, lines-small}
+use Rattle.assembly.proofs.Distinct.{rows-distinct}
 use Rattle.assembly.proofs.Words.{first-of, deg-of, line-of, target-of, entry-of, column-below}
 
 -- iterates of maps that agree below N
@@ -94,6 +96,12 @@ module _ (A : Accepted) (k : ℕ) where
       valid = λ c b.
           let e : c < d r = subst (λ x. c < x) (deg-of A k l r h) b in
           subst (λ x. Below m x (entryIn W (matrixOf f W g r + c))) (sym (deg-of A k l r h)) (subst (Below m (d r)) (sym (entry-of A k l g r c h a e)) (column-below A k l r g c h a e));
+      distinct = λ c c′ b b′ e.
+          let lower : c < d r = subst (λ x. c < x) (deg-of A k l r h) b in
+          let upper : c′ < d r = subst (λ x. c′ < x) (deg-of A k l r h) b′ in
+          let row = ap (λ (y : Entry). y .row) (entry-of A k l g r c h a lower) in
+          let row′ = ap (λ (y : Entry). y .row) (entry-of A k l g r c′ h a upper) in
+          rows-distinct A k l r g h a c c′ lower upper (sym row ∙ e ∙ row′);
     }
       where
         lines : 8 * (startOf A k r + (g * d r + d r)) ≤ 8 * linesTo A (suc k)

@@ -6,7 +6,7 @@ use mathlib.Core.List.{List}
 use Prim.Native.Nat.{ℕ}
 use Rattle.survey.specs.declared.Frame.{Frame}
 use Rattle.survey.specs.Below.{Stands, Rows, Fixing}
-use Rattle.induce.specs.Inducing.{Cycling}
+use Rattle.orbits.specs.Orbit.{Cycling}
 
 pub record Sound (f : Frame) (W : List ℕ) (rows : List (List ℕ)) : Type 0 where
   pub stands : Stands f W

@@ -20,7 +20,8 @@ use Rattle.numbers.proofs.Blocks.{blocks-below}
 use Rattle.formulas.specs.Formulas.{Source, start, shift, leader, blockTo, blockBy, scalar, scalarAt}
 use Rattle.survey.specs.declared.Frame.{Frame}
 use Rattle.survey.specs.Below.{targetOf, sourceIn}
-use Rattle.induce.specs.Inducing.{Inducing, BlockScalars, factorIn, referenceIn, partsIn, generatorWords}
+use Rattle.orbits.specs.Orbit.{Inducing, BlockScalars}
+use Rattle.induce.specs.Inducing.{factorIn, referenceIn, partsIn, generatorWords}
 use Rattle.induce.proofs.Parts.{part-is, generator-words}
 
 module _ (f : Frame) (W : List ℕ) (rows : List (List ℕ)) (first leaders places shifts orbit : List ℕ) (r : ℕ) (I : Inducing f W rows first leaders places shifts orbit r) where

@@ -29,7 +29,7 @@ use Rattle.survey.specs.declared.Frame.{Frame}
 use Rattle.survey.specs.Below.{degOf, targetOf, matrixOf, sourceIn, Stands}
 use Rattle.induce.specs.Inducing.{partWords, partsIn, staysIn, blockWords, generatorWords}
 use Rattle.induce.proofs.Cases.{to-low, by-low, reference-low}
-use Rattle.induce.proofs.Laws.{orbit-degree}
+use Rattle.orbits.proofs.Laws.{orbit-degree}
 
 pub part-lines : (f : Frame) (W : List ℕ) (h : Head) (rep r g b t c x co ro d src : ℕ)
     → h .level ≡ suc (f .top) → h .rep ≡ rep → h .deg ≡ f .p * degOf f W r → h .generator ≡ suc g → h .refn ≡ x

@@ -1,2 +1,3 @@
--- What stands in lines.
+-- What stands in lines, and the order of lines.
 pub mod Stored
+pub mod Order

@@ -6,7 +6,7 @@
 --   shows-map, shows-on                                 one matrix shows equal maps
 --   shown-unique                                        a map is shown by one matrix
 --   same-shown, shown-same                              equal maps exactly where the matrices pass as equal
---   shows-valid                                         what shows a map with an inverse is valid
+--   shows-distinct, shows-valid                         what shows a map with an inverse has different rows, and is valid
 use mathlib.Core.Path.{_≡_, refl, sym, _∙_, ap, subst}
 use mathlib.Core.Bool.{true, _&&_}
 use mathlib.Core.List.{map}
@@ -199,6 +199,14 @@ module _ (m : ℕ) (pos : 0 < m) {Ω : Type 0} (Φ : Frame Ω) where
               let (a′, e₁, e₂, e₃) = shown-at h p k l in
               let same : (A a′) .0 ≡ b = known ((A a′) .0) b (p .maps-to a′ e₁ ∙ sym q) (ap (λ (x : Entry). x .row) (sym e₃) ∙ eqb-true _ _ x) in
               sym e₂ ∙ ap at (inverse-injective (residues m pos) A W a′ a (same ∙ sym (there b .0))))
+
+      pub shows-distinct : (k l : ℕ) → k < Φ .degree r → l < Φ .degree r → col M k .row ≡ col M l .row → k ≡ l
+      shows-distinct k l b c e =
+          let (a, e₁, e₂, e₃) = shown-at h p k (subst (λ s. k < s) (sym (p .size)) b) in
+          let (a′, f₁, f₂, f₃) = shown-at h p l (subst (λ s. l < s) (sym (p .size)) c) in
+          let rows : at ((A a) .0) ≡ at ((A a′) .0) = ap (λ (x : Entry). x .row) (sym e₃) ∙ e ∙ ap (λ (x : Entry). x .row) f₃ in
+          let same : (A a) .0 ≡ (A a′) .0 = known ((A a) .0) ((A a′) .0) (p .maps-to a e₁ ∙ sym (p .maps-to a′ f₁)) rows in
+          sym e₂ ∙ ap at (inverse-injective (residues m pos) A W a a′ same) ∙ f₂
 
       pub shows-valid : s < N → Φ .degree s ≡ Φ .degree r → ((b : Ω) → Φ .rep b ≡ s → Φ .rep ((W .to b) .0) ≡ r) → valid m (Φ .degree r) M ≡ true
       unfolding valid

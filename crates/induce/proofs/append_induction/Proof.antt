@@ -13,7 +13,8 @@ use Rattle.definitions.specs.Lists.{blocks}
 use Rattle.definitions.specs.Table.{repWords}
 use Rattle.formulas.specs.Formulas.{inductionAt}
 use Rattle.lines.proofs.Appending.{Going, going-none, going-more, going-room}
-use Rattle.induce.specs.Inducing.{Inducing, generatorWords}
+use Rattle.orbits.specs.Orbit.{Inducing}
+use Rattle.induce.specs.Inducing.{generatorWords}
 use Rattle.induce.proofs.Parts.{generator-length, induction-length, induction-words}
 use Rattle.induce.proofs.append_induction.Statement.{statement}
 use Rattle.induce.proofs.append_induction.Tie as tie

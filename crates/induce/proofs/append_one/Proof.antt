@@ -10,7 +10,7 @@ use Rattle.survey.proofs.Marking.{lead-below}
 use lib.ListN.{take}
 use lib.Seq.{length-take-le}
 use Rattle.text.proofs.Writing.{wrote-as}
-use Rattle.induce.proofs.Laws.{shifts-below}
+use Rattle.orbits.proofs.Laws.{shifts-below}
 use Rattle.induce.proofs.Generators.{parts-are, scalars-small}
 use borrow.Author.Needs.{needs}
 use Rattle.induce.proofs.append_one.Statement.{statement}

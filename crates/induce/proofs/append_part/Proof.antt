@@ -11,7 +11,7 @@ use Rattle.level.specs.declared.Listed.{Listed}
 use Rattle.level.specs.Stored.{Holds, lineIn}
 use Rattle.survey.specs.Below.{degOf, listedOf, Located}
 use Rattle.survey.proofs.Level.{located-stored, located-line}
-use Rattle.induce.proofs.Laws.{orbit-member}
+use Rattle.orbits.proofs.Laws.{orbit-member}
 use Rattle.induce.proofs.Cases.{block-fits}
 use Rattle.induce.proofs.Parts.{part-lines}
 use borrow.Author.Needs.{needs}

@@ -7,7 +7,7 @@ use denote.Ref.{now}
 use Rattle.survey.specs.Below.{targetOf, positionIn}
 use Rattle.survey.proofs.Level.{located-stored, located-target}
 use Rattle.survey.proofs.Marking.{pos-below}
-use Rattle.induce.proofs.Laws.{orbit-member}
+use Rattle.orbits.proofs.Laws.{orbit-member}
 use Rattle.induce.proofs.Cases.{to-low, to-next, to-last, to-above}
 use borrow.Author.Needs.{needs}
 use Rattle.induce.proofs.block_to.Statement.{statement}

@@ -1,0 +1,3 @@
+-- Laws of orbits and blocks.
+pub mod Laws
+pub mod Along

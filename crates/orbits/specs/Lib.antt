@@ -1,0 +1,2 @@
+-- What the blocks of an orbit are known by.
+pub mod Orbit
