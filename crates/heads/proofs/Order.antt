@@ -2,6 +2,7 @@
 --
 --   split-one             the lines before a representation end at one place
 --   complete-split        and that is its first line
+--   complete-some         every level has representations
 --   complete-room         its lines stand within the table
 --   complete-word         the first of them says its degree
 --   complete-next         and the next representation begins behind them
@@ -184,6 +185,9 @@ module _ (n : ℕ) (positive : 0 < n) (T : List ℕ) (H : Headed n T) where
 module _ (n : ℕ) (positive : 0 < n) (T : List ℕ) (C : complete n T ≡ true) where
   abbrev H : Headed n T
   H = complete-headed n positive T C
+
+  pub complete-some : (k : ℕ) → k < n → 0 < length (levelAt n T (suc k))
+  complete-some k l = subst (λ z. 0 < z) (sym (headed-count n positive T H k l)) (H .some k l)
 
   module _ (k r : ℕ) (k-below : k < n) (r-below : r < length (levelAt n T (suc k))) where
     listed : r < H .count k

@@ -3,6 +3,7 @@
 --   Injects a b f       f takes numbers below a to different numbers below b
 --   injects-le          then a is at most b
 --   injects-onto        and if a is b, every number below b is hit
+--   onto-injects        a map of the numbers below a that hits every one of them takes no two to one
 use mathlib.Core.Path.{_≡_, sym, _∙_, ap, subst}
 use Prim.Native.Nat.{ℕ, zero, suc, _≤_, _<_}
 use native.Mathlib.Omega.{arith}
@@ -75,3 +76,29 @@ injects-onto a f F b l = go (hit f b a)
         injective j k s t (yes p) (no q) e = absurd (h (k, omega arith, sym (cond-ne k a _ _ q) ∙ sym e ∙ cond-eq j a _ _ p))
         injective j k s t (no p) (yes q) e = absurd (h (j, omega arith, sym (cond-ne j a _ _ p) ∙ e ∙ cond-eq k a _ _ q))
         injective j k s t (no p) (no q) e = F .injective j k (omega arith) (omega arith) (sym (cond-ne j a _ _ p) ∙ e ∙ cond-ne k a _ _ q)
+
+pub onto-injects : (a : ℕ) (f : ℕ → ℕ) → ((b : ℕ) → b < a → (k : ℕ) × (k < a) × (f k ≡ b)) → (j k : ℕ) → j < a → k < a → f j ≡ f k → j ≡ k
+onto-injects a f onto j k s t e = hits (injects-onto a back injects j s) (injects-onto a back injects k t)
+  where
+    -- some number that goes to b
+    pick : (b : ℕ) → Dec (b < a) → ℕ
+    pick b (yes l) = onto b l .0
+    pick b (no l) = b
+
+    back : ℕ → ℕ
+    back b = pick b (decLt b a)
+
+    picked : (b : ℕ) (d : Dec (b < a)) → b < a → (pick b d < a) × (f (pick b d) ≡ b)
+    picked b (yes l) h = (onto b l .1, onto b l .2)
+    picked b (no l) h = absurd (l h)
+
+    injects : Injects a a back
+    injects = record {
+      below = λ b l. picked b (decLt b a) l .0;
+      injective = λ b c l m q. sym (picked b (decLt b a) l .1) ∙ ap f q ∙ picked c (decLt c a) m .1;
+    }
+
+    hits : (b : ℕ) × (b < a) × (back b ≡ j) → (c : ℕ) × (c < a) × (back c ≡ k) → j ≡ k
+    hits (b, l, p) (c, m, q) =
+        let x : b ≡ c = sym (picked b (decLt b a) l .1) ∙ ap f p ∙ e ∙ ap f (sym q) ∙ picked c (decLt c a) m .1 in
+        sym p ∙ ap back x ∙ q

@@ -1,0 +1,4 @@
+-- Laws of finding representations.
+pub mod Halves
+pub mod Seek
+pub mod Stored

@@ -1,0 +1,101 @@
+-- What refusal 21 leaves of a representation that is found: its lines hold matrices, and its references are listed.
+--
+--   valid-holds       lines of a valid matrix hold it
+--   found-stored      so the lines of a representation are stored, where 21 does not apply
+use mathlib.Core.Path.{_≡_, sym, _∙_, ap, subst}
+use mathlib.Core.Bool.{Bool, true, false, _&&_}
+use mathlib.Core.List.{List}
+use Prim.Native.Nat.{ℕ, zero, suc, _+_, _*_, _%_, _≤_, _<_}
+use native.Mathlib.Nat.{mul-le-mul-right}
+use native.Mathlib.Omega.{arith}
+use lib.Dec.{eqb, ltb, leb}
+use lib.ListN.{length}
+use borrow.Author.Tests.{eqb-true, ltb-true, not-false}
+use Rattle.definitions.specs.declared.Entry.{Entry}
+use Rattle.definitions.specs.Lists.{allBelow, anyBelow}
+use Rattle.definitions.specs.Presentation.{Presentation, lineWords, order}
+use Rattle.definitions.specs.Monomial.{col, valid, Rep, repOf}
+use Rattle.definitions.specs.Table.{repAt, levelAt, complete}
+use Rattle.definitions.specs.Judgement.{matricesValid, blocksWhole, targetsListed, malformed}
+use Rattle.numbers.proofs.Bools.{and-left, and-right}
+use Rattle.numbers.proofs.Lists.{allBelow-elim}
+use Rattle.numbers.proofs.Searches.{anyBelow-elim}
+use Rattle.numbers.proofs.Pigeonhole.{onto-injects}
+use Rattle.monomial.proofs.Frames.{col-table}
+use Rattle.clifford.proofs.Everywhere.{everywhere-elim}
+use Rattle.level.specs.declared.Listed.{Listed}
+use Rattle.level.specs.Stored.{entryIn, matrixIn, Below, Holds, Stored}
+use Rattle.seek.specs.Seek.{Found}
+use Rattle.seek.proofs.Halves.{lines-there}
+
+-- ---- A matrix
+
+module _ (m : ℕ) (small : m ≤ 2147483648) (T : List ℕ) (at d : ℕ) where
+  column : (c : ℕ) → c < d → col (matrixIn T at d) c ≡ entryIn T (at + c)
+  column c l = col-table (λ c. entryIn T (at + c)) d c l
+
+  abbrev ranges : Bool
+  ranges = allBelow d (λ k. ltb (col (matrixIn T at d) k .row) d && ltb (col (matrixIn T at d) k .exp) m)
+
+  abbrev onto : Bool
+  onto = allBelow d (λ r. anyBelow d (λ k. eqb (col (matrixIn T at d) k .row) r))
+
+  pub valid-holds : 8 * (at + d) ≤ length T → valid m d (matrixIn T at d) ≡ true → Holds m T at d
+  unfolding valid
+  valid-holds fits v =
+      let h = and-left (eqb (length (matrixIn T at d)) d && ranges) onto v in
+      let r = allBelow-elim d _ (and-right (eqb (length (matrixIn T at d)) d) ranges h) in
+      let o = allBelow-elim d _ (and-right (eqb (length (matrixIn T at d)) d && ranges) onto v) in
+      let M = matrixIn T at d in
+      record {
+        small = small;
+        fits = fits;
+        valid = λ k l. subst (Below m d) (column k l) (record {
+          row = ltb-true (col M k .row) d (and-left (ltb (col M k .row) d) (ltb (col M k .exp) m) (r k l));
+          exp = ltb-true (col M k .exp) m (and-right (ltb (col M k .row) d) (ltb (col M k .exp) m) (r k l));
+        });
+        distinct = λ k l a b e. onto-injects d (λ k. col (matrixIn T at d) k .row) (hit o) k l a b (row k a ∙ e ∙ sym (row l b));
+      }
+    where
+      row : (k : ℕ) → k < d → col (matrixIn T at d) k .row ≡ entryIn T (at + k) .row
+      row k l = ap (λ (x : Entry). x .row) (column k l)
+
+      hit : ((b : ℕ) → b < d → anyBelow d (λ k. eqb (col (matrixIn T at d) k .row) b) ≡ true) → (b : ℕ) → b < d → (k : ℕ) × (k < d) × (col (matrixIn T at d) k .row ≡ b)
+      hit o b l = let (k, a, e) = anyBelow-elim d (λ k. eqb (col (matrixIn T at d) k .row) b) (o b l) in (k, a, eqb-true _ b e)
+
+-- ---- A representation
+
+module _ (P : Presentation) (m : ℕ) (T : List ℕ) (formed : malformed P m T ≡ false) where
+  wellFormed : (i : ℕ) → i < P .n → (r : ℕ) → r < length (levelAt (P .n) T (suc i))
+      → matricesValid P m T (suc i) (repOf (levelAt (P .n) T (suc i)) r) && blocksWhole P m T (suc i) (repOf (levelAt (P .n) T (suc i)) r)
+      && targetsListed P m T (suc i) (repOf (levelAt (P .n) T (suc i)) r) ≡ true
+  unfolding malformed
+  wellFormed =
+      everywhere-elim P m T (λ i D. matricesValid P m T i D && blocksWhole P m T i D && targetsListed P m T i D)
+      (and-right (eqb (length T % lineWords) 0 && complete (P .n) T) _ (not-false _ formed))
+
+  matrices-valid : (i : ℕ) → i < P .n → (r : ℕ) → r < length (levelAt (P .n) T (suc i)) → (g : ℕ) → g < P .n
+      → valid m (repOf (levelAt (P .n) T (suc i)) r .deg) (repOf (levelAt (P .n) T (suc i)) r .matrix g) ≡ true
+  unfolding matricesValid
+  matrices-valid i l r h =
+      let R : Rep = repOf (levelAt (P .n) T (suc i)) r in
+      let degree : Bool = ltb 0 (R .deg) && leb (R .deg * R .deg) (order P (suc i)) in
+      let each : Bool = allBelow (P .n) (λ g. valid m (R .deg) (R .matrix g)) in
+      let v = and-left (degree && each) (blocksWhole P m T (suc i) R) (and-left _ (targetsListed P m T (suc i) R) (wellFormed i l r h)) in
+      allBelow-elim (P .n) (λ g. valid m (R .deg) (R .matrix g)) (and-right degree each v)
+
+  pub found-stored : m ≤ 2147483648 → (i r : ℕ) (D : Listed) → Found (P .n) T i r D → Stored m (P .n) T D
+  found-stored small zero r D F = absurd (omega (arith, F .level .0))
+  found-stored small (suc i) r D F = record {
+    positive = F .positive;
+    degree = F .said;
+    holds = λ g l. valid-holds m small T (D .line + g * D .deg) (D .deg) (room g l) (matrix g l);
+  }
+    where
+      room : (g : ℕ) → g < P .n → 8 * (D .line + g * D .deg + D .deg) ≤ length T
+      room g l =
+          let e : suc g * D .deg ≤ P .n * D .deg = mul-le-mul-right (D .deg) l in
+          lines-there T (D .line + g * D .deg + D .deg) (omega (arith, F .inside, e))
+
+      matrix : (g : ℕ) → g < P .n → valid m (D .deg) (matrixIn T (D .line + g * D .deg) (D .deg)) ≡ true
+      matrix g l = unfold repAt in (subst (λ (X : Rep). valid m (X .deg) (X .matrix g) ≡ true) (F .rep) (matrices-valid i (F .level .1) r (F .listed) g l))

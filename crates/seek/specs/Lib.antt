@@ -1,0 +1,2 @@
+-- Representations that are found in a whole table.
+pub mod Seek

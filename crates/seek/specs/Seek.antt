@@ -1,0 +1,37 @@
+-- What is known of a whole table, and of a representation that is found in it.
+--
+--   Whole s T            the lines of T are those of a complete table with so many generators
+--   Found n T i r D      D is representation r of level i
+--   Follows n T D        and another stands behind it on its level
+use mathlib.Core.Path.{_≡_}
+use mathlib.Core.Bool.{true}
+use mathlib.Core.List.{List}
+use Prim.Native.Nat.{ℕ, suc, _+_, _*_, _≤_, _<_}
+use lib.ListN.{length}
+use Rattle.definitions.specs.Presentation.{maxGenerators}
+use Rattle.definitions.specs.Monomial.{repOf}
+use Rattle.definitions.specs.Table.{DEG, wordAt, lineCount, repAt, levelAt, complete, firstLine}
+use Rattle.level.specs.declared.Listed.{Listed}
+use Rattle.seek.specs.declared.Scope.{Scope}
+
+pub record Whole (s : Scope) (T : List ℕ) : Type 0 where
+  pub lines-are : s .lines ≡ lineCount T
+  pub some : 0 < s .gens
+  pub few : s .gens ≤ maxGenerators
+  pub all : complete (s .gens) T ≡ true
+
+pub record Found (n : ℕ) (T : List ℕ) (i r : ℕ) (D : Listed) : Type 0 where
+  pub level : (0 < i) × (i ≤ n)
+  pub listed : r < length (levelAt n T i)
+  pub line : D .line ≡ firstLine n T i r
+  pub said : wordAt T (D .line) DEG ≡ D .deg
+  pub deg : D .deg ≡ repOf (levelAt n T i) r .deg
+  pub rep : repOf (levelAt n T i) r ≡ repAt T (D .line) (D .deg)
+  pub positive : 0 < D .deg
+  pub inside : D .line + n * D .deg ≤ lineCount T
+
+pub record Follows (n : ℕ) (T : List ℕ) (D : Listed) : Type 0 where
+  pub i : ℕ
+  pub r : ℕ
+  pub here : Found n T i r D
+  pub more : suc r < length (levelAt n T i)
