@@ -1,2 +1,3 @@
 -- Representations that are found in a whole table.
 pub mod Seek
+pub mod Formed
