@@ -15,9 +15,6 @@ use chieftables::counted::Counted;
 ghost use Prim.Native.Nat.{_<_, _≤_};
 ghost use lib.ListN.{length};
 
-mod parts; // parts.rt: the parts of a case
-mod sums; // sums.rt: sums over buffers
-
 // Bytes of the standard input, at most.
 const INPUT: usize = 524288;
 
@@ -96,17 +93,17 @@ fn report_same(same: bool) {
 
 // The calls, with the first words or bytes of a buffer lent.
 fn build_first(text: &[u8], words: &mut [u32], have: u32) -> Counted {
-    let n = parts::words_lent(have, words);
+    let n = case_input::words_lent(have, words);
     chieftables::build::build(text, &mut words[..n])
 }
 
 fn read_first(text: &[u8], words: &mut [u32], have: u32) -> Counted {
-    let n = parts::words_lent(have, words);
+    let n = case_input::words_lent(have, words);
     chieftables::read_table::read_table(text, &mut words[..n])
 }
 
 fn write_first(words: &[u32], out: &mut [u8], room: u32) -> Counted {
-    let n = parts::bytes_lent(room, out);
+    let n = case_input::bytes_lent(room, out);
     chieftables::write_table::write_table(words, &mut out[..n])
 }
 
@@ -115,7 +112,7 @@ fn write(words: &[u32], room: u32, text: &[u8]) -> bool {
     let mut out = [7u8; 4096];
     let a = write_first(words, &mut out, room);
     let count = a.count;
-    report(a.answer, count, sums::mix_bytes(&out));
+    report(a.answer, count, case_input::mix_bytes(&out));
     is_text(&out, count, text)
 }
 
@@ -133,7 +130,7 @@ fn accept_case(text: &[u8]) {
 fn build_case(text: &[u8], have: u32) {
     let mut words = [7u32; BUILD];
     let a = build_first(text, &mut words, have);
-    report(a.answer, a.count, sums::mix_words(&words));
+    report(a.answer, a.count, case_input::mix_words(&words));
 }
 
 fn read_case(text: &[u8], have: u32, room: u32) {
@@ -141,7 +138,7 @@ fn read_case(text: &[u8], have: u32, room: u32) {
     let a = read_first(text, &mut words, have);
     let answer = a.answer;
     let count = a.count;
-    report(answer, count, sums::mix_words(&words));
+    report(answer, count, case_input::mix_words(&words));
     if answer == 0 {
         write_back(&words, count, room, text);
     }
@@ -150,7 +147,7 @@ fn read_case(text: &[u8], have: u32, room: u32) {
 fn write_case(text: &[u8], have: u32, room: u32) {
     let mut words = [0u32; 512];
     parse(text, &mut words);
-    let n = parts::words_lent(have, &words);
+    let n = case_input::words_lent(have, &words);
     write(&words[..n], room, text);
 }
 
@@ -180,7 +177,7 @@ fn answer_at(input: &[u8], at: usize) -> usize
     requires { ⌜ at < length (now input) ⌝ }
     ensures { λ r. ⌜ (at < r) × (r ≤ length (now (input .entry))) ⌝ }
 {
-    let c = parts::case_at(input, at);
+    let c = case_input::case_at(input, at);
     let text = c.text;
     let end = c.end;
     answer(&input[at..text], &input[text..end]);

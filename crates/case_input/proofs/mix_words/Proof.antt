@@ -4,10 +4,10 @@ use Prim.Native.Nat.{_-_, _≤_}
 use native.Mathlib.Omega.{arith}
 use lib.ListN.{length}
 use borrow.Author.Needs.{needs}
-use Rattle.cases.specs.Mixed.{mixedTo}
-use Rattle.cases.proofs.Mixed.{mixed-none, mixed-more}
-use Rattle.cases.proofs.sums.mix_words.Statement.{statement}
-use Rattle.cases.proofs.sums.mix_words.Tie as tie
+use Rattle.case_input.specs.Mixed.{mixedTo}
+use Rattle.case_input.proofs.Mixed.{mixed-none, mixed-more}
+use Rattle.case_input.proofs.mix_words.Statement.{statement}
+use Rattle.case_input.proofs.mix_words.Tie as tie
 
 abbrev Inv-loop : tie.InvT-loop
 Inv-loop words sum₀ i₀ sum i = (sum ≡ mixedTo words i) × (i ≤ length words)

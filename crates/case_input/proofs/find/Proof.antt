@@ -2,8 +2,8 @@
 use Prim.Native.Nat.{_-_, _≤_}
 use lib.ListN.{length}
 use borrow.Author.Needs.{needs}
-use Rattle.cases.proofs.parts.find.Statement.{statement}
-use Rattle.cases.proofs.parts.find.Tie as tie
+use Rattle.case_input.proofs.find.Statement.{statement}
+use Rattle.case_input.proofs.find.Tie as tie
 
 abbrev Inv-loop : tie.InvT-loop
 Inv-loop s start byte at₀ at = (start ≤ at) × (at ≤ length s)

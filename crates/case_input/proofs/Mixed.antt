@@ -6,7 +6,7 @@ use mathlib.Core.List.{List}
 use Prim.Native.Nat.{ℕ, suc, _+_}
 use native.Mathlib.Numerals.{add-one}
 use lib.ListN.{getD}
-use Rattle.cases.specs.Mixed.{mixed, mixedTo}
+use Rattle.case_input.specs.Mixed.{mixed, mixedTo}
 
 pub mixed-none : (ws : List ℕ) → mixedTo ws 0 ≡ 0
 unfolding mixedTo
