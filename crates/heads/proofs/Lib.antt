@@ -6,3 +6,4 @@ pub mod Walk
 pub mod Going
 pub mod Form
 pub mod Order
+pub mod Cutting
