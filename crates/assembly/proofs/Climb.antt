@@ -12,7 +12,7 @@ use native.Mathlib.Omega.{arith}
 use lib.ListN.{length, length-append}
 use Rattle.definitions.specs.Lists.{blocks, sum}
 use Rattle.definitions.specs.Presentation.{Presentation, order, buildWords}
-use Rattle.definitions.specs.Monomial.{Level, repOf}
+use Rattle.definitions.specs.Monomial.{repOf}
 use Rattle.definitions.specs.Table.{levelWords, levelZero}
 use Rattle.definitions.specs.Steps
 use Rattle.definitions.specs.Steps.{levels}
