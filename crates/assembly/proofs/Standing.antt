@@ -17,7 +17,6 @@ use Rattle.definitions.specs.Presentation.{maxOrder, Presentation, order}
 use Rattle.definitions.specs.Monomial.{Level, repOf}
 use Rattle.definitions.specs.Steps.{levels}
 use Rattle.numbers.proofs.Lists.{iter-zero, iter-suc}
-use Rattle.numbers.proofs.Orbits.{Orbits}
 use Rattle.group.proofs.Order.{order-positive}
 use Rattle.clifford.specs.Accepted.{Accepted}
 use Rattle.clifford.proofs.Standing.{Standing, standing, setting, rung}
@@ -29,7 +28,7 @@ use Rattle.survey.specs.declared.Frame.{Frame}
 use Rattle.survey.specs.Below.{Stands, firstOf, degOf, matrixOf, targetOf}
 use Rattle.assembly.specs.Built.{upTo, linesTo, degreeIn, frameAt, Small, Placed}
 use Rattle.assembly.proofs.Places.{upTo-length, startOf, start-suc, start-end}
-use Rattle.assembly.proofs.Room.{order-le, prime-le, whole, degree-pos, degree-le, reps-le, lines-small}
+use Rattle.assembly.proofs.Room.{order-le, whole, degree-pos, degree-le, reps-le, lines-small}
 use Rattle.assembly.proofs.Distinct.{rows-distinct}
 use Rattle.assembly.proofs.Words.{first-of, deg-of, line-of, target-of, entry-of, column-below}
 

@@ -26,7 +26,7 @@ use Rattle.definitions.specs.Presentation.{maxGenerators, maxOrder, maxModulus,
 use Rattle.definitions.specs.Monomial.{Matrix, entry, col, less, act, scale}
 use Rattle.definitions.specs.Table.{lineOf, repWords}
 use Rattle.numbers.proofs.Blocks.{length-table, blocks-below, length-even}
-use Rattle.formulas.specs.Formulas.{Source, made, start, around, shift, plus, topEntry, landing, walk, extensionAt}
+use Rattle.formulas.specs.Formulas.{Source, made, start, around, shift, topEntry, landing, walk, extensionAt}
 use Rattle.lines.specs.declared.Head.{Head}
 use Rattle.level.specs.Stored.{entryIn, matrixIn, throughIn}
 use Rattle.lines.specs.Lines.{headLine, blockLines}

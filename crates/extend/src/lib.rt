@@ -2,11 +2,9 @@
 ghost use mathlib.Core.Path.{_≡_};
 ghost use mathlib.Core.List.{[]};
 ghost use mathlib.Core.Bool.{cond};
-ghost use Prim.Native.Nat.{ℕ, suc, _+_, _*_, _/_, _≤_, _<_};
+ghost use Prim.Native.Nat.{suc, _+_, _*_, _/_, _≤_, _<_};
 ghost use lib.ListN.{length, getD, take};
 ghost use lib.Dec.{eqb};
-ghost use Rattle.definitions.specs.Lists.{blocks};
-ghost use Rattle.definitions.specs.Monomial.{entry};
 ghost use Rattle.definitions.specs.Table.{repWords};
 ghost use Rattle.definitions.specs.Presentation.{maxGenerators, maxOrder, maxModulus, pairNumber};
 ghost use Rattle.formulas.specs.Formulas.{landing, shift, start, extensionAt};

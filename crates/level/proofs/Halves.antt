@@ -44,7 +44,12 @@ pub record Halved (T : List ℕ) (i r lo hi : ℕ) : Type 0 where
   pub high : (l : ℕ) → hi ≤ l → l < lineCount T → before T i r l ≡ false
 
 pub halved-none : (T : List ℕ) (i r lines : ℕ) → lines ≡ lineCount T → Halved T i r 0 lines
-halved-none T i r lines e = record { order = omega arith; inside = omega (arith, e); low = λ l h. absurd (omega arith); high = λ l a b. absurd (omega (arith, e)) }
+halved-none T i r lines e = record {
+  order = omega arith;
+  inside = omega (arith, e);
+  low = λ l h. absurd (omega arith);
+  high = λ l a b. absurd (omega (arith, e));
+}
 
 pub halved-low : (T : List ℕ) (i r lo hi mid : ℕ) → Splits T i r → Halved T i r lo hi → mid < hi → before T i r mid ≡ true → Halved T i r (mid + 1) hi
 halved-low T i r lo hi mid S H b e = record { order = omega arith; inside = H .inside; low = λ l h. S .is .low l (omega (arith, cut)); high = H .high }
@@ -56,7 +61,8 @@ halved-low T i r lo hi mid S H b e = record { order = omega arith; inside = H .i
         go (yes a) = a
         go (no a) = absurd (false≢true (sym (S .is .high mid (omega arith) (omega (arith, H .inside))) ∙ e))
 
-pub halved-high : (T : List ℕ) (i r lo hi mid : ℕ) → Splits T i r → Halved T i r lo hi → lo ≤ mid → mid < hi → before T i r mid ≡ false → Halved T i r lo mid
+pub halved-high : (T : List ℕ) (i r lo hi mid : ℕ) → Splits T i r → Halved T i r lo hi → lo ≤ mid → mid < hi → before T i r mid ≡ false
+    → Halved T i r lo mid
 halved-high T i r lo hi mid S H a b e = record { order = a; inside = omega (arith, H .inside); low = H .low; high = λ l h g. S .is .high l (omega (arith, cut)) g }
   where
     cut : S .at ≤ mid

@@ -97,7 +97,8 @@ module _ (m : ℕ) (W : List ℕ) (at d r : ℕ) (l : r < d) (fixed : entryIn W 
   plus-fixed c t =
       let e = entryIn W (at + r) .exp in
       let z : t + e + c ≡ t + (e + c) = omega arith in
-      ap (λ (x : Entry). entry (x .row) ((x .exp + c) % m)) (act-fixed t) ∙ ap (entry r) (mod-add-mod (t + e) m c ∙ ap (λ x. x % m) z ∙ sym (add-mod-mod t (e + c) m))
+      ap (λ (x : Entry). entry (x .row) ((x .exp + c) % m)) (act-fixed t)
+      ∙ ap (entry r) (mod-add-mod (t + e) m c ∙ ap (λ x. x % m) z ∙ sym (add-mod-mod t (e + c) m))
 
 pub walk-zero : (m : ℕ) (M : ℕ → Matrix) (w : List ℕ) (x : Entry) → walk m M 0 (toNF 0 w) x ≡ x
 unfolding walk

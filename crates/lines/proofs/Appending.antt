@@ -4,13 +4,13 @@
 --   going-none, going-more     no turn yet; one turn more
 --   going-room                 there is room for a turn where there is room for all
 --   going-line                 the same for turns of one line
-use mathlib.Core.Path.{_≡_, refl, ap, sym, _∙_, subst}
-use Prim.Native.Nat.{ℕ, zero, suc, _+_, _*_, _<_, _≤_}
+use mathlib.Core.Path.{_≡_, refl, ap, sym, _∙_}
+use Prim.Native.Nat.{ℕ, _+_, _*_, _<_, _≤_}
 use native.Mathlib.Numerals.{add-one}
 use native.Mathlib.Omega.{arith}
-use mathlib.Core.List.{List, _++_}
+use mathlib.Core.List.{List}
 use lib.ListN.{length, take}
-use Rattle.definitions.specs.Lists.{blocks, sum}
+use Rattle.definitions.specs.Lists.{blocks}
 use Rattle.numbers.proofs.Lists.{length-blocks}
 use Rattle.numbers.proofs.Sums.{sum-below, sum-const, first-le}
 use Rattle.numbers.proofs.Blocks.{blocks-zero, blocks-suc}

@@ -4,7 +4,7 @@
 --   put-eight                  eight stores in a row
 --   block-single               a matrix of degree 1 is one line
 use mathlib.Core.Path.{_≡_, refl, ap, sym, _∙_}
-use Prim.Native.Nat.{ℕ, zero, suc, _+_, _%_, _≤_}
+use Prim.Native.Nat.{ℕ, suc, _+_, _%_, _≤_}
 use native.Mathlib.Omega.{arith}
 use mathlib.Core.List.{List, [], _∷_, _++_}
 use lib.ListN.{length, set}
@@ -24,10 +24,11 @@ headLine-eight h k x = refl
 
 -- eight stores in a row
 pub put-eight : (w : List ℕ) (i a b c d e f g h : ℕ) → i + 8 ≤ length w
-    → set (set (set (set (set (set (set (set w i a) (i + 1) b) (i + 2) c) (i + 3) d) (i + 4) e) (i + 5) f) (i + 6) g) (i + 7) h
+    → set (set (set (set (set (set (set (set w (i + 0) a) (i + 1) b) (i + 2) c) (i + 3) d) (i + 4) e) (i + 5) f) (i + 6) g) (i + 7) h
     ≡ put w i (a ∷ b ∷ c ∷ d ∷ e ∷ f ∷ g ∷ h ∷ [])
 unfolding put
 put-eight w i a b c d e f g h l =
+    let e0 : i + 0 ≡ i = omega arith in
     let e1 : i + 1 ≡ suc i = omega arith in
     let e2 : i + 2 ≡ suc (suc i) = omega arith in
     let e3 : i + 3 ≡ suc (suc (suc i)) = omega arith in
@@ -35,7 +36,7 @@ put-eight w i a b c d e f g h l =
     let e5 : i + 5 ≡ suc (suc (suc (suc (suc i)))) = omega arith in
     let e6 : i + 6 ≡ suc (suc (suc (suc (suc (suc i))))) = omega arith in
     let e7 : i + 7 ≡ suc (suc (suc (suc (suc (suc (suc i)))))) = omega arith in
-    rw (e1, e2, e3, e4, e5, e6, e7) (sets-eq (a ∷ b ∷ c ∷ d ∷ e ∷ f ∷ g ∷ h ∷ []) w i l)
+    rw (e0, e1, e2, e3, e4, e5, e6, e7) (sets-eq (a ∷ b ∷ c ∷ d ∷ e ∷ f ∷ g ∷ h ∷ []) w i l)
 
 pub block-single : (m : ℕ) (h : Head) (co ro c : ℕ) (W : List ℕ) (src e : ℕ) → Holds m W src 1 → e ≡ (wordAt W src EXP + c) % m → headLine h co (entry ro e) ≡ blockLines m h co ro c 1 W src
 unfolding blockLines

@@ -27,14 +27,14 @@ pub fn put_line(words: &mut [u32], at: usize, h: Head, k: u32, x: Entry) -> usiz
     ensures { λ r. ⌜ Wrote (now (words .entry)) (8 * at) (headLine h k x) (now (words .exit)) (8 * r) ⌝ }
 {
     let i = 8 * at;
-    words[i] = h.level;
-    words[i + 1] = h.rep;
-    words[i + 2] = h.deg;
-    words[i + 3] = h.generator;
-    words[i + 4] = h.refn;
-    words[i + 5] = k;
-    words[i + 6] = x.row;
-    words[i + 7] = x.exp;
+    words[i + level::LEVEL] = h.level;
+    words[i + level::REP] = h.rep;
+    words[i + level::DEG] = h.deg;
+    words[i + level::GEN] = h.generator;
+    words[i + level::REF] = h.refn;
+    words[i + level::COL] = k;
+    words[i + level::ROW] = x.row;
+    words[i + level::EXP] = x.exp;
     at + 1
 }
 

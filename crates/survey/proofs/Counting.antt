@@ -4,8 +4,7 @@
 --   number-zero, number-next, number-small      numbers
 --   around-zero, around-next   an entry along an orbit
 --   leading-least, leading-other, leading-below     the constants that are kept
---   column-zero                column 0 is there
-use mathlib.Core.Path.{_≡_, refl, ap, sym, _∙_, subst}
+use mathlib.Core.Path.{_≡_, refl, ap, sym, _∙_}
 use mathlib.Core.List.{List, []}
 use mathlib.Core.Bool.{Bool, true, false, cond}
 use Prim.Native.Nat.{ℕ, zero, suc, _+_, _*_, _<_, _≤_}
@@ -13,15 +12,13 @@ use native.Mathlib.Omega.{arith}
 use native.Mathlib.Numerals.{add-one}
 use native.Mathlib.Nat.{mul-le-mul-right, mod-lt}
 use lib.Dec.{eqb}
-use Rattle.definitions.specs.declared.Entry.{Entry}
 use Rattle.definitions.specs.Lists.{sum, iter}
 use Rattle.definitions.specs.Monomial.{entry, less, act}
 use Rattle.definitions.specs.Presentation.{maxOrder}
 use Rattle.numbers.proofs.Bools.{cond-eq, cond-ne}
 use Rattle.formulas.specs.Formulas.{made, start, around}
-use Rattle.level.specs.Stored.{Below}
 use Rattle.survey.specs.declared.Frame.{Frame}
-use Rattle.survey.specs.Below.{degOf, targetOf, sourceIn, leaderIn, madeIn, numberIn, aroundIn, closingIn, leadingIn, Stands}
+use Rattle.survey.specs.Below.{targetOf, sourceIn, leaderIn, madeIn, numberIn, aroundIn, closingIn, leadingIn, Stands}
 
 module _ (f : Frame) (W : List ℕ) where
   abbrev τ : ℕ → ℕ
@@ -92,6 +89,3 @@ module _ (f : Frame) (W : List ℕ) where
   pub around-next : (r k : ℕ) → aroundIn f W r (k + 1) ≡ act (f .m) (sourceIn f W [] .matrix (iter τ k r) (f .top)) (aroundIn f W r k)
   unfolding around
   around-next r k = ap (aroundIn f W r) (add-one k)
-
-  pub column-zero : Stands f W → (r : ℕ) → r < f .reps → Below (f .m) (degOf f W r) (entry 0 0)
-  column-zero S r l = record { row = S .wide r l .0; exp = S .modulus .0 }

@@ -2,14 +2,14 @@
 --
 --   first-zero, first-next     where representations begin
 --   first-room, matrix-room    there is a line at the beginning of a representation, and of a matrix
---   first-below, matrix-below  they lie before the end of the level
+--   first-below                it lies before the end of the level
 --   located-stored, located-line     matrices of the representation that D is, and the lines at which they begin
 --   located-degree, located-matrix, located-column      its degree, a matrix, column 0
 --   located-target             where an intertwiner leads it
 --   orbits                     the orbits of the generator on top
 --   Filled, filled-none, filled-more      an array filled up to an index
-use mathlib.Core.Path.{_≡_, refl, ap, ap₂, sym, _∙_, subst}
-use Prim.Native.Nat.{ℕ, zero, suc, _+_, _*_, _<_, _≤_}
+use mathlib.Core.Path.{_≡_, refl, ap, sym, _∙_, subst}
+use Prim.Native.Nat.{ℕ, _+_, _*_, _<_, _≤_}
 use native.Mathlib.Numerals.{add-one}
 use native.Mathlib.Omega.{arith}
 use native.Mathlib.Nat.{mul-le-mul-right}
@@ -17,10 +17,9 @@ use mathlib.Core.List.{List}
 use native.Mathlib.Decide.{ℕ-discrete}
 use lib.ListN.{length, getD, set}
 use lib.Seq.{getD-set-same, getD-set-other}
-use Rattle.definitions.specs.Table.{wordAt}
 use Rattle.numbers.proofs.Orbits.{Orbits}
 use Rattle.level.specs.declared.Listed.{Listed}
-use Rattle.level.specs.Stored.{matrixIn, Below, Holds, lineIn, generatorIn, targetIn, Stored}
+use Rattle.level.specs.Stored.{matrixIn, Below, lineIn, generatorIn, targetIn, Stored}
 use Rattle.definitions.specs.Monomial.{entry}
 use Rattle.survey.specs.declared.Frame.{Frame}
 use Rattle.survey.specs.Below.{firstOf, degOf, matrixOf, targetOf, Stands, Located}
@@ -43,9 +42,6 @@ module _ (f : Frame) (W : List ℕ) where
 
     pub first-below : (r : ℕ) → r < f .reps → firstOf f W r + f .gens * degOf f W r ≤ f .end
     first-below r b = subst (λ z. z ≤ f .end) (ap (firstOf f W) (sym (add-one r)) ∙ first-next r) (S .inside r b)
-
-    pub matrix-below : (g r : ℕ) → g < f .gens → r < f .reps → matrixOf f W g r ≤ 16777216
-    matrix-below g r a b = let h : g * degOf f W r ≤ f .gens * degOf f W r = mul-le-mul-right (degOf f W r) (omega arith) in omega (arith, h, first-below r b, S .short .1)
 
     -- the orbits of the generator on top
     unfoldable pub orbits : Orbits

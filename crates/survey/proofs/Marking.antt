@@ -5,20 +5,19 @@
 --   marking-done               all members of the orbit of r, and so all orbits up to it
 --   marking-skip               r is marked already, so it begins no orbit
 --   marking-all                every orbit
-use mathlib.Core.Path.{_≡_, refl, ap, sym, _∙_, subst}
+use mathlib.Core.Path.{_≡_, ap, sym, _∙_, subst}
 use mathlib.Core.List.{List}
-use Prim.Native.Nat.{ℕ, zero, suc, _+_, _*_, _<_, _≤_}
+use Prim.Native.Nat.{ℕ, _+_, _<_, _≤_}
 use native.Mathlib.Omega.{arith}
 use native.Mathlib.Decide.{decLt, ℕ-discrete}
-use lib.ListN.{length, getD, set, length-set}
+use lib.ListN.{length, getD}
 use lib.Seq.{getD-set-same, getD-set-other}
 use Rattle.definitions.specs.Lists.{iter}
 use lib.Dec.{eqb}
 use borrow.Author.Tests.{eq-eqb}
 use Rattle.numbers.proofs.Lists.{iter-zero}
 use Rattle.numbers.proofs.Searches.{least-least}
-use Rattle.numbers.proofs.Orbits.{Orbits, leader, position, leader-least, leader-below, leader-iter, leader-leader, leader-fixed, position-below, position-back, iter-below}
-use Rattle.level.proofs.Laws.{iter-next}
+use Rattle.numbers.proofs.Orbits.{leader, position, leader-least, leader-iter, leader-leader, leader-fixed, position-below, position-back, iter-below}
 use Rattle.survey.specs.declared.Frame.{Frame}
 use Rattle.survey.specs.Below.{targetOf, leaderIn, positionIn, Stands, Array, Marked, MarkedTo}
 use Rattle.survey.proofs.Level.{orbits}

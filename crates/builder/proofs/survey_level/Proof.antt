@@ -7,7 +7,6 @@ use denote.Ref.{now}
 use borrow.Author.Needs.{needs}
 use Rattle.definitions.specs.Presentation.{pairNumber}
 use Rattle.builder.proofs.Laws.{numbers-named, shifts-named}
-use borrow.Author.Needs.{needs}
 use Rattle.builder.proofs.survey_level.Statement.{statement}
 use Rattle.builder.proofs.survey_level.Tie as tie
 

@@ -1,18 +1,17 @@
 -- `append_each` appends the extensions one behind the other.
-use mathlib.Core.Path.{_≡_, refl, sym, ap, ap₂, _∙_, subst}
-use mathlib.Core.List.{List, []}
-use Prim.Native.Nat.{ℕ, suc, _+_, _*_, _-_, _≤_, _<_}
+use mathlib.Core.Path.{_≡_, ap}
+use Prim.Native.Nat.{suc, _+_, _*_, _-_, _≤_, _<_}
 use native.Mathlib.Omega.{arith}
-use lib.ListN.{length, getD, take}
+use lib.ListN.{length, take}
 use denote.Ref.{now}
 use borrow.Author.Needs.{needs}
-use Rattle.survey.specs.Below.{degOf, targetOf, sourceIn}
+use Rattle.survey.specs.Below.{degOf, sourceIn}
 use Rattle.definitions.specs.Lists.{blocks}
 use Rattle.definitions.specs.Table.{repWords}
 use Rattle.formulas.specs.Formulas.{extensionAt}
 use Rattle.text.proofs.Writing.{wrote-as}
 use Rattle.lines.proofs.Appending.{Going, going-none, going-more, going-room}
-use Rattle.extend.specs.Extending.{Ready, extensionsWords}
+use Rattle.extend.specs.Extending.{extensionsWords}
 use Rattle.extend.proofs.Laws.{rep-length, extensions-length}
 use Rattle.extend.proofs.append_each.Statement.{statement}
 use Rattle.extend.proofs.append_each.Tie as tie

@@ -26,4 +26,12 @@ returns-2 : tie.Need-returns-2
 returns-2 c = search needs
 
 pub append-extension-spec : {M : Type 1} → statement M
-append-extension-spec = tie.close (tie.spec append-singles-requires same-length returns append-matrices-requires same-length-2 returns-2)
+append-extension-spec =
+    tie.close
+    (tie.spec
+    append-singles-requires
+    same-length
+    returns
+    append-matrices-requires
+    same-length-2
+    returns-2)

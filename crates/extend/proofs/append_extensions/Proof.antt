@@ -66,14 +66,17 @@ slice-aggregate-append-each-2 : tie.Need-slice-aggregate-append-each-2
 slice-aggregate-append-each-2 c = search needs
 
 append-each-requires : tie.Need-append-each-requires
-append-each-requires c κs = let z = c .before .before .before .before .before .before .before .before .before .before .before .before .before .before .before .before .before in
+append-each-requires c κs = let element′ = c .before .before .before .element in
+    let find-origin′ = c .before .before .before .before .find-origin in
+    let find-targets′ = c .before .before .before .before .before .before .before .before .find-targets in
+    let z = c .before .before .before .before .before .before .before .before .before .before .before .before .before .before .before .before .before in
     let f = z .args .f in
     let W = take (8 * f .end) (now (z .args .words)) in
     let r = z .args .r in
-    let e = c .before .before .before .element .ensures ∙ z .pre .3 .at r (z .pre .5) in
-    let o = c .before .before .before .before .find-origin .ensures in
+    let e = element′ .ensures ∙ z .pre .3 .at r (z .pre .5) in
+    let o = find-origin′ .ensures in
     let root = o .1 ∙ ap (λ x. x / f .p) (z .pre .4 .at r (z .pre .5) (lead-fixed f W (z .pre .0) r (z .pre .5) (z .pre .8))) in (
-      c .before .before .before .before .before .before .before .before .find-targets .ensures,
+      find-targets′ .ensures,
       record { source-is = o .0; root-is = root; step-is = o .2 },
       subst (λ x. x ≤ 268435456) (sym e) (start-fits f W (now (z .args .rows)) (z .pre .0) r (omega (arith, z .pre .5))),
       z .pre .6,
@@ -84,12 +87,30 @@ same-length : tie.Need-same-length
 same-length c = search needs
 
 returns : tie.Need-returns
-returns c = let z = c .before .before .before .before .before .before .before .before .before .before .before .before .before .before .before .before .before .before .before .before in
+returns c = let element′ = c .before .before .before .before .before .before .element in
+    let z = c .before .before .before .before .before .before .before .before .before .before .before .before .before .before .before .before .before .before .before .before in
     let f = z .args .f in
     let W = take (8 * f .end) (now (z .args .words)) in
     let r = z .args .r in
-    let e = c .before .before .before .before .before .before .element .ensures ∙ z .pre .3 .at r (z .pre .5) in
+    let e = element′ .ensures ∙ z .pre .3 .at r (z .pre .5) in
     wrote-as (c .before .before .append-each .ensures) (ap (λ x. extensionsWords f W (now (z .args .rows)) x r) e)
 
 pub append-extensions-spec : {M : Type 1} → statement M
-append-extensions-spec = tie.close (tie.spec mul-n slice-reshare-prefix-find-targets slice-aggregate-find-targets slice-aggregate-find-targets-2 slice-aggregate-find-targets-3 find-targets-requires slice-reshare-prefix-find-origin slice-aggregate-find-origin find-origin-requires element-requires slice-aggregate-append-each slice-aggregate-append-each-2 append-each-requires same-length returns)
+append-extensions-spec =
+    tie.close
+    (tie.spec
+    mul-n
+    slice-reshare-prefix-find-targets
+    slice-aggregate-find-targets
+    slice-aggregate-find-targets-2
+    slice-aggregate-find-targets-3
+    find-targets-requires
+    slice-reshare-prefix-find-origin
+    slice-aggregate-find-origin
+    find-origin-requires
+    element-requires
+    slice-aggregate-append-each
+    slice-aggregate-append-each-2
+    append-each-requires
+    same-length
+    returns)

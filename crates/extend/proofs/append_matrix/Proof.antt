@@ -55,7 +55,8 @@ add-t18 : tie.Need-add-t18
 add-t18 c = search needs
 
 append-block-requires : tie.Need-append-block-requires
-append-block-requires c κs = let z = c .before .before .before .before .before .before .before .before .before in
+append-block-requires c κs = let factor′ = c .before .before .before .before .before .factor in
+    let z = c .before .before .before .before .before .before .before .before .before in
     let f = z .args .f in
     let g = z .args .g in
     let k = z .args .k in
@@ -64,16 +65,21 @@ append-block-requires c κs = let z = c .before .before .before .before .before 
     let rows = now (z .args .rows) in
     let L = z .pre .1 .source-is in
     let d = located-degree L in
-    let small : z .args .o .source .deg ≤ 65536 = subst (λ x. x ≤ 65536) (sym d) (factor-small (f .p) _ 65536 (z .pre .0 .stands .prime .0) (z .pre .0 .stands .wide r (z .pre .0 .listed) .1)) in (
-      (c .before .before .before .before .before .factor .ensures .1, z .pre .4, omega (arith, d, z .pre .5), omega (arith, small), omega (arith, small)),
-      subst (λ a. Holds (f .m) W a (z .args .o .source .deg)) (sym (c .before .before .matrix-line .ensures)) (located-stored L (suc g) (z .pre .3) .holds g (le-refl _)),
+    let small : z .args .o .source .deg ≤ 65536 = subst (λ x. x ≤ 65536) (sym d) (factor-small (f .p) _ 65536 (z .pre .0 .stands .prime .0)
+    (z .pre .0 .stands .wide r (z .pre .0 .listed) .1)) in (
+      (factor′ .ensures .1, z .pre .4, omega (arith, d, z .pre .5), omega (arith, small), omega (arith, small)),
+      subst (λ a. Holds (f .m) W a (z .args .o .source .deg)) (sym (c .before .before .matrix-line .ensures)) (located-stored L (suc g)
+          (z .pre .3) .holds g (le-refl _)),
     )
 
 same-length : tie.Need-same-length
 same-length c = search needs
 
 returns : tie.Need-returns
-returns c = let z = c .before .before .before .before .before .before .before .before .before .before .before .before in
+returns c = let matrix-line′ = c .before .before .before .before .before .matrix-line in
+    let reference′ = c .before .before .before .before .before .before .before .reference in
+    let factor′ = c .before .before .before .before .before .before .before .before .factor in
+    let z = c .before .before .before .before .before .before .before .before .before .before .before .before in
     let f = z .args .f in
     let g = z .args .g in
     let k = z .args .k in
@@ -82,10 +88,22 @@ returns c = let z = c .before .before .before .before .before .before .before .b
     let rows = now (z .args .rows) in
     let L = z .pre .1 .source-is in
     let o = z .args .o in
-    let src = c .before .before .before .before .before .matrix-line .ensures ∙ ap (λ (E : Listed). lineIn E g) (L .is) in
-    let c′ = c .before .before .before .before .before .before .before .before .factor .ensures .0 ∙ origin-factor f W rows r o k (z .pre .1) g in
-    wrote-as (c .before .before .append-block .ensures) (matrix-lines f W rows _ (z .args .rep) r k g _ _ _ (add-one _) refl (located-degree L) (add-one _)
-    (λ y. c .before .before .before .before .before .before .before .reference .ensures ∙ reference-is f W rows (now (z .args .to)) (now (z .args .by)) r (z .pre .0) g k y (z .pre .3)) (located-degree L) src c′)
+    let src = matrix-line′ .ensures ∙ ap (λ (E : Listed). lineIn E g) (L .is) in
+    let c′ = factor′ .ensures .0 ∙ origin-factor f W rows r o k (z .pre .1) g in
+    wrote-as (c .before .before .append-block .ensures) (matrix-lines f W rows _ (z .args .rep) r k g _ _ _ (add-one _) refl (located-degree L)
+    (add-one _)
+    (λ y. reference′ .ensures ∙ reference-is f W rows (now (z .args .to)) (now (z .args .by)) r (z .pre .0) g k y (z .pre .3))
+    (located-degree L) src c′)
 
 pub append-matrix-spec : {M : Type 1} → statement M
-append-matrix-spec = tie.close (tie.spec factor-requires reference-requires matrix-line-requires add-t17 add-t18 append-block-requires same-length returns)
+append-matrix-spec =
+    tie.close
+    (tie.spec
+    factor-requires
+    reference-requires
+    matrix-line-requires
+    add-t17
+    add-t18
+    append-block-requires
+    same-length
+    returns)

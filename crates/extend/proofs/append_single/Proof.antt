@@ -55,7 +55,9 @@ add-t17 : tie.Need-add-t17
 add-t17 c = search needs
 
 append-line-requires : tie.Need-append-line-requires
-append-line-requires c κs = let z = c .before .before .before .before .before .before .before .before in
+append-line-requires c κs = let matrix-line′ = c .before .before .matrix-line in
+    let factor′ = c .before .before .before .before .factor in
+    let z = c .before .before .before .before .before .before .before .before in
     let f = z .args .f in
     let g = z .args .g in
     let k = z .args .k in
@@ -64,15 +66,19 @@ append-line-requires c κs = let z = c .before .before .before .before .before .
     let rows = now (z .args .rows) in
     let L = z .pre .1 .source-is in
     let one : z .args .o .source .deg ≡ 1 = located-degree L ∙ z .pre .6 in (
-      (c .before .before .before .before .factor .ensures .1, z .pre .4, omega (arith, z .pre .5, z .pre .6)),
-      subst (Holds (f .m) W (c .before .before .matrix-line .result)) one (subst (λ a. Holds (f .m) W a (z .args .o .source .deg)) (sym (c .before .before .matrix-line .ensures)) (located-stored L (suc g) (z .pre .3) .holds g (le-refl _))),
+      (factor′ .ensures .1, z .pre .4, omega (arith, z .pre .5, z .pre .6)),
+      subst (Holds (f .m) W (matrix-line′ .result)) one (subst (λ a. Holds (f .m) W a (z .args .o .source .deg)) (sym (matrix-line′ .ensures))
+          (located-stored L (suc g) (z .pre .3) .holds g (le-refl _))),
     )
 
 same-length : tie.Need-same-length
 same-length c = search needs
 
 returns : tie.Need-returns
-returns c = let z = c .before .before .before .before .before .before .before .before .before .before .before in
+returns c = let matrix-line′ = c .before .before .before .before .before .matrix-line in
+    let reference′ = c .before .before .before .before .before .before .reference in
+    let factor′ = c .before .before .before .before .before .before .before .factor in
+    let z = c .before .before .before .before .before .before .before .before .before .before .before in
     let f = z .args .f in
     let g = z .args .g in
     let k = z .args .k in
@@ -81,10 +87,22 @@ returns c = let z = c .before .before .before .before .before .before .before .b
     let rows = now (z .args .rows) in
     let L = z .pre .1 .source-is in
     let o = z .args .o in
-    let src = c .before .before .before .before .before .matrix-line .ensures ∙ ap (λ (E : Listed). lineIn E g) (L .is) in
-    let c′ = c .before .before .before .before .before .before .before .factor .ensures .0 ∙ origin-factor f W rows r o k (z .pre .1) g in
-    wrote-as (c .before .before .append-line .ensures) (matrix-lines f W rows _ (z .args .rep) r k g _ _ _ (add-one _) refl (sym (z .pre .6)) (add-one _)
-    (λ y. c .before .before .before .before .before .before .reference .ensures ∙ reference-is f W rows (now (z .args .to)) (now (z .args .by)) r (z .pre .0) g k y (z .pre .3)) (sym (z .pre .6)) src c′)
+    let src = matrix-line′ .ensures ∙ ap (λ (E : Listed). lineIn E g) (L .is) in
+    let c′ = factor′ .ensures .0 ∙ origin-factor f W rows r o k (z .pre .1) g in
+    wrote-as (c .before .before .append-line .ensures) (matrix-lines f W rows _ (z .args .rep) r k g _ _ _ (add-one _) refl (sym (z .pre .6))
+    (add-one _)
+    (λ y. reference′ .ensures ∙ reference-is f W rows (now (z .args .to)) (now (z .args .by)) r (z .pre .0) g k y (z .pre .3)) (sym
+    (z .pre .6)) src c′)
 
 pub append-single-spec : {M : Type 1} → statement M
-append-single-spec = tie.close (tie.spec factor-requires reference-requires matrix-line-requires add-t16 add-t17 append-line-requires same-length returns)
+append-single-spec =
+    tie.close
+    (tie.spec
+    factor-requires
+    reference-requires
+    matrix-line-requires
+    add-t16
+    add-t17
+    append-line-requires
+    same-length
+    returns)

@@ -1,16 +1,15 @@
 -- `append_singles` appends its generators one behind the other.
-use mathlib.Core.Path.{_≡_, refl, sym, ap, ap₂, _∙_, subst}
-use mathlib.Core.List.{List, []}
-use Prim.Native.Nat.{ℕ, suc, _+_, _*_, _-_, _≤_, _<_}
+use mathlib.Core.Path.{_≡_, sym, ap, _∙_}
+use Prim.Native.Nat.{_+_, _*_, _-_, _≤_, _<_}
 use native.Mathlib.Omega.{arith}
-use lib.ListN.{length, getD, take, set, length-set}
+use lib.ListN.{length, take}
 use denote.Ref.{now}
 use borrow.Author.Needs.{needs}
-use Rattle.survey.specs.Below.{degOf, targetOf, sourceIn}
+use Rattle.survey.specs.Below.{degOf}
 use Rattle.definitions.specs.Lists.{blocks}
 use Rattle.text.proofs.Writing.{wrote-as}
 use Rattle.lines.proofs.Appending.{Going, going-none, going-more, going-room}
-use Rattle.extend.specs.Extending.{Ready, matrixWords}
+use Rattle.extend.specs.Extending.{matrixWords}
 use Rattle.extend.proofs.Laws.{matrixWords-length, extension-words, extension-length}
 use Rattle.extend.proofs.append_singles.Statement.{statement}
 use Rattle.extend.proofs.append_singles.Tie as tie

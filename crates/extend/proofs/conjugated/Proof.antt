@@ -21,8 +21,11 @@ up-requires : tie.Need-up-requires
 up-requires c κs = search needs
 
 walked-requires : tie.Need-walked-requires
-walked-requires c κs = let z = c .before .before in
-    (omega (arith, c .up .ensures), stored-fewer (c .up .result) (omega (arith, c .up .ensures)) (z .pre .0), record { row = z .pre .0 .positive; exp = omega arith })
+walked-requires c κs = let z = c .before .before in (
+  omega (arith, c .up .ensures),
+  stored-fewer (c .up .result) (omega (arith, c .up .ensures)) (z .pre .0),
+  record { row = z .pre .0 .positive; exp = omega arith },
+)
 
 mul-k : tie.Need-mul-k
 mul-k c = search needs
@@ -31,21 +34,32 @@ element-copy-out-k : tie.Need-element-copy-out-k
 element-copy-out-k c = search needs
 
 add-scaled-times : tie.Need-add-scaled-times
-add-scaled-times c = let z = c .before .before .before .before in omega (arith, ap (λ t. getD (now (z .args .w)) t 0) (c .before .before .up .ensures), z .pre .3)
+add-scaled-times c = let z = c .before .before .before .before in
+    omega (arith, ap (λ t. getD (now (z .args .w)) t 0) (c .before .before .up .ensures), z .pre .3)
 
 scaled-times-requires : tie.Need-scaled-times-requires
 scaled-times-requires c κs = let z = c .before .before .before .before in (z .pre .0, c .before .walked .ensures .1, z .pre .2)
 
 returns : tie.Need-returns
 unfolding conjugatedIn
-returns c = let z = c .before .before .before .before .before in
+returns c = let up′ = c .before .before .before .up in
+    let z = c .before .before .before .before .before in
     let W = now (z .args .low) in
     let v = now (z .args .w) in
-    let n = c .before .before .before .up .ensures in
+    let n = up′ .ensures in
     let k = ap (λ t. getD v t 0) n in
     let F : Entry → Entry = λ y. plus (z .args .m) (z .args .c) (act (z .args .m) (generatorIn W (z .args .d) (z .args .g)) y) in
     let x = c .before .before .walked .ensures .0 ∙ ap (λ i. walk (z .args .m) (generatorIn W (z .args .d)) i (toNF i v) (entry 0 0)) n in
     (c .scaled-times .ensures .0 ∙ ap₂ (λ i x. iter F i x) (ap (λ i. i + 1) k ∙ add-one _) x, c .scaled-times .ensures .1)
 
 pub conjugated-spec : {M : Type 1} → statement M
-conjugated-spec = tie.close (tie.spec up-requires walked-requires mul-k element-copy-out-k add-scaled-times scaled-times-requires returns)
+conjugated-spec =
+    tie.close
+    (tie.spec
+    up-requires
+    walked-requires
+    mul-k
+    element-copy-out-k
+    add-scaled-times
+    scaled-times-requires
+    returns)

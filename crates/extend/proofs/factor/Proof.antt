@@ -1,5 +1,5 @@
 -- `factor`: the constant stays below the modulus.
-use mathlib.Core.Path.{_≡_, sym}
+use mathlib.Core.Path.{sym}
 use native.Mathlib.Omega.{arith}
 use Rattle.numbers.proofs.Bools.{cond-eq, cond-ne}
 use borrow.Author.Needs.{needs}

@@ -14,7 +14,8 @@ use Rattle.extend.proofs.find_targets.Statement.{statement}
 use Rattle.extend.proofs.find_targets.Tie as tie
 
 abbrev Inv-loop : tie.InvT-loop
-Inv-loop low first rows numbers shifts to₀ by₀ f r d lo gens j₀ to by j = (lo ≤ j) × (lo ≡ f .top + 1) × (gens ≡ f .gens) × (j ≤ gens) × (length to ≡ length to₀) × (length by ≡ length by₀)
+Inv-loop low first rows numbers shifts to₀ by₀ f r d lo gens j₀ to by j = (lo ≤ j) × (lo ≡ f .top + 1) × (gens ≡ f .gens) × (j ≤ gens) ×
+    (length to ≡ length to₀) × (length by ≡ length by₀)
     × Between to (λ k. start (sourceIn f low rows) (targetOf f low k r)) (f .top) j × Between by (λ k. landing (sourceIn f low rows) k r) (f .top) j
 
 abbrev μ-loop : tie.MeasureT-loop
@@ -28,29 +29,64 @@ add-lo c = let z = c .before .before .before .before .before .before .before .be
 
 loop-holds : tie.Need-loop-holds Inv-loop μ-loop
 loop-holds c = let z = c .before .before .before .before .before .before .before .before in
-    let to-is : ℕ → ℕ = λ (k : ℕ). start (sourceIn (z .args .f) (now (z .args .low)) (now (z .args .rows))) (targetOf (z .args .f) (now (z .args .low)) k (z .args .r)) in
-    let by-is : ℕ → ℕ = λ (k : ℕ). landing (sourceIn (z .args .f) (now (z .args .low)) (now (z .args .rows))) k (z .args .r) in
-    (search needs, search needs, search needs, omega (arith, z .pre .0 .gens), refl, refl, between-none (now (z .args .to)) to-is (z .args .f .top), between-none (now (z .args .by)) by-is (z .args .f .top))
+    let to-is : ℕ → ℕ = λ (k : ℕ). start (sourceIn (z .args .f) (now (z .args .low)) (now (z .args .rows))) (targetOf (z .args .f) (now
+    (z .args .low)) k (z .args .r)) in
+    let by-is : ℕ → ℕ = λ (k : ℕ). landing (sourceIn (z .args .f) (now (z .args .low)) (now (z .args .rows))) k (z .args .r) in (
+      search needs,
+      search needs,
+      search needs,
+      omega (arith, z .pre .0 .gens),
+      refl,
+      refl,
+      between-none (now (z .args .to)) to-is (z .args .f .top),
+      between-none (now (z .args .by)) by-is (z .args .f .top),
+    )
 
 target-requires : tie.Need-target-requires Inv-loop μ-loop
-target-requires c κs = let z = c .before .before .before .before .before .before .before .before .before .before in (z .args .f .m, located-stored (c .before .before .before .listed .ensures) (suc (c .before .loop .j)) (omega (arith, c .before .loop .inv .2, c .before .loop .inv .3)))
+target-requires c κs = let listed′ = c .before .before .before .listed in
+    let z = c .before .before .before .before .before .before .before .before .before .before in
+    (z .args .f .m, located-stored (listed′ .ensures) (suc (c .before .loop .j)) (omega (arith, c .before .loop .inv .2, c .before .loop .inv .3)))
 
 element-requires : tie.Need-element-requires Inv-loop μ-loop
 element-requires c κs = let z = c .before .before .before .before .before .before .before .before .before .before .before in
     let l = c .before .before .loop in
-    let t = located-target (c .before .before .before .before .listed .ensures) (l .j) _ (omega (arith, l .inv .0, l .inv .1)) (search needs) (c .target .ensures) in
+    let t = located-target (c .before .before .before .before .listed .ensures) (l .j) _ (omega (
+      arith,
+      l .inv .0,
+      l .inv .1,
+    )) (search needs) (c .target .ensures) in
     omega (arith, t .1, z .pre .3 .long)
 
 store-requires : tie.Need-store-requires Inv-loop μ-loop
-store-requires c κs = omega (arith, c .before .before .before .before .loop .inv .4, c .before .before .before .before .before .before .before .before .before .before .before .before .before .pre .6)
+store-requires c κs = omega (
+  arith,
+  c .before .before .before .before .loop .inv .4,
+  c .before .before .before .before .before .before .before .before .before .before .before .before .before .pre .6,
+)
 
 landing-requires : tie.Need-landing-requires Inv-loop μ-loop
 landing-requires c κs = let z = c .before .before .before .before .before .before .before .before .before .before .before .before .before .before .before .before in
-    let l = c .before .before .before .before .before .before .before .loop in
-    (c .before .before .before .before .before .before .before .before .before .listed .ensures, z .pre .1, z .pre .2, z .pre .4, omega (arith, l .inv .0, l .inv .1), search needs, z .pre .8, z .pre .9)
+    let l = c .before .before .before .before .before .before .before .loop in (
+      c .before .before .before .before .before .before .before .before .before .listed .ensures,
+      z .pre .1,
+      z .pre .2,
+      z .pre .4,
+      omega (
+        arith,
+        l .inv .0,
+        l .inv .1,
+      ),
+      search needs,
+      z .pre .8,
+      z .pre .9,
+    )
 
 store-requires-2 : tie.Need-store-requires-2 Inv-loop μ-loop
-store-requires-2 c κs = omega (arith, c .before .before .before .before .before .before .before .before .before .loop .inv .5, c .before .before .before .before .before .before .before .before .before .before .before .before .before .before .before .before .before .before .pre .7)
+store-requires-2 c κs = omega (
+  arith,
+  c .before .before .before .before .before .before .before .before .before .loop .inv .5,
+  c .before .before .before .before .before .before .before .before .before .before .before .before .before .before .before .before .before .before .pre .7,
+)
 
 add-j : tie.Need-add-j Inv-loop μ-loop
 add-j c = search needs
@@ -62,12 +98,15 @@ loop-again : tie.Need-loop-again Inv-loop μ-loop
 loop-again c = let z = c .before .before .before .before .before .before .before .before .before .before .before .before .before .before .before .before .before .before .before .before .before in
     let l = c .before .before .before .before .before .before .before .before .before .before .before .before .loop in
     let t = located-target (c .before .before .before .before .before .before .before .before .before .before .before .before .before .before .listed .ensures) (l .j) _ (omega (arith, l .inv .0, l .inv .1)) (search needs) (c .before .before .before .before .before .before .before .before .before .before .target .ensures) in
-    let to-is : ℕ → ℕ = λ (k : ℕ). start (sourceIn (z .args .f) (now (z .args .low)) (now (z .args .rows))) (targetOf (z .args .f) (now (z .args .low)) k (z .args .r)) in
+    let to-is : ℕ → ℕ = λ (k : ℕ). start (sourceIn (z .args .f) (now (z .args .low)) (now (z .args .rows))) (targetOf (z .args .f) (now
+    (z .args .low)) k (z .args .r)) in
     let by-is : ℕ → ℕ = λ (k : ℕ). landing (sourceIn (z .args .f) (now (z .args .low)) (now (z .args .rows))) k (z .args .r) in
     let x = c .before .before .before .before .before .before .before .before .before .element .result in
     let y = c .before .before .before .before .landing .result in
-    let e : x ≡ to-is (l .j) = c .before .before .before .before .before .before .before .before .before .element .ensures ∙ z .pre .3 .at _ (t .1) ∙ ap (start (sourceIn (z .args .f) (now (z .args .low)) (now (z .args .rows)))) (t .0) in
-    let a : c .before .before .before .before .before .before .before .store .last .0 ≡ set (l .to) (l .j) x = c .before .before .before .before .before .before .before .store .ensures in
+    let e : x ≡ to-is (l .j) = c .before .before .before .before .before .before .before .before .before .element .ensures ∙ z .pre .3 .at _ (t .1)
+    ∙ ap (start (sourceIn (z .args .f) (now (z .args .low)) (now (z .args .rows)))) (t .0) in
+    let a : c .before .before .before .before .before .before .before .store .last .0 ≡ set (l .to)
+    (l .j) x = c .before .before .before .before .before .before .before .store .ensures in
     let b : c .before .before .store2 .last .0 ≡ set (l .by) (l .j) y = c .before .before .store2 .ensures in (
       omega (arith, l .inv .0),
       l .inv .1,
@@ -75,8 +114,16 @@ loop-again c = let z = c .before .before .before .before .before .before .before
       search needs,
       ap length a ∙ length-set (l .to) (l .j) x ∙ l .inv .4,
       ap length b ∙ length-set (l .by) (l .j) y ∙ l .inv .5,
-      subst (λ t. Between t to-is (z .args .f .top) (l .j + 1)) (sym a) (between-more (l .to) to-is (z .args .f .top) (l .j) x (omega (arith, l .inv .4, z .pre .6)) e (l .inv .6)),
-      subst (λ t. Between t by-is (z .args .f .top) (l .j + 1)) (sym b) (between-more (l .by) by-is (z .args .f .top) (l .j) y (omega (arith, l .inv .5, z .pre .7)) (c .before .before .before .before .landing .ensures .0) (l .inv .7)),
+      subst (λ t. Between t to-is (z .args .f .top) (l .j + 1)) (sym a) (between-more (l .to) to-is (z .args .f .top) (l .j) x (omega (
+        arith,
+        l .inv .4,
+        z .pre .6,
+      )) e (l .inv .6)),
+      subst (λ t. Between t by-is (z .args .f .top) (l .j + 1)) (sym b) (between-more (l .by) by-is (z .args .f .top) (l .j) y (omega (
+        arith,
+        l .inv .5,
+        z .pre .7,
+      )) (c .before .before .before .before .landing .ensures .0) (l .inv .7)),
     )
 
 same-length : tie.Need-same-length Inv-loop μ-loop
@@ -99,4 +146,22 @@ returns c = let z = c .before .before .before .before .before .before .before .b
     }
 
 pub find-targets-spec : {M : Type 1} → statement M
-find-targets-spec = tie.close (tie.spec Inv-loop μ-loop listed-requires add-lo loop-holds target-requires element-requires store-requires landing-requires store-requires-2 add-j loop-less loop-again same-length same-length-2 returns)
+find-targets-spec =
+    tie.close
+    (tie.spec
+    Inv-loop
+    μ-loop
+    listed-requires
+    add-lo
+    loop-holds
+    target-requires
+    element-requires
+    store-requires
+    landing-requires
+    store-requires-2
+    add-j
+    loop-less
+    loop-again
+    same-length
+    same-length-2
+    returns)

@@ -1,15 +1,6 @@
 -- `root` divides.
-use mathlib.Core.Path.{_≡_, refl, sym, ap, ap₂, _∙_, subst}
-use mathlib.Core.List.{[]}
-use Prim.Native.Nat.{ℕ, _+_, _*_, _-_, _≤_, _<_, _%_}
-use native.Mathlib.Omega.{arith}
-use lib.ListN.{length, getD}
-use denote.Ref.{now}
-use Rattle.definitions.specs.declared.Entry.{Entry}
-use Rattle.definitions.specs.Monomial.{entry, act}
-use Rattle.formulas.specs.Formulas.{plus, walk}
-use Rattle.level.specs.Stored.{matrixIn, Below, Holds}
-use Rattle.survey.specs.Below.{firstOf, degOf, matrixOf, sourceIn}
+use mathlib.Core.Path.{sym, ap, subst}
+use Prim.Native.Nat.{_-_, _<_}
 use Rattle.extend.proofs.Laws.{divide-below}
 use Prim.Native.Nat.{_/_}
 use borrow.Author.Needs.{needs}

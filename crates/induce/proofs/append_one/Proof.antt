@@ -12,7 +12,6 @@ use lib.Seq.{length-take-le}
 use Rattle.text.proofs.Writing.{wrote-as}
 use Rattle.orbits.proofs.Laws.{shifts-below}
 use Rattle.induce.proofs.Generators.{parts-are, scalars-small}
-use borrow.Author.Needs.{needs}
 use Rattle.induce.proofs.append_one.Statement.{statement}
 use Rattle.induce.proofs.append_one.Tie as tie
 

@@ -5,7 +5,6 @@ use native.Mathlib.Omega.{arith}
 use denote.Ref.{now}
 use borrow.Author.Needs.{needs}
 use Rattle.induce.proofs.Cases.{by-low, by-next, by-last, by-above}
-use borrow.Author.Needs.{needs}
 use Rattle.induce.proofs.block_by.Statement.{statement}
 use Rattle.induce.proofs.block_by.Tie as tie
 

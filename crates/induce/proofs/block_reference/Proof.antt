@@ -5,7 +5,6 @@ use native.Mathlib.Omega.{arith}
 use denote.Ref.{now}
 use borrow.Author.Needs.{needs}
 use Rattle.induce.proofs.Cases.{reference-low, reference-above}
-use borrow.Author.Needs.{needs}
 use Rattle.induce.proofs.block_reference.Statement.{statement}
 use Rattle.induce.proofs.block_reference.Tie as tie
 

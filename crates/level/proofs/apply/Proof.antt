@@ -1,5 +1,5 @@
 -- `apply` reads one line and adds two exponents.
-use mathlib.Core.Path.{_≡_, ap, ap₂, sym, _∙_}
+use mathlib.Core.Path.{ap, ap₂, sym, _∙_}
 use Prim.Native.Nat.{_+_, _%_}
 use denote.Ref.{now}
 use Rattle.definitions.specs.declared.Entry.{Entry}

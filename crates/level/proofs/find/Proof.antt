@@ -36,7 +36,8 @@ loop-less c = omega arith
 loop-again : tie.Need-loop-again Inv-loop μ-loop
 loop-again c = let z = c .before .before .before .before .before in
     let l = c .before .before .before .loop in
-    halved-low (now (z .args .words)) (z .args .i) (z .args .r) (l .lo) (l .hi) (l .lo + (l .hi - l .lo) / 2) (z .pre .1) (l .inv) (omega arith) (sym (c .before .stands-before .ensures) ∙ c .if1 .taken)
+    halved-low (now (z .args .words)) (z .args .i) (z .args .r) (l .lo) (l .hi) (l .lo + (l .hi - l .lo) / 2) (z .pre .1) (l .inv) (omega arith) (sym
+    (c .before .stands-before .ensures) ∙ c .if1 .taken)
 
 loop-less-2 : tie.Need-loop-less-2 Inv-loop μ-loop
 loop-less-2 c = omega arith
@@ -44,10 +45,26 @@ loop-less-2 c = omega arith
 loop-again-2 : tie.Need-loop-again-2 Inv-loop μ-loop
 loop-again-2 c = let z = c .before .before .before .before .before in
     let l = c .before .before .before .loop in
-    halved-high (now (z .args .words)) (z .args .i) (z .args .r) (l .lo) (l .hi) (l .lo + (l .hi - l .lo) / 2) (z .pre .1) (l .inv) (omega arith) (omega arith) (sym (c .before .stands-before .ensures) ∙ c .if1 .left)
+    halved-high (now (z .args .words)) (z .args .i) (z .args .r) (l .lo) (l .hi) (l .lo + (l .hi - l .lo) / 2) (z .pre .1) (l .inv) (omega arith)
+    (omega arith) (sym (c .before .stands-before .ensures) ∙ c .if1 .left)
 
 returns : tie.Need-returns Inv-loop μ-loop
-returns c = let z = c .before .before .before in halved-all (now (z .args .words)) (z .args .i) (z .args .r) (c .before .loop .lo) (c .before .loop .hi) (c .before .loop .inv) (omega arith)
+returns c = let z = c .before .before .before in
+    halved-all (now (z .args .words)) (z .args .i) (z .args .r) (c .before .loop .lo) (c .before .loop .hi) (c .before .loop .inv) (omega arith)
 
 pub find-spec : {M : Type 1} → statement M
-find-spec = tie.close (tie.spec Inv-loop μ-loop loop-holds sub-mid add-mid stands-before-requires add-lo loop-less loop-again loop-less-2 loop-again-2 returns)
+find-spec =
+    tie.close
+    (tie.spec
+    Inv-loop
+    μ-loop
+    loop-holds
+    sub-mid
+    add-mid
+    stands-before-requires
+    add-lo
+    loop-less
+    loop-again
+    loop-less-2
+    loop-again-2
+    returns)

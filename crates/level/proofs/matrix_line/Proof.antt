@@ -18,13 +18,15 @@ mul-result c = let z = c .before .before in
     omega (arith, e, z .pre)
 
 add-result : tie.Need-add-result
-add-result c = let z = c .before .before .before in
-    let e : c .before .before .up .result * c .before .up2 .result ≡ z .args .g * z .args .d .deg = ap₂ (λ a b. a * b) (c .before .before .up .ensures) (c .before .up2 .ensures) in
+add-result c = let up′ = c .before .before .up in
+    let z = c .before .before .before in
+    let e : up′ .result * c .before .up2 .result ≡ z .args .g * z .args .d .deg = ap₂ (λ a b. a * b) (up′ .ensures) (c .before .up2 .ensures) in
     omega (arith, e, z .pre)
 
 returns : tie.Need-returns
-returns c = let z = c .before .before .before in
-    let e : c .before .before .up .result * c .before .up2 .result ≡ z .args .g * z .args .d .deg = ap₂ (λ a b. a * b) (c .before .before .up .ensures) (c .before .up2 .ensures) in
+returns c = let up′ = c .before .before .up in
+    let z = c .before .before .before in
+    let e : up′ .result * c .before .up2 .result ≡ z .args .g * z .args .d .deg = ap₂ (λ a b. a * b) (up′ .ensures) (c .before .up2 .ensures) in
     omega (arith, e, z .pre)
 
 pub matrix-line-spec : {M : Type 1} → statement M

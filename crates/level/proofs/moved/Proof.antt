@@ -12,14 +12,23 @@ use Rattle.level.proofs.moved.Tie as tie
 
 matrix-line-requires : tie.Need-matrix-line-requires
 matrix-line-requires c κs = let z = c .before in
-    let f : 8 * (lineIn (z .args .d) (z .args .g) + z .args .d .deg) ≤ length (now (z .args .words)) = z .pre .0 .holds (z .args .g) (le-refl _) .fits in
+    let f : 8 * (lineIn (z .args .d) (z .args .g) + z .args .d .deg) ≤ length (now (z .args .words)) = z .pre .0 .holds (z .args .g)
+    (le-refl _) .fits in
     omega (arith, f, z .good)
 
 apply-requires : tie.Need-apply-requires
-apply-requires c κs = let z = c .before .before in (subst (λ l. Holds (z .args .m) (now (z .args .words)) l (z .args .d .deg)) (sym (c .matrix-line .ensures)) (z .pre .0 .holds (z .args .g) (le-refl _)), z .pre .1)
+apply-requires c κs = let z = c .before .before in (
+  subst (λ l. Holds (z .args .m) (now (z .args .words)) l (z .args .d .deg)) (sym (c .matrix-line .ensures)) (z .pre .0 .holds (z .args .g)
+      (le-refl _)),
+  z .pre .1,
+)
 
 returns : tie.Need-returns
-returns c = let z = c .before .before .before in (c .apply .ensures .0 ∙ ap (λ l. act (z .args .m) (matrixIn (now (z .args .words)) l (z .args .d .deg)) (z .args .x)) (c .before .matrix-line .ensures), c .apply .ensures .1)
+returns c = let z = c .before .before .before in (
+  c .apply .ensures .0 ∙ ap (λ l. act (z .args .m) (matrixIn (now (z .args .words)) l (z .args .d .deg)) (z .args .x))
+      (c .before .matrix-line .ensures),
+  c .apply .ensures .1,
+)
 
 pub moved-spec : {M : Type 1} → statement M
 moved-spec = tie.close (tie.spec matrix-line-requires apply-requires returns)

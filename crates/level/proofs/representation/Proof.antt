@@ -1,6 +1,5 @@
 -- `representation` reads the degree.
 use mathlib.Core.Path.{ap}
-use Rattle.level.specs.declared.Listed.{Listed}
 use borrow.Author.Needs.{needs}
 use Rattle.level.proofs.representation.Statement.{statement}
 use Rattle.level.proofs.representation.Tie as tie

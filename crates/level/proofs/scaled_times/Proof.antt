@@ -37,33 +37,46 @@ returns-2 c = let z = c .before .before .before .before in
 
 matrix-line-requires : tie.Need-matrix-line-requires Inv-loop μ-loop
 matrix-line-requires c κs = let z = c .before .before .before .before .before .before .before in
-    let f : 8 * (lineIn (z .args .d) (z .args .g) + z .args .d .deg) ≤ length (now (z .args .words)) = z .pre .0 .holds (z .args .g) (le-refl _) .fits in
+    let f : 8 * (lineIn (z .args .d) (z .args .g) + z .args .d .deg) ≤ length (now (z .args .words)) = z .pre .0 .holds (z .args .g)
+    (le-refl _) .fits in
     omega (arith, f, z .good)
 
 column-requires : tie.Need-column-requires Inv-loop μ-loop
-column-requires c κs = let z = c .before .before .before .before .before .before .before .before in (subst (λ l. Holds (z .args .m) (now (z .args .words)) l (z .args .d .deg)) (sym (c .matrix-line .ensures)) (z .pre .0 .holds (z .args .g) (le-refl _)), z .pre .1 .row)
+column-requires c κs = let z = c .before .before .before .before .before .before .before .before in (
+  subst (λ l. Holds (z .args .m) (now (z .args .words)) l (z .args .d .deg)) (sym (c .matrix-line .ensures)) (z .pre .0 .holds (z .args .g)
+      (le-refl _)),
+  z .pre .1 .row,
+)
 
 add-mod-requires : tie.Need-add-mod-requires Inv-loop μ-loop
-add-mod-requires c κs = let z = c .before .before .before .before .before .before .before .before .before in (c .column .ensures .1 .exp, z .pre .2, z .pre .0 .holds (z .args .g) (le-refl _) .small)
+add-mod-requires c κs = let z = c .before .before .before .before .before .before .before .before .before in
+    (c .column .ensures .1 .exp, z .pre .2, z .pre .0 .holds (z .args .g) (le-refl _) .small)
 
 add-times-requires : tie.Need-add-times-requires Inv-loop μ-loop
-add-times-requires c κs = let z = c .before .before .before .before .before .before .before .before .before .before in (z .pre .1 .exp, c .add-mod .ensures .1, z .pre .0 .holds (z .args .g) (le-refl _) .small)
+add-times-requires c κs = let z = c .before .before .before .before .before .before .before .before .before .before in
+    (z .pre .1 .exp, c .add-mod .ensures .1, z .pre .0 .holds (z .args .g) (le-refl _) .small)
 
 returns-3 : tie.Need-returns-3 Inv-loop μ-loop
 unfolding plus
-returns-3 c = let z = c .before .before .before .before .before .before .before .before .before .before .before in
+returns-3 c = let column′ = c .before .before .column in
+    let matrix-line′ = c .before .before .before .matrix-line in
+    let if3′ = c .before .before .before .before .if3 in
+    let scaled′ = c .before .before .before .before .before .before .before .before .scaled in
+    let z = c .before .before .before .before .before .before .before .before .before .before .before in
     let W = now (z .args .words) in
     let m = z .args .m in
     let d = z .args .d in
     let x = z .args .x in
     let at = lineIn d (z .args .g) in
-    let e : c .before .before .column .result ≡ entryIn W (at + x .row) = c .before .before .column .ensures .0 ∙ ap (λ l. entryIn W (l + x .row)) (c .before .before .before .matrix-line .ensures) in
-    let y : c .before .before .before .before .before .before .before .before .scaled .result .row ≡ entryIn W (at + x .row) .row = ap (λ (t : Entry). t .row) (c .before .before .before .before .before .before .before .before .scaled .ensures .0 ∙ ap (plus m (z .args .c)) (act-in m W at (d .deg) x (z .pre .1 .row))) in
-    let row : entryIn W (at + x .row) .row ≡ x .row = sym y ∙ c .before .before .before .before .if3 .taken in
+    let e : column′ .result ≡ entryIn W (at + x .row) = column′ .ensures .0 ∙ ap (λ l. entryIn W (l + x .row)) (matrix-line′ .ensures) in
+    let y : scaled′ .result .row ≡ entryIn W (at + x .row) .row = ap (λ (t : Entry). t .row) (scaled′ .ensures .0
+    ∙ ap (plus m (z .args .c)) (act-in m W at (d .deg) x (z .pre .1 .row))) in
+    let row : entryIn W (at + x .row) .row ≡ x .row = sym y ∙ if3′ .taken in
     let s = c .before .add-mod .ensures .0 ∙ ap (λ (t : Entry). (t .exp + z .args .c) % m) e in
     let f : Entry → Entry = λ y. plus m (z .args .c) (act m (matrixIn W at (d .deg)) y) in (
       ap (entry (x .row)) (c .add-times .ensures .0 ∙ ap (λ t. (x .exp + z .args .k * t) % m) s)
-          ∙ sym (iter-fixed m (x .row) ((entryIn W (at + x .row) .exp + z .args .c) % m) f (plus-fixed m W at (d .deg) (x .row) (z .pre .1 .row) row (z .args .c)) (z .args .k) (x .exp) (z .pre .1 .exp)),
+          ∙ sym (iter-fixed m (x .row) ((entryIn W (at + x .row) .exp + z .args .c) % m) f (plus-fixed m W at (d .deg) (x .row) (z .pre .1 .row) row
+          (z .args .c)) (z .args .k) (x .exp) (z .pre .1 .exp)),
       record { row = z .pre .1 .row; exp = c .add-times .ensures .1 },
     )
 
@@ -71,7 +84,11 @@ loop-holds : tie.Need-loop-holds Inv-loop μ-loop
 loop-holds c = (search needs, omega arith, sym (iter-zero _ _), c .before .before .before .before .scaled .ensures .1)
 
 scaled-requires-2 : tie.Need-scaled-requires-2 Inv-loop μ-loop
-scaled-requires-2 c κs = (c .before .before .before .before .before .before .before .before .before .pre .0, c .before .loop .inv .3, c .before .before .before .before .before .before .before .before .before .pre .2)
+scaled-requires-2 c κs = (
+  c .before .before .before .before .before .before .before .before .before .pre .0,
+  c .before .loop .inv .3,
+  c .before .before .before .before .before .before .before .before .before .pre .2,
+)
 
 add-i : tie.Need-add-i Inv-loop μ-loop
 add-i c = search needs
@@ -83,15 +100,43 @@ loop-again : tie.Need-loop-again Inv-loop μ-loop
 loop-again c = let z = c .before .before .before .before .before .before .before .before .before .before in
     let l = c .before .before .loop in
     let f : Entry → Entry = λ y. plus (z .args .m) (z .args .c) (act (z .args .m) (generatorIn (now (z .args .words)) (z .args .d) (z .args .g)) y) in
-    let s : l .i - 1 + 1 ≡ l .i + 1 - 1 = omega arith in
-    (search needs, omega arith, c .scaled2 .ensures .0 ∙ ap f (l .inv .2) ∙ sym (iter-next f (l .i - 1) (c .before .before .before .before .before .before .before .scaled .result)) ∙ ap (λ n. iter f n (c .before .before .before .before .before .before .before .scaled .result)) s, c .scaled2 .ensures .1)
+    let s : l .i - 1 + 1 ≡ l .i + 1 - 1 = omega arith in (
+      search needs,
+      omega arith,
+      c .scaled2 .ensures .0 ∙ ap f (l .inv .2)
+          ∙ sym (iter-next f (l .i - 1) (c .before .before .before .before .before .before .before .scaled .result))
+          ∙ ap (λ n. iter f n (c .before .before .before .before .before .before .before .scaled .result)) s,
+      c .scaled2 .ensures .1,
+    )
 
 returns-4 : tie.Need-returns-4 Inv-loop μ-loop
-returns-4 c = let z = c .before .before .before .before .before .before .before .before .before in
+returns-4 c = let scaled′ = c .before .before .before .before .before .before .scaled in
+    let z = c .before .before .before .before .before .before .before .before .before in
     let l = c .before .loop in
     let f : Entry → Entry = λ y. plus (z .args .m) (z .args .c) (act (z .args .m) (generatorIn (now (z .args .words)) (z .args .d) (z .args .g)) y) in
-    let e : l .i - 1 ≡ z .args .k - 1 = omega arith in
-    (l .inv .2 ∙ ap (λ n. iter f n (c .before .before .before .before .before .before .scaled .result)) e ∙ iter-rest f (z .args .k) (z .args .x) (c .before .before .before .before .before .before .scaled .result) (omega arith) (c .before .before .before .before .before .before .scaled .ensures .0), l .inv .3)
+    let e : l .i - 1 ≡ z .args .k - 1 = omega arith in (
+      l .inv .2 ∙ ap (λ n. iter f n (scaled′ .result)) e
+          ∙ iter-rest f (z .args .k) (z .args .x) (scaled′ .result) (omega arith) (scaled′ .ensures .0),
+      l .inv .3,
+    )
 
 pub scaled-times-spec : {M : Type 1} → statement M
-scaled-times-spec = tie.close (tie.spec Inv-loop μ-loop returns scaled-requires returns-2 matrix-line-requires column-requires add-mod-requires add-times-requires returns-3 loop-holds scaled-requires-2 add-i loop-less loop-again returns-4)
+scaled-times-spec =
+    tie.close
+    (tie.spec
+    Inv-loop
+    μ-loop
+    returns
+    scaled-requires
+    returns-2
+    matrix-line-requires
+    column-requires
+    add-mod-requires
+    add-times-requires
+    returns-3
+    loop-holds
+    scaled-requires-2
+    add-i
+    loop-less
+    loop-again
+    returns-4)

@@ -13,7 +13,11 @@ use Rattle.level.proofs.single_times.Statement.{statement}
 use Rattle.level.proofs.single_times.Tie as tie
 
 returns : tie.Need-returns
-returns c = let z = c .before .before in (sym (ap (λ n. iter (act (z .args .m) (matrixIn (now (z .args .words)) (z .args .at) 1)) n (entry 0 (z .args .e))) (c .if1 .taken) ∙ iter-zero _ _), z .pre .1)
+returns c = let z = c .before .before in (
+  sym (ap (λ n. iter (act (z .args .m) (matrixIn (now (z .args .words)) (z .args .at) 1)) n (entry 0 (z .args .e))) (c .if1 .taken)
+      ∙ iter-zero _ _),
+  z .pre .1,
+)
 
 column-requires : tie.Need-column-requires
 column-requires c κs = let z = c .before .before in (z .pre .0, omega arith)
@@ -27,7 +31,8 @@ returns-2 c = let z = c .before .before .before .before in
     let e = ap (λ (x : Entry). x .exp) (c .before .column .ensures .0) in
     let row : entryIn W (z .args .at + 0) .row ≡ 0 = omega (arith, z .pre .0 .valid 0 (omega arith) .row) in (
       ap (entry 0) (c .add-times .ensures .0 ∙ ap (λ x. (z .args .e + z .args .k * x) % z .args .m) e)
-          ∙ sym (iter-fixed (z .args .m) 0 (entryIn W (z .args .at + 0) .exp) (act (z .args .m) (matrixIn W (z .args .at) 1)) (act-fixed (z .args .m) W (z .args .at) 1 0 (omega arith) row) (z .args .k) (z .args .e) (z .pre .1)),
+          ∙ sym (iter-fixed (z .args .m) 0 (entryIn W (z .args .at + 0) .exp) (act (z .args .m) (matrixIn W (z .args .at) 1)) (act-fixed
+          (z .args .m) W (z .args .at) 1 0 (omega arith) row) (z .args .k) (z .args .e) (z .pre .1)),
       c .add-times .ensures .1,
     )
 

@@ -12,12 +12,14 @@ use Rattle.level.proofs.target.Tie as tie
 
 matrix-line-requires : tie.Need-matrix-line-requires
 matrix-line-requires c κs = let z = c .before in
-    let f : 8 * (lineIn (z .args .d) (z .args .g) + z .args .d .deg) ≤ length (now (z .args .words)) = z .pre .1 .holds (z .args .g) (le-refl _) .fits in
+    let f : 8 * (lineIn (z .args .d) (z .args .g) + z .args .d .deg) ≤ length (now (z .args .words)) = z .pre .1 .holds (z .args .g)
+    (le-refl _) .fits in
     omega (arith, f, z .good)
 
 word-at-requires : tie.Need-word-at-requires
 word-at-requires c κs = let z = c .before .before in
-    let f : 8 * (lineIn (z .args .d) (z .args .g) + z .args .d .deg) ≤ length (now (z .args .words)) = z .pre .1 .holds (z .args .g) (le-refl _) .fits in
+    let f : 8 * (lineIn (z .args .d) (z .args .g) + z .args .d .deg) ≤ length (now (z .args .words)) = z .pre .1 .holds (z .args .g)
+    (le-refl _) .fits in
     (omega (arith, f, c .matrix-line .ensures, z .pre .1 .positive), omega arith)
 
 returns : tie.Need-returns

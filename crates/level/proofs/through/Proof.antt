@@ -13,7 +13,8 @@ moved-requires : tie.Need-moved-requires
 moved-requires c κs = let z = c .before in (z .pre .0, record { row = z .pre .0 .positive; exp = omega arith })
 
 scaled-requires : tie.Need-scaled-requires
-scaled-requires c κs = let z = c .before .before in (z .pre .1, subst (λ d. Below (z .args .m) d (c .moved .result)) (sym (z .pre .2)) (c .moved .ensures .1), z .pre .3)
+scaled-requires c κs = let z = c .before .before in
+    (z .pre .1, subst (λ d. Below (z .args .m) d (c .moved .result)) (sym (z .pre .2)) (c .moved .ensures .1), z .pre .3)
 
 returns : tie.Need-returns
 returns c = let z = c .before .before .before in

@@ -1,6 +1,6 @@
 -- `walk_word`: after k generators r is what their part of the word makes of x.
 use borrow.Author.Needs.{needs}
-use mathlib.Core.Path.{_≡_, sym, ap, ap₂, _∙_, subst}
+use mathlib.Core.Path.{_≡_, sym, ap, ap₂, _∙_}
 use Prim.Native.Nat.{ℕ, _≤_, _-_, _+_, _*_}
 use native.Mathlib.Omega.{arith}
 use native.Mathlib.Numerals.{add-one}
@@ -10,7 +10,7 @@ use Rattle.definitions.specs.Lists.{iter}
 use Rattle.definitions.specs.Presentation.{toNF}
 use Rattle.definitions.specs.Monomial.{Matrix, act}
 use Rattle.formulas.specs.Formulas.{walk}
-use Rattle.level.specs.Stored.{matrixIn, Below, Holds}
+use Rattle.level.specs.Stored.{matrixIn, Below}
 use Rattle.level.proofs.Laws.{walk-zero, walk-next}
 use Rattle.level.proofs.walk_word.Statement.{statement}
 use Rattle.level.proofs.walk_word.Tie as tie

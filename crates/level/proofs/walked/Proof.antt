@@ -13,7 +13,11 @@ use Rattle.level.proofs.walked.Statement.{statement}
 use Rattle.level.proofs.walked.Tie as tie
 
 single-word-requires : tie.Need-single-word-requires
-single-word-requires c κs = let z = c .before .before .before in (z .pre .0, λ k l. subst (λ e. Holds (z .args .m) (now (z .args .words)) (z .args .d .line + k * e) e) (c .if1 .taken) (z .pre .1 .holds k l), z .pre .2 .exp)
+single-word-requires c κs = let z = c .before .before .before in (
+  z .pre .0,
+  λ k l. subst (λ e. Holds (z .args .m) (now (z .args .words)) (z .args .d .line + k * e) e) (c .if1 .taken) (z .pre .1 .holds k l),
+  z .pre .2 .exp,
+)
 
 returns : tie.Need-returns
 returns c = let z = c .before .before .before .before in

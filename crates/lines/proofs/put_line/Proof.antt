@@ -1,8 +1,8 @@
 -- `put_line`: eight stores in a row.
+use Prim.Native.Nat.{_*_}
+use native.Mathlib.Omega.{arith}
 use lib.ListN.{length-set}
 use denote.Ref.{now}
-use native.Mathlib.Omega.{arith}
-use Prim.Native.Nat.{_*_}
 use Rattle.lines.specs.Lines.{headLine}
 use Rattle.lines.proofs.Laws.{put-eight}
 use borrow.Author.Needs.{needs}
@@ -12,14 +12,17 @@ use Rattle.lines.proofs.put_line.Tie as tie
 mul-i : tie.Need-mul-i
 mul-i c = search needs
 
+add-words : tie.Need-add-words
+add-words c = search needs
+
 mul-words : tie.Need-mul-words
 mul-words c = search needs
 
 slice-write-words : tie.Need-slice-write-words
 slice-write-words c = search needs
 
-add-words : tie.Need-add-words
-add-words c = search needs
+add-words-2 : tie.Need-add-words-2
+add-words-2 c = search needs
 
 mul-words-2 : tie.Need-mul-words-2
 mul-words-2 c = search needs
@@ -27,8 +30,8 @@ mul-words-2 c = search needs
 slice-write-words-2 : tie.Need-slice-write-words-2
 slice-write-words-2 c = simp length-set (omega arith)
 
-add-words-2 : tie.Need-add-words-2
-add-words-2 c = search needs
+add-words-3 : tie.Need-add-words-3
+add-words-3 c = search needs
 
 mul-words-3 : tie.Need-mul-words-3
 mul-words-3 c = search needs
@@ -36,8 +39,8 @@ mul-words-3 c = search needs
 slice-write-words-3 : tie.Need-slice-write-words-3
 slice-write-words-3 c = simp length-set (omega arith)
 
-add-words-3 : tie.Need-add-words-3
-add-words-3 c = search needs
+add-words-4 : tie.Need-add-words-4
+add-words-4 c = search needs
 
 mul-words-4 : tie.Need-mul-words-4
 mul-words-4 c = search needs
@@ -45,8 +48,8 @@ mul-words-4 c = search needs
 slice-write-words-4 : tie.Need-slice-write-words-4
 slice-write-words-4 c = simp length-set (omega arith)
 
-add-words-4 : tie.Need-add-words-4
-add-words-4 c = search needs
+add-words-5 : tie.Need-add-words-5
+add-words-5 c = search needs
 
 mul-words-5 : tie.Need-mul-words-5
 mul-words-5 c = search needs
@@ -54,8 +57,8 @@ mul-words-5 c = search needs
 slice-write-words-5 : tie.Need-slice-write-words-5
 slice-write-words-5 c = simp length-set (omega arith)
 
-add-words-5 : tie.Need-add-words-5
-add-words-5 c = search needs
+add-words-6 : tie.Need-add-words-6
+add-words-6 c = search needs
 
 mul-words-6 : tie.Need-mul-words-6
 mul-words-6 c = search needs
@@ -63,8 +66,8 @@ mul-words-6 c = search needs
 slice-write-words-6 : tie.Need-slice-write-words-6
 slice-write-words-6 c = simp length-set (omega arith)
 
-add-words-6 : tie.Need-add-words-6
-add-words-6 c = search needs
+add-words-7 : tie.Need-add-words-7
+add-words-7 c = search needs
 
 mul-words-7 : tie.Need-mul-words-7
 mul-words-7 c = search needs
@@ -72,8 +75,8 @@ mul-words-7 c = search needs
 slice-write-words-7 : tie.Need-slice-write-words-7
 slice-write-words-7 c = simp length-set (omega arith)
 
-add-words-7 : tie.Need-add-words-7
-add-words-7 c = search needs
+add-words-8 : tie.Need-add-words-8
+add-words-8 c = search needs
 
 mul-words-8 : tie.Need-mul-words-8
 mul-words-8 c = search needs
@@ -89,38 +92,42 @@ same-length c = search needs
 
 returns : tie.Need-returns
 unfolding headLine
-returns c = record {
-  content = put-eight (now (c .args .words)) (8 * c .args .at) (c .args .h .level) (c .args .h .rep) (c .args .h .deg) (c .args .h .generator) (c .args .h .refn) (c .args .k) (c .args .x .row) (c .args .x .exp) (omega arith);
-  end = omega arith;
-  room = omega arith;
-}
+returns c = let z = c in
+    let h = z .args .h in
+    record {
+      content = put-eight (now (z .args .words)) (8 * z .args .at) (h .level) (h .rep) (h .deg) (h .generator) (h .refn) (z .args .k)
+          (z .args .x .row) (z .args .x .exp) (omega arith);
+      end = omega arith;
+      room = omega arith;
+    }
 
 pub put-line-spec : {M : Type 1} → statement M
 put-line-spec =
     tie.close
     (tie.spec
     mul-i
+    add-words
     mul-words
     slice-write-words
-    add-words
+    add-words-2
     mul-words-2
     slice-write-words-2
-    add-words-2
+    add-words-3
     mul-words-3
     slice-write-words-3
-    add-words-3
+    add-words-4
     mul-words-4
     slice-write-words-4
-    add-words-4
+    add-words-5
     mul-words-5
     slice-write-words-5
-    add-words-5
+    add-words-6
     mul-words-6
     slice-write-words-6
-    add-words-6
+    add-words-7
     mul-words-7
     slice-write-words-7
-    add-words-7
+    add-words-8
     mul-words-8
     slice-write-words-8
     add-result

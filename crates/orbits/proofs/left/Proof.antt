@@ -35,8 +35,11 @@ returns c = let z = c .before .before .before .before .before .before in
     let L = c .before .listed .ensures in
     let m = z .args .f .m in
     let d = located-degree L ∙ o .2 in
-    let F : ℕ → Entry = λ q. act m (sourceIn (z .args .f) (now (z .args .low)) [] .matrix q (z .args .j)) (z .args .s .x) in
-    (ap (λ (t : Entry). t .exp) (c .moved .ensures .0 ∙ ap (λ M. act m M (z .args .s .x)) (located-matrix L (z .args .j)) ∙ ap F (o .0)), c .moved .ensures .1 .exp)
+    let F : ℕ → Entry = λ q. act m (sourceIn (z .args .f) (now (z .args .low)) [] .matrix q (z .args .j)) (z .args .s .x) in (
+      ap (λ (t : Entry). t .exp) (c .moved .ensures .0 ∙ ap (λ M. act m M (z .args .s .x)) (located-matrix L (z .args .j))
+          ∙ ap F (o .0)),
+      c .moved .ensures .1 .exp,
+    )
 
 pub left-spec : {M : Type 1} → statement M
 left-spec = tie.close (tie.spec element-requires listed-requires moved-requires returns)

@@ -26,19 +26,31 @@ listed-requires : tie.Need-listed-requires Inv-loop μ-loop
 listed-requires c κs = let z = c .before .before .before in (z .pre .0, z .pre .1, z .pre .2)
 
 loop-holds : tie.Need-loop-holds Inv-loop μ-loop
-loop-holds c = let z = c .before .before .before .before in
-    (search needs, search needs, sym (iter-zero _ (z .args .r)), refl, filled-none (now (z .args .orbit)) (λ j. iter (targetOf (z .args .f) (now (z .args .low)) (z .args .f .top)) j (z .args .r)), located-degree (c .listed .ensures))
+loop-holds c = let z = c .before .before .before .before in (
+  search needs,
+  search needs,
+  sym (iter-zero _ (z .args .r)),
+  refl,
+  filled-none (now (z .args .orbit)) (λ j. iter (targetOf (z .args .f) (now (z .args .low)) (z .args .f .top)) j (z .args .r)),
+  located-degree (c .listed .ensures),
+)
 
 store-requires : tie.Need-store-requires Inv-loop μ-loop
 store-requires c κs = omega (arith, c .before .before .loop .inv .3, c .before .before .before .before .before .before .before .pre .3)
 
 member-requires : tie.Need-member-requires Inv-loop μ-loop
 member-requires c κs = let z = c .before .before .before .before .before .before .before .before .before .before in
-    let l = c .before .before .before .before .before .loop in
-    (z .pre .0, z .pre .1, subst (λ x. x < z .args .f .reps) (sym (l .inv .2)) (orbit-inside (z .args .f) (now (z .args .low)) (z .pre .0) (z .args .r) (l .k) (z .pre .2)), l .inv .5)
+    let l = c .before .before .before .before .before .loop in (
+      z .pre .0,
+      z .pre .1,
+      subst (λ x. x < z .args .f .reps) (sym (l .inv .2)) (orbit-inside (z .args .f) (now (z .args .low)) (z .pre .0)
+          (z .args .r) (l .k) (z .pre .2)),
+      l .inv .5,
+    )
 
 target-requires : tie.Need-target-requires Inv-loop μ-loop
-target-requires c κs = let z = c .before .before .before .before .before .before .before .before .before .before .before in (z .args .f .m, located-stored (c .member .ensures) (suc (z .args .f .top)) (z .pre .0 .gens .0))
+target-requires c κs = let z = c .before .before .before .before .before .before .before .before .before .before .before in
+    (z .args .f .m, located-stored (c .member .ensures) (suc (z .args .f .top)) (z .pre .0 .gens .0))
 
 add-k : tie.Need-add-k Inv-loop μ-loop
 add-k c = search needs
@@ -57,7 +69,8 @@ loop-again c = let z = c .before .before .before .before .before .before .before
       search needs,
       t .0 ∙ ap τ (l .inv .2) ∙ sym (iter-next τ (l .k) (z .args .r)),
       ap length a ∙ length-set (l .orbit) (l .k) (l .q) ∙ l .inv .3,
-      subst (λ x. Filled x (λ j. iter τ j (z .args .r)) (l .k + 1)) (sym a) (filled-more (l .orbit) (λ j. iter τ j (z .args .r)) (l .k) (l .q) (omega (arith, l .inv .3, z .pre .3)) (l .inv .2) (l .inv .4)),
+      subst (λ x. Filled x (λ j. iter τ j (z .args .r)) (l .k + 1)) (sym a) (filled-more (l .orbit) (λ j. iter τ j (z .args .r)) (l .k) (l .q) (omega
+          (arith, l .inv .3, z .pre .3)) (l .inv .2) (l .inv .4)),
       l .inv .5 ∙ sym (located-degree M) ∙ t .2,
     )
 
@@ -71,4 +84,18 @@ returns c = let z = c .before .before .before .before .before .before in
     record { long = omega (arith, l .inv .3, z .pre .3); at = λ k h. l .inv .4 k (omega (arith, e)) }
 
 pub list-orbit-spec : {M : Type 1} → statement M
-list-orbit-spec = tie.close (tie.spec Inv-loop μ-loop listed-requires loop-holds store-requires member-requires target-requires add-k loop-less loop-again same-length returns)
+list-orbit-spec =
+    tie.close
+    (tie.spec
+    Inv-loop
+    μ-loop
+    listed-requires
+    loop-holds
+    store-requires
+    member-requires
+    target-requires
+    add-k
+    loop-less
+    loop-again
+    same-length
+    returns)

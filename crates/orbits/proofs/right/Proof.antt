@@ -52,28 +52,47 @@ constant-requires c κs = let z = c .before .before .before .before .before .bef
     )
 
 through-requires : tie.Need-through-requires
-through-requires c κs = let z = c .before .before .before .before .before .before .before .before .before .before .before in
+through-requires c κs = let listed′ = c .before .before .before .listed in
+    let z = c .before .before .before .before .before .before .before .before .before .before .before in
     let R = z .pre .0 in
-    let L = c .before .before .before .listed .ensures in
+    let L = listed′ .ensures in
     let t = located-target L (z .args .j) _ (omega (arith, z .pre .1)) (z .pre .2) (c .before .before .target .ensures) in
-    let M = c .before .member .ensures in
-    (located-stored L (suc (z .args .j)) (z .pre .2), located-stored M (suc (z .args .f .top)) (R .stands .gens .0), located-degree M ∙ sym (t .2), c .constant .ensures .1)
+    let M = c .before .member .ensures in (
+      located-stored L (suc (z .args .j)) (z .pre .2),
+      located-stored M (suc (z .args .f .top)) (R .stands .gens .0),
+      located-degree M
+          ∙ sym (t .2),
+      c .constant .ensures .1,
+    )
 
 returns : tie.Need-returns
 unfolding rightIn
-returns c = let z = c .before .before .before .before .before .before .before .before .before .before .before .before in
+returns c = let target′ = c .before .before .before .target in
+    let listed′ = c .before .before .before .before .listed in
+    let element′ = c .before .before .before .before .before .element in
+    let z = c .before .before .before .before .before .before .before .before .before .before .before .before in
     let R = z .pre .0 in
-    let L = c .before .before .before .before .listed .ensures in
-    let t = located-target L (z .args .j) _ (omega (arith, z .pre .1)) (z .pre .2) (c .before .before .before .target .ensures) in
+    let L = listed′ .ensures in
+    let t = located-target L (z .args .j) _ (omega (arith, z .pre .1)) (z .pre .2) (target′ .ensures) in
     let f = z .args .f in
     let W = now (z .args .low) in
-    let e = c .before .before .before .before .before .element .ensures in
+    let e = element′ .ensures in
     let q = t .0 ∙ ap (targetOf f W (z .args .j)) e in
     let k = c .before .constant .ensures .0
-    ∙ ap₂ (λ a b. cond (ltb (suc a) (f .p)) 0 (getD (now (z .args .shifts)) b 0)) (R .places-are .at _ (t .1) ∙ ap (positionIn f W) q) (R .leaders-are .at _ (t .1) ∙ ap (leaderIn f W) q) in
+    ∙ ap₂ (λ a b. cond (ltb (suc a) (f .p)) 0 (getD (now (z .args .shifts)) b 0)) (R .places-are .at _ (t .1)
+    ∙ ap (positionIn f W) q) (R .leaders-are .at _ (t .1) ∙ ap (leaderIn f W) q) in
     let d = L .is ∙ ap (listedOf f W) e in
     let d′ = c .before .before .member .ensures .is ∙ ap (listedOf f W) q in
     (c .through .ensures .0 ∙ (λ o. throughIn (f .m) W (d o) (z .args .j) (d′ o) (f .top) (k o)), c .through .ensures .1)
 
 pub right-spec : {M : Type 1} → statement M
-right-spec = tie.close (tie.spec element-requires listed-requires target-requires member-requires constant-requires through-requires returns)
+right-spec =
+    tie.close
+    (tie.spec
+    element-requires
+    listed-requires
+    target-requires
+    member-requires
+    constant-requires
+    through-requires
+    returns)

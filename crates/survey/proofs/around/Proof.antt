@@ -18,15 +18,23 @@ use Rattle.survey.proofs.around.Statement.{statement}
 use Rattle.survey.proofs.around.Tie as tie
 
 abbrev Inv-loop : tie.InvT-loop
-Inv-loop low first f d r s₀ p k₀ s k = (k ≤ p) × (p ≡ f .p) × (s .rep ≡ iter (targetOf f low (f .top)) k r) × (s .rep < f .reps) × (d .deg ≡ degOf f low (s .rep)) × (s .x ≡ aroundIn f low r k) × Below (f .m) (d .deg) (s .x)
+Inv-loop low first f d r s₀ p k₀ s k = (k ≤ p) × (p ≡ f .p) × (s .rep ≡ iter (targetOf f low (f .top)) k r) × (s .rep < f .reps) ×
+    (d .deg ≡ degOf f low (s .rep)) × (s .x ≡ aroundIn f low r k) × Below (f .m) (d .deg) (s .x)
 
 abbrev μ-loop : tie.MeasureT-loop
 μ-loop low first f d r s₀ p k₀ s k = p - k
 
 loop-holds : tie.Need-loop-holds Inv-loop μ-loop
 loop-holds c = let z = c .before .before in
-    let L = z .pre .0 in
-    (search needs, search needs, sym (iter-zero _ (z .args .r)), L .listed, located-degree L, around-zero (z .args .f) (now (z .args .low)) (z .args .r), located-column L)
+    let L = z .pre .0 in (
+      search needs,
+      search needs,
+      sym (iter-zero _ (z .args .r)),
+      L .listed,
+      located-degree L,
+      around-zero (z .args .f) (now (z .args .low)) (z .args .r),
+      located-column L,
+    )
 
 carry-requires : tie.Need-carry-requires Inv-loop μ-loop
 carry-requires c κs = let z = c .before .before .before .before in
@@ -57,8 +65,20 @@ loop-again c = let z = c .before .before .before .before .before in
 returns : tie.Need-returns Inv-loop μ-loop
 returns c = let z = c .before .before .before .before .before in
     let l = c .before .before .loop in
-    let e : l .k ≡ z .args .f .p = omega arith in
-    (l .inv .5 ∙ ap (aroundIn (z .args .f) (now (z .args .low)) (z .args .r)) e, subst (λ d. Below (z .args .f .m) d (l .s .x)) (located-degree (z .pre .0)) (l .inv .6))
+    let e : l .k ≡ z .args .f .p = omega arith in (
+      l .inv .5 ∙ ap (aroundIn (z .args .f) (now (z .args .low)) (z .args .r)) e,
+      subst (λ d. Below (z .args .f .m) d (l .s .x)) (located-degree (z .pre .0)) (l .inv .6),
+    )
 
 pub around-spec : {M : Type 1} → statement M
-around-spec = tie.close (tie.spec Inv-loop μ-loop loop-holds carry-requires add-k loop-less loop-again returns)
+around-spec =
+    tie.close
+    (tie.spec
+    Inv-loop
+    μ-loop
+    loop-holds
+    carry-requires
+    add-k
+    loop-less
+    loop-again
+    returns)

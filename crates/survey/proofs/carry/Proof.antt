@@ -13,12 +13,16 @@ member-requires : tie.Need-member-requires
 member-requires c κs = search needs
 
 target-requires : tie.Need-target-requires
-target-requires c κs = let z = c .before .before .before in (z .args .f .m, located-stored (c .member .ensures) (suc (z .args .f .top)) (z .pre .0 .gens .0))
+target-requires c κs = let z = c .before .before .before in
+    (z .args .f .m, located-stored (c .member .ensures) (suc (z .args .f .top)) (z .pre .0 .gens .0))
 
 moved-requires : tie.Need-moved-requires
 moved-requires c κs = let z = c .before .before .before .before in
-    let L = c .before .member .ensures in
-    (located-stored L (suc (z .args .f .top)) (z .pre .0 .gens .0), subst (λ d. Below (z .args .f .m) d (z .args .s .x)) (z .pre .3 ∙ sym (located-degree L)) (z .pre .4))
+    let L = c .before .member .ensures in (
+      located-stored L (suc (z .args .f .top)) (z .pre .0 .gens .0),
+      subst (λ d. Below (z .args .f .m) d (z .args .s .x)) (z .pre .3
+          ∙ sym (located-degree L)) (z .pre .4),
+    )
 
 returns : tie.Need-returns
 returns c = let z = c .before .before .before .before .before in

@@ -1,8 +1,8 @@
 -- `clear` stores x below k.
 use mathlib.Core.Path.{_≡_, refl, sym, ap, _∙_, subst}
-use Prim.Native.Nat.{ℕ, _+_, _-_, _≤_, _<_}
+use Prim.Native.Nat.{_+_, _-_, _≤_}
 use native.Mathlib.Omega.{arith}
-use lib.ListN.{length, getD, set, length-set}
+use lib.ListN.{length, set, length-set}
 use denote.Ref.{now}
 use borrow.Author.Needs.{needs}
 use Rattle.survey.proofs.Level.{Filled, filled-none, filled-more}

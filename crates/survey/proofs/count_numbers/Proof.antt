@@ -1,11 +1,11 @@
 -- `count_numbers`: c is the sum of what the representations before r give.
-use Rattle.survey.specs.Below.{numberIn, madeIn}
+use Rattle.survey.specs.Below.{numberIn}
 use Rattle.survey.proofs.Level.{Filled, filled-none, filled-more}
 use Rattle.survey.proofs.Counting.{number-zero, number-next, number-fits}
-use mathlib.Core.Path.{_≡_, refl, sym, ap, ap₂, _∙_, subst}
-use Prim.Native.Nat.{ℕ, _+_, _*_, _-_, _≤_, _<_}
+use mathlib.Core.Path.{_≡_, sym, ap, ap₂, _∙_, subst}
+use Prim.Native.Nat.{_+_, _-_, _≤_, _<_}
 use native.Mathlib.Omega.{arith}
-use lib.ListN.{length, getD, set, length-set}
+use lib.ListN.{length, set, length-set}
 use denote.Ref.{now}
 use borrow.Author.Needs.{needs}
 use Rattle.survey.proofs.count_numbers.Statement.{statement}

@@ -14,14 +14,20 @@ use Rattle.survey.proofs.find_lines.Statement.{statement}
 use Rattle.survey.proofs.find_lines.Tie as tie
 
 abbrev Inv-loop : tie.InvT-loop
-Inv-loop low first₀ f s₀ reps r₀ first s r = (r ≤ reps) × (reps ≡ f .reps) × (length first ≡ length first₀) × (s ≡ firstOf f low r) × Filled first (firstOf f low) r
+Inv-loop low first₀ f s₀ reps r₀ first s r = (r ≤ reps) × (reps ≡ f .reps) × (length first ≡ length first₀) × (s ≡ firstOf f low r) × Filled first
+    (firstOf f low) r
 
 abbrev μ-loop : tie.MeasureT-loop
 μ-loop low first₀ f s₀ reps r₀ first s r = reps - r
 
 loop-holds : tie.Need-loop-holds Inv-loop μ-loop
-loop-holds c = let z = c .before .before in
-    (omega arith, search needs, search needs, sym (first-zero (z .args .f) (now (z .args .low))), filled-none (now (z .args .first)) (firstOf (z .args .f) (now (z .args .low))))
+loop-holds c = let z = c .before .before in (
+  omega arith,
+  search needs,
+  search needs,
+  sym (first-zero (z .args .f) (now (z .args .low))),
+  filled-none (now (z .args .first)) (firstOf (z .args .f) (now (z .args .low))),
+)
 
 cast-store : tie.Need-cast-store Inv-loop μ-loop
 cast-store c = let z = c .before .before .before .before .before in
@@ -40,7 +46,8 @@ matrix-line-requires : tie.Need-matrix-line-requires Inv-loop μ-loop
 matrix-line-requires c κs = let z = c .before .before .before .before .before .before .before .before .before in
     let l = c .before .before .before .before .before .before .loop in
     let e = c .representation .ensures ∙ ap (λ s. record { line = s; deg = wordAt (now (z .args .low)) s DEG }) (l .inv .3) in
-    located-line {f = z .args .f} {W = now (z .args .low)} {r = l .r} (record { stands = z .pre .0; listed = search needs; is = e }) (z .args .f .gens) (le-refl _)
+    located-line {f = z .args .f} {W = now (z .args .low)} {r = l .r} (record { stands = z .pre .0; listed = search needs; is = e })
+    (z .args .f .gens) (le-refl _)
 
 add-r : tie.Need-add-r Inv-loop μ-loop
 add-r c = search needs
@@ -59,7 +66,8 @@ loop-again c = let z = c .before .before .before .before .before .before .before
       search needs,
       ap length a ∙ length-set (l .first) (l .r) (l .s) ∙ l .inv .2,
       c .matrix-line .ensures ∙ ap F e ∙ sym (first-next (z .args .f) (now (z .args .low)) (l .r)),
-      subst (λ x. Filled x (firstOf (z .args .f) (now (z .args .low))) (l .r + 1)) (sym a) (filled-more (l .first) _ (l .r) (l .s) room (l .inv .3) (l .inv .4)),
+      subst (λ x. Filled x (firstOf (z .args .f) (now (z .args .low))) (l .r + 1)) (sym a) (filled-more (l .first) _ (l .r) (l .s) room (l .inv .3)
+          (l .inv .4)),
     )
 
 same-length : tie.Need-same-length Inv-loop μ-loop
@@ -72,4 +80,18 @@ returns c = let z = c .before .before .before .before in
     (record { long = omega (arith, l .inv .2, z .pre .1); at = λ k h. l .inv .4 k (omega (arith, e)) }, l .inv .2)
 
 pub find-lines-spec : {M : Type 1} → statement M
-find-lines-spec = tie.close (tie.spec Inv-loop μ-loop loop-holds cast-store store-requires representation-requires matrix-line-requires add-r loop-less loop-again same-length returns)
+find-lines-spec =
+    tie.close
+    (tie.spec
+    Inv-loop
+    μ-loop
+    loop-holds
+    cast-store
+    store-requires
+    representation-requires
+    matrix-line-requires
+    add-r
+    loop-less
+    loop-again
+    same-length
+    returns)

@@ -17,13 +17,20 @@ up-requires c κs = search needs
 
 representation-requires : tie.Need-representation-requires
 representation-requires c κs = let z = c .before .before .before .before in
-    let e : c .up .result ≡ firstOf (z .args .f) (now (z .args .low)) (z .args .r) = c .up .ensures ∙ c .before .element .ensures ∙ z .pre .1 .at (z .args .r) (z .pre .2) in
+    let e : c .up .result ≡ firstOf (z .args .f) (now (z .args .low)) (z .args .r) = c .up .ensures ∙ c .before .element .ensures
+    ∙ z .pre .1 .at (z .args .r) (z .pre .2) in
     omega (arith, e, first-room (z .args .f) (now (z .args .low)) (z .pre .0) (z .args .r) (z .pre .2))
 
 returns : tie.Need-returns
 returns c = let z = c .before .before .before .before .before in
-    let e : c .before .up .result ≡ firstOf (z .args .f) (now (z .args .low)) (z .args .r) = c .before .up .ensures ∙ c .before .before .element .ensures ∙ z .pre .1 .at (z .args .r) (z .pre .2) in
-    record { stands = z .pre .0; listed = z .pre .2; is = c .representation .ensures ∙ ap (λ l. record { line = l; deg = wordAt (now (z .args .low)) l DEG }) e }
+    let e : c .before .up .result ≡ firstOf (z .args .f) (now (z .args .low)) (z .args .r) = c .before .up .ensures
+    ∙ c .before .before .element .ensures ∙ z .pre .1 .at (z .args .r) (z .pre .2) in
+    record {
+      stands = z .pre .0;
+      listed = z .pre .2;
+      is = c .representation .ensures
+          ∙ ap (λ l. record { line = l; deg = wordAt (now (z .args .low)) l DEG }) e;
+    }
 
 pub listed-spec : {M : Type 1} → statement M
 listed-spec = tie.close (tie.spec element-requires up-requires representation-requires returns)

@@ -13,7 +13,8 @@ listed-requires : tie.Need-listed-requires
 listed-requires c κs = search needs
 
 target-requires : tie.Need-target-requires
-target-requires c κs = let z = c .before .before .before .before in (z .args .f .m, located-stored (c .listed .ensures) (suc (z .args .f .top)) (z .pre .0 .gens .0))
+target-requires c κs = let z = c .before .before .before .before in
+    (z .args .f .m, located-stored (c .listed .ensures) (suc (z .args .f .top)) (z .pre .0 .gens .0))
 
 returns : tie.Need-returns
 returns c = let z = c .before .before .before .before .before .before in
@@ -24,14 +25,28 @@ element-requires : tie.Need-element-requires
 element-requires c κs = search needs
 
 returns-2 : tie.Need-returns-2
-returns-2 c = let z = c .before .before .before .before .before .before .before .before in
-    let t = located-target (c .before .before .before .before .listed .ensures) (z .args .f .top) _ (le-refl _) (z .pre .0 .gens .0) (c .before .before .before .target .ensures) in
-    made-leader (z .args .f) (now (z .args .low)) (z .args .r) (λ e. c .before .before .if1 .left (t .0 ∙ e)) (sym (c .before .element .ensures ∙ z .pre .2 .at (z .args .r) (z .pre .3)) ∙ c .if2 .taken)
+returns-2 c = let target′ = c .before .before .before .target in
+    let listed′ = c .before .before .before .before .listed in
+    let z = c .before .before .before .before .before .before .before .before in
+    let t = located-target (listed′ .ensures) (z .args .f .top) _ (le-refl _) (z .pre .0 .gens .0) (target′ .ensures) in
+    made-leader (z .args .f) (now (z .args .low)) (z .args .r) (λ e. c .before .before .if1 .left (t .0 ∙ e)) (sym (c .before .element .ensures
+    ∙ z .pre .2 .at (z .args .r) (z .pre .3)) ∙ c .if2 .taken)
 
 returns-3 : tie.Need-returns-3
-returns-3 c = let z = c .before .before .before .before .before .before .before .before in
-    let t = located-target (c .before .before .before .before .listed .ensures) (z .args .f .top) _ (le-refl _) (z .pre .0 .gens .0) (c .before .before .before .target .ensures) in
-    made-none (z .args .f) (now (z .args .low)) (z .args .r) (λ e. c .before .before .if1 .left (t .0 ∙ e)) (λ e. c .if2 .left (c .before .element .ensures ∙ z .pre .2 .at (z .args .r) (z .pre .3) ∙ e))
+returns-3 c = let target′ = c .before .before .before .target in
+    let listed′ = c .before .before .before .before .listed in
+    let z = c .before .before .before .before .before .before .before .before in
+    let t = located-target (listed′ .ensures) (z .args .f .top) _ (le-refl _) (z .pre .0 .gens .0) (target′ .ensures) in
+    made-none (z .args .f) (now (z .args .low)) (z .args .r) (λ e. c .before .before .if1 .left (t .0
+    ∙ e)) (λ e. c .if2 .left (c .before .element .ensures ∙ z .pre .2 .at (z .args .r) (z .pre .3) ∙ e))
 
 pub made-spec : {M : Type 1} → statement M
-made-spec = tie.close (tie.spec listed-requires target-requires returns element-requires returns-2 returns-3)
+made-spec =
+    tie.close
+    (tie.spec
+    listed-requires
+    target-requires
+    returns
+    element-requires
+    returns-2
+    returns-3)

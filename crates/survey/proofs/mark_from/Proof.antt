@@ -1,8 +1,6 @@
 -- `mark_from`: an unmarked representation begins its orbit.
-use mathlib.Core.Path.{_≡_, refl, sym, ap, _∙_, subst}
-use Prim.Native.Nat.{ℕ, _+_, _-_, _≤_, _<_}
-use native.Mathlib.Omega.{arith}
-use lib.ListN.{length, getD}
+use mathlib.Core.Path.{refl, sym, _∙_}
+use Prim.Native.Nat.{_-_}
 use denote.Ref.{now}
 use Rattle.survey.proofs.Marking.{marking-done, marking-skip, marking-own}
 use borrow.Author.Needs.{needs}

@@ -16,7 +16,9 @@ use Rattle.survey.proofs.mark_orbit.Statement.{statement}
 use Rattle.survey.proofs.mark_orbit.Tie as tie
 
 abbrev Inv-loop : tie.InvT-loop
-Inv-loop low first leaders₀ places₀ f r d q₀ p k₀ leaders places q k = (k ≤ p) × (p ≡ f .p) × (q ≡ iter (targetOf f low (f .top)) k r) × MarkedTo f low leaders places r k × (length leaders ≡ length leaders₀) × (length places ≡ length places₀) × (d .deg ≡ degOf f low q)
+Inv-loop low first leaders₀ places₀ f r d q₀ p k₀ leaders places q k = (k ≤ p) × (p ≡ f .p) × (q ≡ iter (targetOf f low
+    (f .top)) k r) × MarkedTo f low leaders places r k × (length leaders ≡ length leaders₀) × (length places ≡ length places₀) ×
+    (d .deg ≡ degOf f low q)
 
 abbrev μ-loop : tie.MeasureT-loop
 μ-loop low first leaders₀ places₀ f r d q₀ p k₀ leaders places q k = p - k
@@ -25,18 +27,28 @@ listed-requires : tie.Need-listed-requires Inv-loop μ-loop
 listed-requires c κs = let z = c .before .before .before .before in (z .pre .0 .0, z .pre .0 .1, z .pre .0 .2)
 
 loop-holds : tie.Need-loop-holds Inv-loop μ-loop
-loop-holds c = (search needs, search needs, sym (iter-zero _ _), c .before .before .before .before .before .pre .1, search needs, search needs, located-degree (c .listed .ensures))
+loop-holds c = (
+  search needs,
+  search needs,
+  sym (iter-zero _ _),
+  c .before .before .before .before .before .pre .1,
+  search needs,
+  search needs,
+  located-degree (c .listed .ensures),
+)
 
 mark-requires : tie.Need-mark-requires Inv-loop μ-loop
 mark-requires c κs = let z = c .before .before .before .before .before .before .before .before .before in
     let l = c .before .before .before .loop in
-    let h : l .q < z .args .f .reps = subst (λ x. x < z .args .f .reps) (sym (l .inv .2)) (orbit-inside (z .args .f) (now (z .args .low)) (z .pre .0 .0) (z .args .r) (l .k) (z .pre .0 .2)) in
+    let h : l .q < z .args .f .reps = subst (λ x. x < z .args .f .reps) (sym (l .inv .2)) (orbit-inside (z .args .f) (now (z .args .low))
+    (z .pre .0 .0) (z .args .r) (l .k) (z .pre .0 .2)) in
     (omega (arith, h, l .inv .3 .long .0), omega (arith, h, l .inv .3 .long .1))
 
 member-requires : tie.Need-member-requires Inv-loop μ-loop
 member-requires c κs = let z = c .before .before .before .before .before .before .before .before .before .before .before .before .before .before in
     let l = c .before .before .before .before .before .before .before .before .loop in
-    let h : l .q < z .args .f .reps = subst (λ x. x < z .args .f .reps) (sym (l .inv .2)) (orbit-inside (z .args .f) (now (z .args .low)) (z .pre .0 .0) (z .args .r) (l .k) (z .pre .0 .2)) in
+    let h : l .q < z .args .f .reps = subst (λ x. x < z .args .f .reps) (sym (l .inv .2)) (orbit-inside (z .args .f) (now (z .args .low))
+    (z .pre .0 .0) (z .args .r) (l .k) (z .pre .0 .2)) in
     (z .pre .0 .0, z .pre .0 .1, h, l .inv .6)
 
 target-requires : tie.Need-target-requires Inv-loop μ-loop
@@ -57,7 +69,8 @@ loop-again c = let z = c .before .before .before .before .before .before .before
       search needs,
       search needs,
       t .0 ∙ ap τ (l .inv .2) ∙ sym (iter-next τ (l .k) (z .args .r)),
-      marking-step (z .args .f) (now (z .args .low)) (z .pre .0 .0) (z .args .r) (z .pre .0 .2) (z .pre .0 .3) (l .k) (l .leaders) (l .places) _ _ (search needs) (l .inv .3) (rw (l .inv .2) at N),
+      marking-step (z .args .f) (now (z .args .low)) (z .pre .0 .0) (z .args .r) (z .pre .0 .2) (z .pre .0 .3) (l .k) (l .leaders) (l .places) _ _
+          (search needs) (l .inv .3) (rw (l .inv .2) at N),
       N .lengths .0 ∙ l .inv .4,
       N .lengths .1 ∙ l .inv .5,
       l .inv .6 ∙ sym (located-degree (c .before .member .ensures)) ∙ t .2,
@@ -76,4 +89,19 @@ returns c = let z = c .before .before .before .before .before .before .before in
     (subst (MarkedTo (z .args .f) (now (z .args .low)) (l .leaders) (l .places) (z .args .r)) e (l .inv .3), l .inv .4, l .inv .5)
 
 pub mark-orbit-spec : {M : Type 1} → statement M
-mark-orbit-spec = tie.close (tie.spec Inv-loop μ-loop listed-requires loop-holds mark-requires member-requires target-requires add-k loop-less loop-again same-length same-length-2 returns)
+mark-orbit-spec =
+    tie.close
+    (tie.spec
+    Inv-loop
+    μ-loop
+    listed-requires
+    loop-holds
+    mark-requires
+    member-requires
+    target-requires
+    add-k
+    loop-less
+    loop-again
+    same-length
+    same-length-2
+    returns)
