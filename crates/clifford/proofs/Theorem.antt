@@ -4,7 +4,7 @@
 --   accepted             relations of a text that refusals 11, 12, 14 and 15 let pass are accepted
 --   built-passes         and their table passes
 use mathlib.Core.Path.{_≡_, refl, sym, _∙_, ap, subst}
-use mathlib.Core.Bool.{Bool, true, false, _&&_, not}
+use mathlib.Core.Bool.{true, false, _&&_, not}
 use mathlib.Core.List.{List, [], _∷_}
 use Prim.Native.Nat.{ℕ, zero, suc, _*_, _%_, _≤_, _<_}
 use native.Mathlib.Nat.{mul-mod-right}
@@ -15,7 +15,7 @@ use borrow.Author.Tests.{eq-eqb, lt-ltb, leb-true, not-false}
 use Rattle.definitions.specs.Lists.{blocks, same}
 use Rattle.definitions.specs.Presentation.{lineWords, Presentation, order, Relations, wellFormed, presentation, isPrime, someNotPrime, misused}
 use Rattle.definitions.specs.Consistency.{Consistent, levelTest, test}
-use Rattle.definitions.specs.Monomial.{identity, Rep, Level, repOf}
+use Rattle.definitions.specs.Monomial.{identity, Level, repOf}
 use Rattle.definitions.specs.Table.{levelWords, levelZero, levelAt, complete}
 use Rattle.definitions.specs.Steps.{levels, tableWith, tableOf}
 use Rattle.definitions.specs.Judgement
@@ -38,6 +38,7 @@ use Rattle.clifford.proofs.Lines.{Written, Agrees, table, table-length,
 use Rattle.clifford.proofs.Agreement.{agree-stands, agree-restricts, agree-words}
 use Rattle.clifford.proofs.Judged.{relations-hold, intertwiners-hold, separates-hold, squares-hold, valid-holds, listed-holds}
 use Rattle.clifford.proofs.Cuts.{blocks-whole, blocks-restrict}
+use Rattle.clifford.proofs.Everywhere.{everywhere-intro}
 
 pub same-self : (xs : List ℕ) → same xs xs ≡ true
 unfolding same
@@ -110,10 +111,6 @@ module _ (A : Accepted) where
       let h′ : r < length (levels P m (suc i)) = subst (λ z. r < z) (sym (agrees-at (suc i) l .same-length)) h in
       agree-restricts n i l (levels P m i) (Lv i) (levels P m (suc i)) (Lv (suc i)) (agrees-at i (omega arith)) (agrees-at (suc i) l) r h′ (restricts G i l r h′)
 
-  everywhere-holds : (q : (i : ℕ) → Rep → Bool) → ((i : ℕ) → i < n → (r : ℕ) → r < length (Lv (suc i)) → q (suc i) (repOf (Lv (suc i)) r) ≡ true) → Judgement.everywhere P m T q ≡ true
-  unfolding Judgement.everywhere
-  everywhere-holds q h = allBelow-intro n _ (λ i l. allBelow-intro (length (Lv (suc i))) _ (λ r a. h i l r a))
-
   pub whole-words : (k : ℕ) × (length (tableOf (A .C .P)) ≡ lineWords * k)
   whole-words = (_, ap length table-is ∙ table-length W)
 
@@ -133,7 +130,7 @@ module _ (A : Accepted) where
 
   not-malformed : Judgement.malformed P m T ≡ false
   unfolding Judgement.malformed
-  not-malformed = ap not (and-intro _ _ (and-intro _ _ whole-lines complete-holds) (everywhere-holds (λ i D. Judgement.matricesValid P m T i D && Judgement.blocksWhole P m T i D && Judgement.targetsListed P m T i D) (λ i l r h.
+  not-malformed = ap not (and-intro _ _ (and-intro _ _ whole-lines complete-holds) (everywhere-intro P m T (λ i D. Judgement.matricesValid P m T i D && Judgement.blocksWhole P m T i D && Judgement.targetsListed P m T i D) (λ i l r h.
       at-level (suc i) l (Judgement.matricesValid P m T (suc i) (repOf (Lv (suc i)) r) && Judgement.blocksWhole P m T (suc i) (repOf (Lv (suc i)) r) && Judgement.targetsListed P m T (suc i) (repOf (Lv (suc i)) r) ≡ true) (λ Ω F St.
       and-intro _ _ (and-intro _ _ (valid-holds C tests m pos T (suc i) l F St r h) (blocks-whole P m T i (repOf (Lv (suc i)) r) (restricts-at i l r h))) (listed-holds C tests m pos T (suc i) l F St r h)))))
 
@@ -141,15 +138,15 @@ module _ (A : Accepted) where
 
   relations-pass : Judgement.relationFails P m T ≡ false
   unfolding Judgement.relationFails
-  relations-pass = ap not (everywhere-holds (Judgement.relationsHold P m T) (λ i l r h. at-level (suc i) l (Judgement.relationsHold P m T (suc i) (repOf (Lv (suc i)) r) ≡ true) (λ Ω F St. relations-hold C tests m pos T (suc i) l F St r h)))
+  relations-pass = ap not (everywhere-intro P m T (Judgement.relationsHold P m T) (λ i l r h. at-level (suc i) l (Judgement.relationsHold P m T (suc i) (repOf (Lv (suc i)) r) ≡ true) (λ Ω F St. relations-hold C tests m pos T (suc i) l F St r h)))
 
   restrictions-pass : Judgement.restrictionFails P m T ≡ false
   unfolding Judgement.restrictionFails
-  restrictions-pass = ap not (everywhere-holds (Judgement.restricts P m T) (λ i l r h. blocks-restrict P m T i (repOf (Lv (suc i)) r) (restricts-at i l r h)))
+  restrictions-pass = ap not (everywhere-intro P m T (Judgement.restricts P m T) (λ i l r h. blocks-restrict P m T i (repOf (Lv (suc i)) r) (restricts-at i l r h)))
 
   intertwiners-pass : Judgement.intertwinerFails P m T ≡ false
   unfolding Judgement.intertwinerFails
-  intertwiners-pass = ap not (everywhere-holds (Judgement.intertwinersHold P m T) (λ i l r h. at-level (suc i) l (Judgement.intertwinersHold P m T (suc i) (repOf (Lv (suc i)) r) ≡ true) (λ Ω F St. intertwiners-hold C tests m pos T (suc i) l F St r h)))
+  intertwiners-pass = ap not (everywhere-intro P m T (Judgement.intertwinersHold P m T) (λ i l r h. at-level (suc i) l (Judgement.intertwinersHold P m T (suc i) (repOf (Lv (suc i)) r) ≡ true) (λ Ω F St. intertwiners-hold C tests m pos T (suc i) l F St r h)))
 
   separation-passes : Judgement.notSeparated P m T ≡ false
   unfolding Judgement.notSeparated Judgement.everyLevel

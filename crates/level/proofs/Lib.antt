@@ -1,3 +1,2 @@
--- Laws of what stands in lines, and of the order of lines.
+-- Laws of what stands in lines.
 pub mod Laws
-pub mod Halves

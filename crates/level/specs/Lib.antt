@@ -1,3 +1,2 @@
--- What stands in lines, and the order of lines.
+-- What stands in lines.
 pub mod Stored
-pub mod Order

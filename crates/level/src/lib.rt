@@ -9,7 +9,6 @@
 //   matrix_line, target          the line of a generator's matrix, and where its intertwiner leads
 //   moved, moved_times, walked   a column moved through a generator, through it several times, through a word
 //   scaled, scaled_times         the same through a generator times a power of the root
-//   find                         the first line of a representation of a whole table, by its level and number
 //   through                      column 0 moved through a generator of one representation and one of another
 ghost use mathlib.Core.Path.{_≡_};
 ghost use Prim.Native.Nat.{ℕ, suc, _+_, _*_, _%_, _≤_, _<_};
@@ -17,10 +16,9 @@ ghost use lib.ListN.{length};
 ghost use Rattle.definitions.specs.Lists.{iter};
 ghost use Rattle.definitions.specs.Presentation.{maxGenerators, toNF};
 ghost use Rattle.definitions.specs.Monomial.{entry, less, act};
-ghost use Rattle.definitions.specs.Table.{wordAt, lineCount};
+ghost use Rattle.definitions.specs.Table.{wordAt};
 ghost use Rattle.formulas.specs.Formulas.{walk, plus};
 ghost use Rattle.level.specs.Stored.{entryIn, matrixIn, Below, Holds, lineIn, generatorIn, targetIn, listedIn, throughIn, Stored};
-ghost use Rattle.level.specs.Order.{before, Split, Splits};
 use definitions::Entry;
 use rows::Row;
 
@@ -292,37 +290,4 @@ pub fn through(words: &[u32], d: Listed, j: u32, e: Listed, g: u32, c: u32, m: u
     let y = moved(words, d, j, Entry { row: 0, exp: 0 }, m);
     let z = scaled(words, e, g, c, y, m);
     z.exp
-}
-
-// A line stands before representation r of level i.
-pub fn stands_before(words: &[u32], i: usize, r: usize, l: usize) -> bool
-    requires { ⌜ 8 * l + 8 ≤ length (now words) ⌝ }
-    ensures { λ b. ⌜ b ≡ before (now (words .entry)) i r l ⌝ }
-{
-    let w = up(word_at(words, l, LEVEL));
-    if w < i {
-        return true;
-    }
-    if i < w {
-        return false;
-    }
-    up(word_at(words, l, REP)) < r
-}
-
-// The first line of representation r of level i in the words of a whole table, by halves.
-pub fn find(words: &[u32], lines: usize, i: usize, r: usize) -> usize
-    requires { ⌜ (lines ≡ lineCount (now words)) × Splits (now words) i r ⌝ }
-    ensures { λ x. ⌜ Split (now (words .entry)) i r x ⌝ }
-{
-    let mut lo = 0;
-    let mut hi = lines;
-    while lo < hi {
-        let mid = lo + (hi - lo) / 2;
-        if stands_before(words, i, r, mid) {
-            lo = mid + 1;
-        } else {
-            hi = mid;
-        }
-    }
-    lo
 }

@@ -14,13 +14,13 @@ use native.Mathlib.Omega.{arith}
 use lib.ListN.{length, getD, drop}
 use lib.Dec.{ltb, leb, eqb}
 use borrow.Author.Tests.{lt-ltb, le-ltb, leb-true, leb-false}
-use Rattle.definitions.specs.Lists.{all, allBelow}
+use Rattle.definitions.specs.Lists.{all}
 use Rattle.definitions.specs.Text.{Bytes, line, render}
 use Rattle.definitions.specs.Presentation.{maxGenerators, maxOrder, pairCount}
 use Rattle.definitions.specs.Presentation.{Relations, Says, InForm, textOf, presentationNames, pairs, pairNumber, rowOf, presentation, order, isPrime, someNotPrime, tooLarge, misused, rowWell}
 use Rattle.definitions.specs.Answers.{says}
 use Rattle.definitions.proofs.Rendering.{rowFormed, wellFormed-formed, formed-wellFormed, line-unique, presentationNames-fields, presentationNames-injective, says-unique}
-use Rattle.numbers.proofs.Lists.{allBelow-intro, allBelow-fails}
+use Rattle.numbers.proofs.Lists.{allBelow-intro, allBelow-fails, allBelow-below}
 use Rattle.group.proofs.Pairs.{length-pairs, pairNumber-below}
 use Rattle.group.proofs.Rows.{toNF-ext}
 use Rattle.group.proofs.Context.{exponent-unused}
@@ -59,11 +59,6 @@ unlined {t} {n} {next} nm h (R, s) =
 -- a test that the relations of a text fail fails for whatever the text says
 unsaid : {t : Bytes} {R : Relations} (f : Relations → Bool) → Says t R → f R ≡ false → ¬ says t (λ (Q : Relations). f Q ≡ true)
 unsaid {t} {R} f s q (Q, h, w) = false≢true (sym q ∙ ap f (says-unique t R Q s h) ∙ w)
-
-allBelow-ext : (n : ℕ) (q r : ℕ → Bool) → ((k : ℕ) → k < n → q k ≡ r k) → allBelow n q ≡ allBelow n r
-unfolding allBelow
-allBelow-ext zero q r h = refl
-allBelow-ext (suc n) q r h = ap₂ (λ (a b : Bool). a && b) (allBelow-ext n q r (λ k l. h k (omega arith))) (h n (omega arith))
 
 module _ {t : Bytes} {n next : ℕ} (nm : NamesLine t n next) {words : List (List ℕ)} {ps : List ℕ} {flag : Bool} (al : AllLines t next n words ps flag) where
   abbrev pub relationsOf : Relations
@@ -148,11 +143,11 @@ module _ {t : Bytes} {n next : ℕ} (nm : NamesLine t n next) {words : List (Lis
     unfolding pairWell rowWells rowWell presentation
     pair-is j i l m =
         ap₂ (λ (a b : Bool). a && b) (ap (λ (p : ℕ). eqb i j || eqb p 0) (p-is j i l m))
-        (allBelow-ext n _ _ (λ k b. ap₂ (λ (e p : ℕ). entryWell e p j i k) (word-is j i l m k (omega arith)) (prime-is k b)))
+        (allBelow-below n _ _ (λ k b. ap₂ (λ (e p : ℕ). entryWell e p j i k) (word-is j i l m k (omega arith)) (prime-is k b)))
 
     misused-is : misused relationsOf ≡ not (allWell words ps primes n)
     unfolding misused
-    misused-is = ap not (sym (allBelow-ext n _ _ (λ j l. allBelow-ext (suc j) _ _ (λ i b. pair-is j i l (omega arith)))))
+    misused-is = ap not (sym (allBelow-below n _ _ (λ j l. allBelow-below (suc j) _ _ (λ i b. pair-is j i l (omega arith)))))
 
     rows-read : misused relationsOf ≡ false → Reads (presentation relationsOf) n primes words
     unfolding presentation

@@ -16,14 +16,14 @@ use Rattle.definitions.specs.Presentation.{NF, Presentation, power}
 use Rattle.definitions.specs.Monomial.{Matrix, col, product, matrices, sameEntry, sameMatrix, Rep, Level, repOf, image, conjugate}
 use Rattle.definitions.specs.Table.{levelAt}
 use Rattle.definitions.specs.Judgement
-use Rattle.numbers.proofs.Bools.{and-left, and-right, and-intro}
+use Rattle.numbers.proofs.Bools.{and-left, and-right, and-intro, same-test}
 use Rattle.numbers.proofs.Lists.{allBelow-elim, allBelow-intro}
 use Rattle.group.specs.Context.{Context}
 use Rattle.monomial.proofs.Frames.{entry-path}
 use Rattle.separation.specs.Relations.{topRelations}
 use Rattle.separation.proofs.Cutting.{all-both, cut, cut-at}
 use Rattle.separation.proofs.Within.{Within, within-mul, within-power, within-value, within-same}
-use Rattle.separation.proofs.Walk.{same-test, valid-parts, valid-columns, whole-at, acts-at}
+use Rattle.separation.proofs.Walk.{valid-parts, valid-columns, whole-at, acts-at}
 
 module _ (C : Context) (m : ℕ) (table : List ℕ) (formed : Judgement.malformed (C .P) m table ≡ false) (restrictions : Judgement.restrictionFails (C .P) m table ≡ false) where
   abbrev P : Presentation

@@ -1,12 +1,11 @@
 -- For any table that 21, 22 and 23 let pass, 25 is decided level by level by the quick test.
 --
---   same-test                    two tests that pass together are one
 --   valid-columns, whole-at, acts-at      what 21 and 23 say of a representation
 --   fair-at, restricting-at      its levels are well formed, satisfy the relations and restrict to those below
 --   zero-separates               level 0 is separated
 --   separation-decides           25 applies exactly if the quick test fails on some level
-use mathlib.Core.Path.{_≡_, refl, sym, ap, subst}
-use mathlib.Core.Bool.{Bool, true, false, _&&_, not, false≢true}
+use mathlib.Core.Path.{_≡_, refl, ap, subst}
+use mathlib.Core.Bool.{true, false, _&&_, not}
 use mathlib.Core.List.{List}
 use Prim.Native.Nat.{ℕ, zero, suc, _*_, _%_, _≤_, _<_}
 use native.Mathlib.Omega.{arith}
@@ -18,11 +17,12 @@ use Rattle.definitions.specs.Presentation.{lineWords, Presentation, order, valu
 use Rattle.definitions.specs.Monomial.{col, identity, valid, Rep, Level, repOf, image}
 use Rattle.definitions.specs.Table.{levelZero, levelAt, complete}
 use Rattle.definitions.specs.Judgement
-use Rattle.numbers.proofs.Bools.{and-left, and-right}
+use Rattle.numbers.proofs.Bools.{and-left, and-right, same-test}
 use Rattle.numbers.proofs.Lists.{allBelow-elim, allBelow-intro}
 use Rattle.numbers.proofs.Prime.{Units}
 use Rattle.group.specs.Context.{Context}
 use Rattle.group.proofs.Group.{Test}
+use Rattle.clifford.proofs.Everywhere.{everywhere-elim}
 use Rattle.separation.specs.Fair.{Fair}
 use Rattle.separation.specs.Restricting.{Restricting}
 use Rattle.separation.specs.Decision.{quick}
@@ -30,11 +30,6 @@ use Rattle.separation.proofs.Restricted.{Two}
 use Rattle.separation.proofs.Decision.{quick-separates, separates-quick}
 
 -- two tests that pass together are one
-pub same-test : (a b : Bool) → (a ≡ true → b ≡ true) → (b ≡ true → a ≡ true) → a ≡ b
-same-test true b f g = sym (f refl)
-same-test false true f g = absurd (false≢true (g refl))
-same-test false false f g = refl
-
 module _ (C : Context) (m : ℕ) (table : List ℕ) where
   abbrev pub P : Presentation
   P = C .P
@@ -76,14 +71,10 @@ module _ (C : Context) (m : ℕ) (table : List ℕ) where
   -- ---- What 21, 22 and 23 say
 
   module _ (formed : Judgement.malformed (C .P) m table ≡ false) (restrictions : Judgement.restrictionFails (C .P) m table ≡ false) where
-    at : (q : (i : ℕ) → Rep → Bool) → Judgement.everywhere P m table q ≡ true → (i : ℕ) → i < n → (r : ℕ) → r < length (Lv (suc i)) → q (suc i) (repOf (Lv (suc i)) r) ≡ true
-    unfolding Judgement.everywhere
-    at q h i l r a = allBelow-elim _ _ (allBelow-elim n _ h i l) r a
-
     well : (i : ℕ) → i < n → (r : ℕ) → r < length (Lv (suc i))
         → Judgement.matricesValid P m table (suc i) (repOf (Lv (suc i)) r) && Judgement.blocksWhole P m table (suc i) (repOf (Lv (suc i)) r) && Judgement.targetsListed P m table (suc i) (repOf (Lv (suc i)) r) ≡ true
     unfolding Judgement.malformed
-    well = at (λ i D. Judgement.matricesValid P m table i D && Judgement.blocksWhole P m table i D && Judgement.targetsListed P m table i D) (and-right (eqb (length table % lineWords) 0 && complete n table) _ (not-false _ formed))
+    well = everywhere-elim P m table (λ i D. Judgement.matricesValid P m table i D && Judgement.blocksWhole P m table i D && Judgement.targetsListed P m table i D) (and-right (eqb (length table % lineWords) 0 && complete n table) _ (not-false _ formed))
 
     module _ (i : ℕ) (l : i < n) (r : ℕ) (h : r < length (Lv (suc i))) where
       abbrev pub Rp : Rep
@@ -108,7 +99,7 @@ module _ (C : Context) (m : ℕ) (table : List ℕ) where
       relations-at : Judgement.relationFails P m table ≡ false → (j : ℕ) → j < suc i → (Judgement.powerHolds P m table Rp j ≡ true) × ((k : ℕ) → k < j → Judgement.commutatorHolds P m table Rp k j ≡ true)
       unfolding Judgement.relationFails Judgement.relationsHold
       relations-at relations j a =
-          let t = allBelow-elim (suc i) _ (at (Judgement.relationsHold P m table) (not-false _ relations) i l r h) j a in
+          let t = allBelow-elim (suc i) _ (everywhere-elim P m table (Judgement.relationsHold P m table) (not-false _ relations) i l r h) j a in
           (and-left (Judgement.powerHolds P m table Rp j) _ t, λ k b. allBelow-elim j _ (and-right (Judgement.powerHolds P m table Rp j) _ t) k b)
 
       pub whole-at : all (Judgement.wholeBlock (Lv i) Rp) (Judgement.cuts (Lv i) Rp) ≡ true
@@ -117,7 +108,7 @@ module _ (C : Context) (m : ℕ) (table : List ℕ) where
 
       pub acts-at : all (Judgement.blockRestricts P m table i Rp) (Judgement.cuts (Lv i) Rp) ≡ true
       unfolding Judgement.restrictionFails Judgement.restricts
-      acts-at = at (Judgement.restricts P m table) (not-false _ restrictions) i l r h
+      acts-at = everywhere-elim P m table (Judgement.restricts P m table) (not-false _ restrictions) i l r h
 
     pub fair-at : Judgement.relationFails (C .P) m table ≡ false → (i : ℕ) → i < C .P .n → Fair (C .P) m (suc i) (levelAt (C .P .n) table (suc i))
     unfolding Judgement.powerHolds Judgement.commutatorHolds
