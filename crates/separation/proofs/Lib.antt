@@ -6,5 +6,6 @@ pub mod Restricted
 pub mod Numbers
 pub mod Decision
 pub mod Walk
+pub mod Pairs
 pub mod Within
 pub mod Relations

@@ -7,6 +7,7 @@
 --   parted r           one block, and no other of one block like it; or as many as the prime of generator i, moved by it,
 --                      whose references no other block has
 --   quick              every representation is parted
+--   own, apart, pairwise     the same by pairs of representations, the later one outside
 use Prim.Native.Nat.{ℕ, suc}
 use mathlib.Core.Bool.{Bool, _&&_, _||_, not, cond}
 use mathlib.Core.List.{List}
@@ -51,3 +52,15 @@ module _ (P : Presentation) (table : List ℕ) (i : ℕ) where
 
   unfoldable pub quick : Bool
   quick = allBelow (length upper) parted
+
+  -- ---- The same by pairs, the later one outside
+
+  -- one block, or as many as the prime says, moved and with references of their own
+  unfoldable pub own : ℕ → Bool
+  own r = eqb (blockCount r) 1 || (eqb (blockCount r) (P .p i) && outside r && unshared r r)
+
+  unfoldable pub apart : ℕ → ℕ → Bool
+  apart r r′ = cond (eqb (blockCount r) 1 && eqb (blockCount r′) 1) (differs r r′) (unshared r r′)
+
+  unfoldable pub pairwise : Bool
+  pairwise = allBelow (length upper) (λ r′. own r′ && allBelow r′ (λ r. apart r r′))
