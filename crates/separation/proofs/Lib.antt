@@ -7,5 +7,6 @@ pub mod Numbers
 pub mod Decision
 pub mod Walk
 pub mod Pairs
+pub mod Apart
 pub mod Within
 pub mod Relations

@@ -4,3 +4,4 @@ pub mod Fair
 pub mod Restricting
 pub mod Decision
 pub mod Relations
+pub mod Apart
