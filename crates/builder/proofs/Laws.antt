@@ -10,7 +10,7 @@ use Rattle.formulas.specs.Formulas.{start, made, shift}
 use Rattle.survey.specs.declared.Frame.{Frame}
 use Rattle.survey.specs.Below.{sourceIn, numberIn, closingIn, leadingIn, Stands, Array, Leading}
 use Rattle.survey.proofs.Counting.{leading-least, leading-below}
-use Rattle.extend.proofs.Laws.{shift-closing}
+use Rattle.targets.proofs.Laws.{shift-closing}
 
 module _ (f : Frame) (W : List ℕ) (rows : List (List ℕ)) (a : List ℕ) where
   start-rows : (r : ℕ) → start (sourceIn f W []) r ≡ start (sourceIn f W rows) r

@@ -1,73 +1,37 @@
 -- Laws of extensions.
 --
---   around-rows, shift-closing       the constant of an orbit asks for the power word alone
---   shift-below                it is below the modulus
---   divide-below               a quotient of a number below m
---   step-positive              m / p is not 0
 --   factor-below, product-fits, landing-small, start-fits, factor-small      bounds
 --   matrix-lines, reference-is the lines of a generator of an extension, and their reference
 --   origin-below, origin-factor, reference-ready     what is known of constants and references where extensions are written
---   landing-is                 the number that an intertwiner's exponents tell
 use mathlib.Core.Path.{_≡_, refl, ap, ap₂, sym, _∙_, subst}
 use mathlib.Core.List.{List, [], _∷_}
-use Prim.Native.Nat.{ℕ, zero, suc, _+_, _*_, _/_, _%_, _<_, _≤_}
+use Prim.Native.Nat.{ℕ, suc, _+_, _*_, _/_, _%_, _<_, _≤_}
 use native.Mathlib.Omega.{arith}
 use native.Mathlib.Nat.{zero-add, mod-lt, div-le-self, div-lt-iff-lt-mul, mul-comm, mul-le-mul-left, mul-le-mul-right}
-use lib.ListN.{length, getD, set}
-use lib.Seq.{getD-set-same, getD-set-other}
+use lib.ListN.{length, getD}
 use lib.Dec.{eqb, leb}
 use borrow.Author.Tests.{le-leb}
-use native.Mathlib.Decide.{decLt, ℕ-discrete}
+use native.Mathlib.Decide.{decLt}
 use mathlib.Core.Bool.{cond}
 use Rattle.numbers.proofs.Bools.{cond-true}
 use Rattle.definitions.specs.declared.Entry.{Entry}
-use Rattle.definitions.specs.Lists.{iter, blocks}
+use Rattle.definitions.specs.Lists.{blocks}
 use Rattle.definitions.specs.Presentation.{maxGenerators, maxOrder, maxModulus, toNF, pairNumber}
-use Rattle.definitions.specs.Monomial.{Matrix, entry, col, less, act, scale}
+use Rattle.definitions.specs.Monomial.{Matrix, entry, col, less, scale}
 use Rattle.definitions.specs.Table.{lineOf, repWords}
 use Rattle.numbers.proofs.Blocks.{length-table, blocks-below, length-even}
-use Rattle.formulas.specs.Formulas.{Source, made, start, around, shift, topEntry, landing, walk, extensionAt}
+use Rattle.formulas.specs.Formulas.{Source, made, start, shift, landing, extensionAt}
 use Rattle.lines.specs.declared.Head.{Head}
-use Rattle.level.specs.Stored.{entryIn, matrixIn, throughIn}
+use Rattle.level.specs.Stored.{entryIn, matrixIn}
 use Rattle.lines.specs.Lines.{headLine, blockLines}
 use Rattle.level.proofs.Laws.{col-matrixIn, col-scale}
 use Rattle.survey.specs.declared.Frame.{Frame}
-use Rattle.survey.specs.Below.{degOf, matrixOf, listedOf, sourceIn, targetOf, closingIn, Stands}
+use Rattle.survey.specs.Below.{degOf, matrixOf, sourceIn, targetOf, Stands}
 use Rattle.survey.proofs.Counting.{number-fits}
-use Rattle.extend.specs.Extending.{conjugatedIn, factorOf, referenceOf, Ready, Extends, matrixWords}
+use Rattle.targets.specs.Reached.{Ready}
+use Rattle.targets.proofs.Laws.{shift-below}
+use Rattle.extend.specs.Extending.{factorOf, referenceOf, Extends, matrixWords}
 use Rattle.extend.specs.declared.Origin.{Origin}
-
-module _ (f : Frame) (W : List ℕ) (rows : List (List ℕ)) where
-  around-rows : (r k : ℕ) → around (sourceIn f W rows) r k ≡ around (sourceIn f W []) r k
-  unfolding around
-  around-rows r zero = refl
-  around-rows r (suc k) = ap (λ x. act (f .m) (sourceIn f W [] .matrix (iter (targetOf f W (f .top)) k r) (f .top)) x) (around-rows r k)
-
-  pub shift-closing : (r : ℕ) → shift (sourceIn f W rows) r ≡ closingIn f W (getD rows (pairNumber (f .top) (f .top)) []) r
-  unfolding shift closingIn
-  shift-closing r = ap (λ (x : Entry). less (f .m) (walk (f .m) (sourceIn f W [] .matrix r) (f .top) (toNF (f .top) (getD rows (pairNumber (f .top) (f .top)) [])) (entry 0 0) .exp) (x .exp)) (around-rows r (f .p))
-
-  pub shift-below : 0 < f .m → (r : ℕ) → shift (sourceIn f W rows) r < f .m
-  unfolding shift less
-  shift-below h r = mod-lt _ h
-
-  -- the exponents of the two sides, and the number that they tell
-  pub landing-is : (j r a b : ℕ)
-      → a ≡ act (f .m) (sourceIn f W [] .matrix r j) (conjugatedIn (f .m) (f .top) W (listedOf f W r) (getD rows (pairNumber j (f .top)) []) (shift (sourceIn f W rows) r / f .p)) .exp
-      → b ≡ throughIn (f .m) W (listedOf f W r) j (listedOf f W (targetOf f W j r)) (f .top) (shift (sourceIn f W rows) (targetOf f W j r) / f .p)
-      → less (f .m) a b / (f .m / f .p) ≡ landing (sourceIn f W rows) j r
-  unfolding landing conjugatedIn topEntry toNF
-  landing-is j r a b e e′ = ap₂ (λ x y. less (f .m) x y / (f .m / f .p)) e e′
-
-pub divide-below : (x p m : ℕ) → x < m → x / p < m
-divide-below x p m h = omega (arith, div-le-self x p)
-
-pub step-positive : (f : Frame) (W : List ℕ) → Stands f W → 0 < f .m / f .p
-step-positive f W S = go (f .m / f .p) (S .whole)
-  where
-    go : (q : ℕ) → f .m ≡ f .p * q → 0 < q
-    go zero e = absurd (omega (arith, S .modulus .0, e))
-    go (suc q) e = omega arith
 
 -- ---- Constants and references
 
@@ -182,21 +146,6 @@ module _ (f : Frame) (W : List ℕ) (rows : List (List ℕ)) (rep r k : ℕ) whe
     where
       regroup : (n d : ℕ) → n * (8 * d) ≡ 8 * (n * d)
       regroup n d = omega arith
-
--- ---- Arrays filled above an index
-
-abbrev pub Between : List ℕ → (ℕ → ℕ) → ℕ → ℕ → Type 0
-Between a g lo j = (k : ℕ) → lo < k → k < j → getD a k 0 ≡ g k
-
-pub between-none : (a : List ℕ) (g : ℕ → ℕ) (lo : ℕ) → Between a g lo (lo + 1)
-between-none a g lo k h l = absurd (omega arith)
-
-pub between-more : (a : List ℕ) (g : ℕ → ℕ) (lo j x : ℕ) → j < length a → x ≡ g j → Between a g lo j → Between (set a j x) g lo (j + 1)
-between-more a g lo j x l e h k a′ b = go (ℕ-discrete k j)
-  where
-    go : Dec (k ≡ j) → getD (set a j x) k 0 ≡ g k
-    go (yes q) = ap (λ z. getD (set a j x) z 0) q ∙ getD-set-same a j x 0 l ∙ e ∙ ap g (sym q)
-    go (no q) = getD-set-other a j k x 0 q ∙ h k a′ (omega arith)
 
 pub rep-length : (f : Frame) (W : List ℕ) (rows : List (List ℕ)) (rep r k : ℕ) → length (repWords (f .gens) (suc (f .top)) rep (extensionAt (sourceIn f W rows) r k)) ≡ 8 * (f .gens * degOf f W r)
 rep-length f W rows rep r k = ap length (extension-words f W rows rep r k) ∙ extension-length f W rows rep r k

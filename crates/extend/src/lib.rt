@@ -1,4 +1,8 @@
 // The extensions of a representation that the generator on top fixes, as lines behind the level below.
+//
+//   Origin, find_origin          what the extensions are copied from
+//   factor, reference            constant and reference of a generator in an extension
+//   append_extension             one extension, by its degree; append_extensions, all of them
 ghost use mathlib.Core.Path.{_≡_};
 ghost use mathlib.Core.List.{[]};
 ghost use mathlib.Core.Bool.{cond};
@@ -7,11 +11,11 @@ ghost use lib.ListN.{length, getD, take};
 ghost use lib.Dec.{eqb};
 ghost use Rattle.definitions.specs.Table.{repWords};
 ghost use Rattle.definitions.specs.Presentation.{maxGenerators, maxOrder, maxModulus, pairNumber};
-ghost use Rattle.formulas.specs.Formulas.{landing, shift, start, extensionAt};
+ghost use Rattle.formulas.specs.Formulas.{shift, start, extensionAt};
 ghost use Rattle.text.specs.Writing.{Wrote};
-ghost use Rattle.level.specs.Stored.{Below, Stored};
 ghost use Rattle.survey.specs.Below.{degOf, targetOf, sourceIn, Stands, Located, Rows, Array, Leading, Fixing, Lines};
-ghost use Rattle.extend.specs.Extending.{conjugatedIn, referenceOf, Ready, Extends, matrixWords, extensionsWords};
+ghost use Rattle.targets.specs.Reached.{Ready};
+ghost use Rattle.extend.specs.Extending.{referenceOf, Extends, matrixWords, extensionsWords};
 use definitions::Entry;
 use level::Listed;
 use lines::Head;
@@ -19,50 +23,6 @@ use rows::GENERATORS;
 use rows::Row;
 use rows::Words;
 use survey::Frame;
-
-// Column 0 of d moved by j⁻¹ g j in extension 0: by the word w of the two, the part of g scaled by c, and once more by g.
-pub fn conjugated(low: &[u32], w: &Row, d: Listed, g: u32, c: u32, m: u32) -> Entry
-    requires { ⌜ Stored m (suc g) (now low) d × (g < maxGenerators) × (c < m) × (getD (now w) g 0 < maxOrder) ⌝ }
-    ensures { λ y. ⌜ (y ≡ conjugatedIn m g (now (low .entry)) d (now (w .entry)) c) × Below m (d .deg) y ⌝ }
-{
-    let t = level::up(g);
-    let x = level::walked(low, d, w, t, Entry { row: 0, exp: 0 }, m);
-    let k = w[t];
-    level::scaled_times(low, d, g, c, k + 1, x, m)
-}
-
-// The constant of extension 0.
-pub fn root(shifts: &[u32], f: Frame, r: u32) -> u32
-    requires { ⌜ (r < length (now shifts)) × (0 < f .p) × (getD (now shifts) r 0 < f .m) ⌝ }
-    ensures { λ c. ⌜ (c ≡ getD (now (shifts .entry)) r 0 / f .p) × (c < f .m) ⌝ }
-{
-    survey::element(shifts, r) / f.p
-}
-
-// The number among the extensions of the target to which the intertwiner of generator j leads extension 0 of r.
-pub fn landing(
-    low: &[u32],
-    first: &[u32],
-    rows: &Words,
-    shifts: &[u32],
-    f: Frame,
-    d: Listed,
-    j: u32,
-    r: u32,
-) -> u32
-    requires { ⌜ Located f (now low) r d × Lines f (now low) (now first) × Rows f (now low) (now rows) × Leading f (now low) (now shifts) (shift (sourceIn f (now low) (now rows))) × (f .top < j) × (j < f .gens) × (targetOf f (now low) (f .top) r ≡ r) × Fixing f (now low) ⌝ }
-    ensures { λ x. ⌜ (x ≡ landing (sourceIn f (now (low .entry)) (now (rows .entry))) j r) × (x ≤ f .m) ⌝ }
-{
-    let w = rows::word(rows, level::up(j), level::up(f.top));
-    let c = root(shifts, f, r);
-    let x = conjugated(low, &w, d, f.top, c, f.m);
-    let y = level::moved(low, d, j, x, f.m);
-    let q = level::target(low, d, j);
-    let e = survey::member(low, first, f, d.deg, q);
-    let b = root(shifts, f, q);
-    let z = level::through(low, d, j, e, f.top, b, f.m);
-    level::sub_mod(y.exp, z, f.m) / (f.m / f.p)
-}
 
 // What the extensions of a representation are copied from: the representation, the constant of extension 0, and what each
 // extension adds to it.
@@ -79,7 +39,7 @@ pub fn find_origin(low: &[u32], first: &[u32], shifts: &[u32], f: Frame, r: u32)
 {
     Origin {
         source: survey::listed(low, first, f, r),
-        root: root(shifts, f, r),
+        root: targets::root(shifts, f, r),
         step: f.m / f.p,
     }
 }
@@ -243,34 +203,6 @@ pub fn append_extension(
     append_matrices(words, rows, to, by, f, o, at, rep, r, k)
 }
 
-// Fills, for each generator above the one on top, the number of the first extension of the target of r, and the number
-// among them to which extension 0 goes.
-pub fn find_targets(
-    low: &[u32],
-    first: &[u32],
-    rows: &Words,
-    numbers: &[u32],
-    shifts: &[u32],
-    to: &mut [u32],
-    by: &mut [u32],
-    f: Frame,
-    r: u32,
-)
-    requires { ⌜ Stands f (now low) × Lines f (now low) (now first) × Rows f (now low) (now rows) × Array f (now low) (now numbers) (start (sourceIn f (now low) (now rows))) × Leading f (now low) (now shifts) (shift (sourceIn f (now low) (now rows))) × (r < f .reps) × (f .gens ≤ length (now to)) × (f .gens ≤ length (now by)) × (targetOf f (now low) (f .top) r ≡ r) × Fixing f (now low) ⌝ }
-    ensures { λ _. ⌜ Ready f (now (low .entry)) (now (rows .entry)) (now (to .exit)) (now (by .exit)) r ⌝ }
-{
-    let d = survey::listed(low, first, f, r);
-    let lo = f.top + 1;
-    let gens = f.gens;
-    for j in lo..gens {
-        let q = level::target(low, d, j);
-        let x = survey::element(numbers, q);
-        survey::store(to, j, x);
-        let l = landing(low, first, rows, shifts, f, d, j, r);
-        survey::store(by, j, l);
-    }
-}
-
 // Appends the extensions of r, numbered from rep.
 pub fn append_each(
     words: &mut [u32],
@@ -311,7 +243,7 @@ pub fn append_extensions(
     let n = 8 * f.end;
     let mut to = [0u32; GENERATORS];
     let mut by = [0u32; GENERATORS];
-    find_targets(
+    targets::find_targets(
         &words[..n],
         first,
         rows,

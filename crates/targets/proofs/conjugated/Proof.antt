@@ -12,10 +12,10 @@ use Rattle.definitions.specs.Monomial.{entry, act}
 use Rattle.formulas.specs.Formulas.{walk, plus}
 use Rattle.level.specs.Stored.{generatorIn}
 use Rattle.level.proofs.Laws.{stored-fewer}
-use Rattle.extend.specs.Extending.{conjugatedIn}
+use Rattle.targets.specs.Reached.{conjugatedIn}
 use borrow.Author.Needs.{needs}
-use Rattle.extend.proofs.conjugated.Statement.{statement}
-use Rattle.extend.proofs.conjugated.Tie as tie
+use Rattle.targets.proofs.conjugated.Statement.{statement}
+use Rattle.targets.proofs.conjugated.Tie as tie
 
 up-requires : tie.Need-up-requires
 up-requires c κs = search needs

@@ -8,10 +8,10 @@ use Rattle.formulas.specs.Formulas.{landing}
 use Rattle.formulas.specs.Formulas.{start}
 use Rattle.survey.specs.Below.{targetOf, sourceIn}
 use Rattle.survey.proofs.Level.{located-stored, located-target}
-use Rattle.extend.proofs.Laws.{Between, between-none, between-more}
+use Rattle.targets.proofs.Laws.{Between, between-none, between-more}
 use borrow.Author.Needs.{needs}
-use Rattle.extend.proofs.find_targets.Statement.{statement}
-use Rattle.extend.proofs.find_targets.Tie as tie
+use Rattle.targets.proofs.find_targets.Statement.{statement}
+use Rattle.targets.proofs.find_targets.Tie as tie
 
 abbrev Inv-loop : tie.InvT-loop
 Inv-loop low first rows numbers shifts to₀ by₀ f r d lo gens j₀ to by j = (lo ≤ j) × (lo ≡ f .top + 1) × (gens ≡ f .gens) × (j ≤ gens) ×

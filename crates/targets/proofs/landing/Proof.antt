@@ -14,11 +14,11 @@ use Rattle.level.specs.Stored.{generatorIn, throughIn}
 use Rattle.survey.specs.Below.{targetOf, listedOf, sourceIn}
 use Rattle.survey.proofs.Level.{located-stored, located-degree, located-target}
 use Rattle.survey.proofs.Marking.{lead-fixed}
-use Rattle.extend.specs.Extending.{conjugatedIn}
-use Rattle.extend.proofs.Laws.{landing-is, step-positive}
+use Rattle.targets.specs.Reached.{conjugatedIn}
+use Rattle.targets.proofs.Laws.{landing-is, step-positive}
 use borrow.Author.Needs.{needs}
-use Rattle.extend.proofs.landing.Statement.{statement}
-use Rattle.extend.proofs.landing.Tie as tie
+use Rattle.targets.proofs.landing.Statement.{statement}
+use Rattle.targets.proofs.landing.Tie as tie
 
 up-requires : tie.Need-up-requires
 up-requires c κs = search needs

@@ -1,11 +1,11 @@
 -- `root` divides.
 use mathlib.Core.Path.{sym, ap, subst}
 use Prim.Native.Nat.{_-_, _<_}
-use Rattle.extend.proofs.Laws.{divide-below}
+use Rattle.targets.proofs.Laws.{divide-below}
 use Prim.Native.Nat.{_/_}
 use borrow.Author.Needs.{needs}
-use Rattle.extend.proofs.root.Statement.{statement}
-use Rattle.extend.proofs.root.Tie as tie
+use Rattle.targets.proofs.root.Statement.{statement}
+use Rattle.targets.proofs.root.Tie as tie
 
 element-requires : tie.Need-element-requires
 element-requires c κs = search needs

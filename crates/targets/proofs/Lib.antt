@@ -1,0 +1,2 @@
+-- Laws of constants and targets.
+pub mod Laws

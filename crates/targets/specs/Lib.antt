@@ -1,0 +1,2 @@
+-- Where intertwiners lead extensions.
+pub mod Reached
