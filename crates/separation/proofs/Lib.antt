@@ -10,3 +10,4 @@ pub mod Pairs
 pub mod Apart
 pub mod Within
 pub mod Relations
+pub mod Verdict

@@ -29,7 +29,6 @@ use Rattle.separation.specs.Decision.{quick}
 use Rattle.separation.proofs.Restricted.{Two}
 use Rattle.separation.proofs.Decision.{quick-separates, separates-quick}
 
--- two tests that pass together are one
 module _ (C : Context) (m : ℕ) (table : List ℕ) where
   abbrev pub P : Presentation
   P = C .P
