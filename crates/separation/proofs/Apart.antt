@@ -30,12 +30,12 @@ module _ (low : Level) (D : Rep) (low-pos : (r : ℕ) → r < length low → 0 <
   ref c = D .ref 0 c
 
   -- what a whole block is
-  record Whole (o : ℕ) : Type 0 where
-    listed : ref o < length low
-    fits : o + repOf low (ref o) .deg ≤ D .deg
-    same : (c : ℕ) → c < repOf low (ref o) .deg → ref (o + c) ≡ ref o
+  pub record Whole (o : ℕ) : Type 0 where
+    pub listed : D .ref 0 o < length low
+    pub fits : o + repOf low (ref o) .deg ≤ D .deg
+    pub same : (c : ℕ) → c < repOf low (D .ref 0 o) .deg → D .ref 0 (o + c) ≡ D .ref 0 o
 
-  is-whole : (o : ℕ) → wholeBlock low D o ≡ true → Whole o
+  pub is-whole : (o : ℕ) → wholeBlock low D o ≡ true → Whole o
   unfolding wholeBlock
   is-whole o h =
       let w : ℕ = repOf low (ref o) .deg in
@@ -49,7 +49,7 @@ module _ (low : Level) (D : Rep) (low-pos : (r : ℕ) → r < length low → 0 <
         same = λ k l. eqb-true (ref (o + k)) (ref o) (allBelow-elim w _ (and-right (a && b) c h) k l);
       }
 
-  wide : (o : ℕ) → wholeBlock low D o ≡ true → 0 < repOf low (ref o) .deg
+  pub wide : (o : ℕ) → wholeBlock low D o ≡ true → 0 < repOf low (D .ref 0 o) .deg
   wide o h = low-pos (ref o) (is-whole o h .listed)
 
   pub block-refs : (q : ℕ → Bool) → all (λ o. q (D .ref 0 o)) (cuts low D) ≡ allBelow (D .deg) (λ c. q (D .ref 0 c))

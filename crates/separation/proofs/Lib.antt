@@ -8,6 +8,7 @@ pub mod Decision
 pub mod Walk
 pub mod Pairs
 pub mod Apart
+pub mod Own
 pub mod Within
 pub mod Relations
 pub mod Verdict

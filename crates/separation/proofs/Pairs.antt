@@ -33,7 +33,7 @@ all-swap f xs (y ∷ ys) h =
     (all-map _ _ xs (λ x a. and-left (f x y) (all (f x) ys) a) h)
     (all-swap f xs ys (all-map _ _ xs (λ x a. and-right (f x y) (all (f x) ys) a) h))
 
-eqb-sym : (a b : ℕ) → eqb a b ≡ eqb b a
+pub eqb-sym : (a b : ℕ) → eqb a b ≡ eqb b a
 eqb-sym a b = go (ℕ-discrete a b)
   where
     go : Dec (a ≡ b) → eqb a b ≡ eqb b a

@@ -2,10 +2,10 @@
 -- level without products; 26. Each lemma is what one of its answers rests on.
 --
 --   judged-21, judged-22, judged-22-top, judged-23, judged-24, judged-25, judged-26, judged-0
-use mathlib.Core.Path.{_≡_, sym, _∙_, ap}
+use mathlib.Core.Path.{_≡_, _∙_, ap}
 use mathlib.Core.Bool.{Bool, true, false, not}
 use mathlib.Core.List.{List, [], _∷_}
-use Prim.Native.Nat.{ℕ, suc, _<_}
+use Prim.Native.Nat.{ℕ, _<_}
 use lib.Dec.{eqb}
 use Rattle.definitions.specs.Lists.{allBelow}
 use Rattle.definitions.specs.Presentation.{Presentation, order}
