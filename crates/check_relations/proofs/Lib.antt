@@ -1,0 +1,2 @@
+-- Laws of representations whose lines hold matrices.
+pub mod Kept

@@ -1,0 +1,28 @@
+-- A representation of a table to which refusal 21 does not apply.
+--
+--   repIn T D                  the representation whose lines D names
+--   Kept s T D                 its lines hold matrices for all generators
+--   Conjugated m T D k w c x   column c of D ends at x, moved by the conjugate of generator k whose word is w
+use mathlib.Core.Path.{_≡_}
+use mathlib.Core.List.{List}
+use Prim.Native.Nat.{ℕ, suc, _≤_, _<_}
+use Rattle.definitions.specs.declared.Entry.{Entry}
+use Rattle.definitions.specs.Presentation.{maxGenerators, Presentation, toNF}
+use Rattle.definitions.specs.Monomial.{Rep}
+use Rattle.definitions.specs.Table.{repAt}
+use Rattle.columns.specs.Columns.{conjugateAt}
+use Rattle.level.specs.declared.Listed.{Listed}
+use Rattle.level.specs.Stored.{Below, Stored}
+use Rattle.seek.specs.declared.Scope.{Scope}
+
+abbrev pub repIn : List ℕ → Listed → Rep
+repIn T D = repAt T (D .line) (D .deg)
+
+pub record Kept (s : Scope) (T : List ℕ) (D : Listed) : Type 0 where
+  pub few : s .gens ≤ maxGenerators
+  pub modulus : 0 < s .m
+  pub stored : Stored (s .m) (s .gens) T D
+
+pub record Conjugated (m : ℕ) (T : List ℕ) (D : Listed) (k : ℕ) (w : List ℕ) (c : ℕ) (x : Entry) : Type 0 where
+  pub below : Below m (D .deg) x
+  pub is : (P : Presentation) (j : ℕ) → toNF (suc k) w ≡ P .w k j → x ≡ conjugateAt P m (repIn T D) k j c
