@@ -4,6 +4,7 @@
 --   kept-squares                      its matrices are square
 --   entries-row, entries-exp          two entries, by rows and by exponents
 --   power-moved, conjugate-moved, commutator-moved, intertwiner-moved     the relations at a column, by what moves it
+--   power-everywhere, commutator-everywhere, intertwiner-everywhere       and at every column
 use mathlib.Core.Path.{_≡_, sym, _∙_, ap, ap₂, subst}
 use mathlib.Core.Logic.{_≢_}
 use mathlib.Core.Bool.{Bool, false, _&&_}
@@ -13,18 +14,20 @@ use native.Mathlib.Omega.{arith}
 use lib.Dec.{eqb}
 use borrow.Author.Tests.{eq-eqb, ne-eqb}
 use Rattle.definitions.specs.declared.Entry.{Entry}
-use Rattle.definitions.specs.Lists.{iter}
+use Rattle.definitions.specs.Lists.{iter, allBelow}
 use Rattle.definitions.specs.Presentation.{NF, Presentation, toNF}
 use Rattle.definitions.specs.Monomial.{entry, act}
 use Rattle.definitions.specs.Table.{repAt}
+use Rattle.definitions.specs.Judgement.{powerHolds, commutatorHolds}
 use Rattle.formulas.specs.Formulas.{walk}
 use Rattle.numbers.proofs.Blocks.{length-table}
 use Rattle.monomial.proofs.Frames.{col-table}
-use Rattle.columns.specs.Columns.{Squares, sameAt, powerAt, conjugateAt, commutatorAt, intertwinesAt}
+use Rattle.columns.specs.Columns.{Square, Squares, sameAt, powerAt, conjugateAt, commutatorAt, intertwinesAt}
+use Rattle.columns.proofs.Conditions.{power-columns, commutator-columns, intertwiner-columns}
 use Rattle.level.specs.declared.Listed.{Listed}
 use Rattle.level.specs.Stored.{entryIn, Below, lineIn, generatorIn, Stored}
 use Rattle.seek.specs.declared.Scope.{Scope}
-use Rattle.check_relations.specs.Kept.{repIn, Kept, Conjugated}
+use Rattle.check_relations.specs.Kept.{repIn, Kept, PowerOf, WordOf, Conjugated, carries}
 
 -- ---- Entries
 
@@ -65,26 +68,45 @@ module _ (m : ℕ) (T : List ℕ) (D : Listed) (P : Presentation) where
 
   pub power-moved : (j p n c : ℕ) (u : List ℕ) (y z : Entry) → n ≡ j
       → y ≡ iter (act m (generatorIn T D j)) p (entry c 0) → z ≡ walk m (generatorIn T D) n (toNF n u) (entry c 0)
-      → p ≡ P .p j → toNF j u ≡ P .u j → sameAt y z ≡ powerAt P m (repIn T D) j c
+      → PowerOf j p u P → sameAt y z ≡ powerAt P m (repIn T D) j c
   unfolding powerAt repAt
-  power-moved j p n c u y z e a b prime word =
-      ap₂ sameAt (a ∙ ap (λ p. iter (act m (generatorIn T D j)) p (entry c 0)) prime) (b ∙ walk-is j n c e u (P .u j) word)
+  power-moved j p n c u y z e a b is =
+      ap₂ sameAt (a ∙ ap (λ p. iter (act m (generatorIn T D j)) p (entry c 0)) (is .prime)) (b ∙ walk-is j n c e u (P .u j) (is .word))
 
   pub conjugate-moved : (k j n c : ℕ) (w : List ℕ) (y z : Entry) → n ≡ suc k
       → y ≡ walk m (generatorIn T D) n (toNF n w) (entry c 0) → z ≡ act m (generatorIn T D k) y
-      → toNF (suc k) w ≡ P .w k j → z ≡ conjugateAt P m (repIn T D) k j c
+      → WordOf k j w P → z ≡ conjugateAt P m (repIn T D) k j c
   unfolding conjugateAt repAt
-  conjugate-moved k j n c w y z e a b word = b ∙ ap (act m (generatorIn T D k)) (a ∙ walk-is (suc k) n c e w (P .w k j) word)
+  conjugate-moved k j n c w y z e a b is = b ∙ ap (act m (generatorIn T D k)) (a ∙ walk-is (suc k) n c e w (P .w k j) (is .word))
 
   module _ (k j c : ℕ) (w : List ℕ) (y z a b : Entry) (first : y ≡ act m (generatorIn T D j) (entry c 0)) (other : Conjugated m T D k w c z)
-      (word : toNF (suc k) w ≡ P .w k j) where
+      (is : WordOf k j w P) where
     pub commutator-moved : a ≡ act m (generatorIn T D k) y → b ≡ act m (generatorIn T D j) z → sameAt a b ≡ commutatorAt P m (repIn T D) k j c
     unfolding commutatorAt repAt
     commutator-moved e f =
-        ap₂ sameAt (e ∙ ap (act m (generatorIn T D k)) first) (f ∙ ap (act m (generatorIn T D j)) (other .is P j word))
+        ap₂ sameAt (e ∙ ap (act m (generatorIn T D k)) first) (f ∙ ap (act m (generatorIn T D j)) (other .is P j is))
 
     pub intertwiner-moved : (F : Listed) → a ≡ act m (generatorIn T D j) z → b ≡ act m (generatorIn T F k) y
         → sameAt a b ≡ intertwinesAt P m (repIn T D) (repIn T F) k j c
     unfolding intertwinesAt repAt
     intertwiner-moved F e f =
-        ap₂ sameAt (e ∙ ap (act m (generatorIn T D j)) (other .is P j word)) (f ∙ ap (act m (generatorIn T F k)) first)
+        ap₂ sameAt (e ∙ ap (act m (generatorIn T D j)) (other .is P j is)) (f ∙ ap (act m (generatorIn T F k)) first)
+
+-- ---- Relations at every column
+
+module _ {s : Scope} {T : List ℕ} {D : Listed} (K : Kept s T D) (P : Presentation) where
+  pub power-everywhere : (j : ℕ) → j < s .gens → allBelow (D .deg) (powerAt P (s .m) (repIn T D) j) ≡ powerHolds P (s .m) T (repIn T D) j
+  unfolding repAt
+  power-everywhere j l = sym (power-columns P (s .m) (K .modulus) T (s .gens) (repIn T D) (kept-squares K) j l)
+
+  module _ (k j : ℕ) (kn : k < s .gens) (jn : j < s .gens) where
+    pub commutator-everywhere : allBelow (D .deg) (commutatorAt P (s .m) (repIn T D) k j) ≡ commutatorHolds P (s .m) T (repIn T D) k j
+    unfolding repAt
+    commutator-everywhere = sym (commutator-columns P (s .m) (K .modulus) T (s .gens) (repIn T D) (kept-squares K) k j kn jn)
+
+    pub intertwiner-everywhere : {F : Listed} → Kept s T F → F .deg ≡ D .deg
+        → allBelow (D .deg) (intertwinesAt P (s .m) (repIn T D) (repIn T F) k j) ≡ carries P (s .m) (repIn T D) (repIn T F) k j
+    unfolding repAt carries
+    intertwiner-everywhere {F} L e =
+        sym (intertwiner-columns P (s .m) (K .modulus) T (s .gens) (repIn T D) (kept-squares K) k j kn jn (repIn T F)
+        (subst (λ d. Square d (repIn T F .matrix k)) e (kept-squares L .each k kn)))

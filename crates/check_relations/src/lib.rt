@@ -1,15 +1,16 @@
 // Refusals 22 and 24: whether the relations hold on every level, and whether the intertwiners intertwine. Nothing is
 // multiplied out: both sides of a relation move each basis vector, column by column.
 //
-//   same_entry                              two entries are equal
-//   conjugated                              a column moved through a conjugate of a generator
-//   power_at, commutator_at, intertwines_at     a relation at a column
+//   same_entry                                       two entries are equal
+//   conjugated                                       a column moved through a conjugate of a generator
+//   power_at, commutator_at, intertwines_at          a relation at a column
+//   power_holds, commutator_holds, carries_over      the same at every column
 ghost use mathlib.Core.Path.{_≡_};
-ghost use Prim.Native.Nat.{suc, _<_};
-ghost use Rattle.definitions.specs.Presentation.{Presentation, toNF};
-ghost use Rattle.columns.specs.Columns.{sameAt, powerAt, conjugateAt, commutatorAt, intertwinesAt};
-ghost use Rattle.level.specs.Stored.{Below};
-ghost use Rattle.check_relations.specs.Kept.{repIn, Kept, Conjugated};
+ghost use Prim.Native.Nat.{_<_};
+ghost use Rattle.definitions.specs.Presentation.{Presentation};
+ghost use Rattle.definitions.specs.Judgement.{powerHolds, commutatorHolds};
+ghost use Rattle.columns.specs.Columns.{sameAt, powerAt, commutatorAt, intertwinesAt};
+ghost use Rattle.check_relations.specs.Kept.{repIn, Kept, PowerOf, WordOf, Conjugated, carries};
 use definitions::Entry;
 use level::Listed;
 use rows::Row;
@@ -30,7 +31,7 @@ fn same_entry(x: Entry, y: Entry) -> bool
 // Generator j to the power p, its prime, moves column c as its power word u does.
 fn power_at(words: &[u32], s: Scope, d: Listed, j: u32, p: u32, u: &Row, c: u32) -> bool
     requires { ⌜ Kept s (now words) d × (j < s .gens) × (c < d .deg) ⌝ }
-    ensures { λ r. ⌜ ((P : Presentation) → p ≡ P .p j → toNF j (now (u .entry)) ≡ P .u j → r ≡ powerAt P (s .m) (repIn (now (words .entry)) d) j c) ⌝ }
+    ensures { λ r. ⌜ ((P : Presentation) → PowerOf j p (now (u .entry)) P → r ≡ powerAt P (s .m) (repIn (now (words .entry)) d) j c) ⌝ }
 {
     let x = Entry { row: c, exp: 0 };
     let y = level::moved_times(words, d, j, p, x, s.m);
@@ -51,7 +52,7 @@ fn conjugated(words: &[u32], s: Scope, d: Listed, k: u32, w: &Row, c: u32) -> En
 // Generators k < j, whose word is w, commute on column c up to that word.
 fn commutator_at(words: &[u32], s: Scope, d: Listed, k: u32, j: u32, w: &Row, c: u32) -> bool
     requires { ⌜ Kept s (now words) d × (k < s .gens) × (j < s .gens) × (c < d .deg) ⌝ }
-    ensures { λ r. ⌜ ((P : Presentation) → toNF (suc k) (now (w .entry)) ≡ P .w k j → r ≡ commutatorAt P (s .m) (repIn (now (words .entry)) d) k j c) ⌝ }
+    ensures { λ r. ⌜ ((P : Presentation) → WordOf k j (now (w .entry)) P → r ≡ commutatorAt P (s .m) (repIn (now (words .entry)) d) k j c) ⌝ }
 {
     let y = level::moved(words, d, j, Entry { row: c, exp: 0 }, s.m);
     let z = conjugated(words, s, d, k, w, c);
@@ -61,7 +62,7 @@ fn commutator_at(words: &[u32], s: Scope, d: Listed, k: u32, j: u32, w: &Row, c:
     )
 }
 
-// The intertwiner of generator j, which leads from d to e of the same degree, and generator k, at column c.
+// The intertwiner of generator j, which leads from d to e of the same degree, and generator k < j, at column c.
 fn intertwines_at(
     words: &[u32],
     s: Scope,
@@ -73,7 +74,7 @@ fn intertwines_at(
     c: u32,
 ) -> bool
     requires { ⌜ Kept s (now words) d × Kept s (now words) e × (e .deg ≡ d .deg) × (k < s .gens) × (j < s .gens) × (c < d .deg) ⌝ }
-    ensures { λ r. ⌜ ((P : Presentation) → toNF (suc k) (now (w .entry)) ≡ P .w k j → r ≡ intertwinesAt P (s .m) (repIn (now (words .entry)) d) (repIn (now (words .entry)) e) k j c) ⌝ }
+    ensures { λ r. ⌜ ((P : Presentation) → WordOf k j (now (w .entry)) P → r ≡ intertwinesAt P (s .m) (repIn (now (words .entry)) d) (repIn (now (words .entry)) e) k j c) ⌝ }
 {
     let y = level::moved(words, d, j, Entry { row: c, exp: 0 }, s.m);
     let z = conjugated(words, s, d, k, w, c);
@@ -81,4 +82,48 @@ fn intertwines_at(
         level::moved(words, d, j, z, s.m),
         level::moved(words, e, k, y, s.m),
     )
+}
+
+// ---- One relation
+
+// The power relation of generator j, of prime p and power word u.
+fn power_holds(words: &[u32], s: Scope, d: Listed, j: u32, p: u32, u: &Row) -> bool
+    requires { ⌜ Kept s (now words) d × (j < s .gens) ⌝ }
+    ensures { λ r. ⌜ ((P : Presentation) → PowerOf j p (now (u .entry)) P → r ≡ powerHolds P (s .m) (now (words .entry)) (repIn (now (words .entry)) d) j) ⌝ }
+{
+    let deg = d.deg;
+    for c in 0..deg {
+        if !power_at(words, s, d, j, p, u, c) {
+            return false;
+        }
+    }
+    true
+}
+
+// The commutator relation of generators k < j, of word w.
+fn commutator_holds(words: &[u32], s: Scope, d: Listed, k: u32, j: u32, w: &Row) -> bool
+    requires { ⌜ Kept s (now words) d × (k < s .gens) × (j < s .gens) ⌝ }
+    ensures { λ r. ⌜ ((P : Presentation) → WordOf k j (now (w .entry)) P → r ≡ commutatorHolds P (s .m) (now (words .entry)) (repIn (now (words .entry)) d) k j) ⌝ }
+{
+    let deg = d.deg;
+    for c in 0..deg {
+        if !commutator_at(words, s, d, k, j, w, c) {
+            return false;
+        }
+    }
+    true
+}
+
+// The intertwiner of generator j carries generator k from d to e, of the same degree.
+fn carries_over(words: &[u32], s: Scope, d: Listed, e: Listed, k: u32, j: u32, w: &Row) -> bool
+    requires { ⌜ Kept s (now words) d × Kept s (now words) e × (e .deg ≡ d .deg) × (k < s .gens) × (j < s .gens) ⌝ }
+    ensures { λ r. ⌜ ((P : Presentation) → WordOf k j (now (w .entry)) P → r ≡ carries P (s .m) (repIn (now (words .entry)) d) (repIn (now (words .entry)) e) k j) ⌝ }
+{
+    let deg = d.deg;
+    for c in 0..deg {
+        if !intertwines_at(words, s, d, e, k, j, w, c) {
+            return false;
+        }
+    }
+    true
 }

@@ -27,7 +27,7 @@ same-entry-requires : tie.Need-same-entry-requires
 same-entry-requires c κs = search needs
 
 returns : tie.Need-returns
-returns c = λ P word.
+returns c = λ P is.
     let b = c .before .moved3 in
     let a = c .before .before .moved2 in
     let z = c .before .before .before .conjugated in
@@ -35,7 +35,7 @@ returns c = λ P word.
     let x = c .before .before .before .before .before .before .args in
     c .same-entry .ensures
     ∙ intertwiner-moved (x .s .m) (now (x .words)) (x .d) P (x .k) (x .j) (x .c) (now (x .w)) (y .result) (z .result) (a .result) (b .result)
-    (y .ensures .0) (z .ensures) word (x .e) (a .ensures .0) (b .ensures .0)
+    (y .ensures .0) (z .ensures) is (x .e) (a .ensures .0) (b .ensures .0)
 
 pub intertwines-at-spec : {M : Type 1} → statement M
 intertwines-at-spec = tie.close (tie.spec moved-requires conjugated-requires moved-requires-2 moved-requires-3 same-entry-requires returns)

@@ -23,13 +23,13 @@ same-entry-requires : tie.Need-same-entry-requires
 same-entry-requires c κs = search needs
 
 returns : tie.Need-returns
-returns c = λ P prime word.
+returns c = λ P is.
     let a = c .before .before .before .before .before .args in
     let y = c .before .before .before .moved-times in
     let z = c .before .walked in
     c .same-entry .ensures
     ∙ power-moved (a .s .m) (now (a .words)) (a .d) P (a .j) (a .p) _ (a .c) (now (a .u)) (y .result) (z .result) (c .before .before .up .ensures)
-    (y .ensures .0) (z .ensures .0) prime word
+    (y .ensures .0) (z .ensures .0) is
 
 pub power-at-spec : {M : Type 1} → statement M
 power-at-spec = tie.close (tie.spec moved-times-requires up-requires walked-requires same-entry-requires returns)
