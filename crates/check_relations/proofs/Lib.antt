@@ -1,2 +1,3 @@
--- Laws of representations whose lines hold matrices.
+-- Laws of representations whose lines hold matrices, and of their relations.
 pub mod Kept
+pub mod Relations

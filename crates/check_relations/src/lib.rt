@@ -5,15 +5,22 @@
 //   conjugated                                       a column moved through a conjugate of a generator
 //   power_at, commutator_at, intertwines_at          a relation at a column
 //   power_holds, commutator_holds, carries_over      the same at every column
+//   power_relation, commutator_relation              a relation of a representation, whose word is looked up
+//   top_relations, all_relations                     those of one generator with the ones below it, and of all
 ghost use mathlib.Core.Path.{_≡_};
-ghost use Prim.Native.Nat.{_<_};
-ghost use Rattle.definitions.specs.Presentation.{Presentation};
-ghost use Rattle.definitions.specs.Judgement.{powerHolds, commutatorHolds};
+ghost use mathlib.Core.List.{[]};
+ghost use Prim.Native.Nat.{suc, _≤_, _<_};
+ghost use lib.ListN.{getD};
+ghost use Rattle.definitions.specs.Presentation.{Presentation, pairNumber};
+ghost use Rattle.definitions.specs.Judgement.{powerHolds, commutatorHolds, relationsHold};
+ghost use Rattle.rows.specs.Rows.{Reads};
+ghost use Rattle.separation.specs.Relations.{topRelations};
 ghost use Rattle.columns.specs.Columns.{sameAt, powerAt, commutatorAt, intertwinesAt};
 ghost use Rattle.check_relations.specs.Kept.{repIn, Kept, PowerOf, WordOf, Conjugated, carries};
 use definitions::Entry;
 use level::Listed;
 use rows::Row;
+use rows::Words;
 use seek::Scope;
 
 // ---- One column
@@ -122,6 +129,56 @@ fn carries_over(words: &[u32], s: Scope, d: Listed, e: Listed, k: u32, j: u32, w
     let deg = d.deg;
     for c in 0..deg {
         if !intertwines_at(words, s, d, e, k, j, w, c) {
+            return false;
+        }
+    }
+    true
+}
+
+// ---- One representation
+
+// The power relation of generator j.
+fn power_relation(words: &[u32], rows: &Words, primes: &Row, s: Scope, d: Listed, j: u32) -> bool
+    requires { ⌜ Kept s (now words) d × (j < s .gens) ⌝ }
+    ensures { λ r. ⌜ ((P : Presentation) → Reads P (s .gens) (now (primes .entry)) (now (rows .entry)) → r ≡ powerHolds P (s .m) (now (words .entry)) (repIn (now (words .entry)) d) j) ⌝ }
+{
+    let t = level::up(j);
+    let u = rows::word(rows, t, t);
+    power_holds(words, s, d, j, primes[t], &u)
+}
+
+// The commutator relation of generators k < j.
+fn commutator_relation(words: &[u32], rows: &Words, s: Scope, d: Listed, k: u32, j: u32) -> bool
+    requires { ⌜ Kept s (now words) d × (k < j) × (j < s .gens) ⌝ }
+    ensures { λ r. ⌜ ((P : Presentation) → WordOf k j (getD (now (rows .entry)) (pairNumber j k) []) P → r ≡ commutatorHolds P (s .m) (now (words .entry)) (repIn (now (words .entry)) d) k j) ⌝ }
+{
+    let w = rows::word(rows, level::up(j), level::up(k));
+    commutator_holds(words, s, d, k, j, &w)
+}
+
+// The relations of generator j with those below it.
+fn top_relations(words: &[u32], rows: &Words, primes: &Row, s: Scope, d: Listed, j: u32) -> bool
+    requires { ⌜ Kept s (now words) d × (j < s .gens) ⌝ }
+    ensures { λ r. ⌜ ((P : Presentation) → Reads P (s .gens) (now (primes .entry)) (now (rows .entry)) → r ≡ topRelations P (s .m) (now (words .entry)) (suc j) (repIn (now (words .entry)) d)) ⌝ }
+{
+    if !power_relation(words, rows, primes, s, d, j) {
+        return false;
+    }
+    for k in 0..j {
+        if !commutator_relation(words, rows, s, d, k, j) {
+            return false;
+        }
+    }
+    true
+}
+
+// The relations of the first i generators.
+fn all_relations(words: &[u32], rows: &Words, primes: &Row, s: Scope, d: Listed, i: u32) -> bool
+    requires { ⌜ Kept s (now words) d × (i ≤ s .gens) ⌝ }
+    ensures { λ r. ⌜ ((P : Presentation) → Reads P (s .gens) (now (primes .entry)) (now (rows .entry)) → r ≡ relationsHold P (s .m) (now (words .entry)) i (repIn (now (words .entry)) d)) ⌝ }
+{
+    for j in 0..i {
+        if !top_relations(words, rows, primes, s, d, j) {
             return false;
         }
     }
