@@ -1,2 +1,3 @@
--- A representation of a table to which refusal 21 does not apply.
+-- Representations of a table to which refusal 21 does not apply, and their relations.
 pub mod Kept
+pub mod Among

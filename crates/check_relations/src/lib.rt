@@ -7,15 +7,21 @@
 //   power_holds, commutator_holds, carries_over      the same at every column
 //   power_relation, commutator_relation              a relation of a representation, whose word is looked up
 //   top_relations, all_relations                     those of one generator with the ones below it, and of all
+//   carried, all_carried                             a generator carried over by an intertwiner, and all of a level
+//   led_to, intertwiner, all_intertwiners            an intertwiner of a representation, and all of them
 ghost use mathlib.Core.Path.{_≡_};
 ghost use mathlib.Core.List.{[]};
 ghost use Prim.Native.Nat.{suc, _≤_, _<_};
 ghost use lib.ListN.{getD};
+ghost use Rattle.definitions.specs.Lists.{allBelow};
 ghost use Rattle.definitions.specs.Presentation.{Presentation, pairNumber};
-ghost use Rattle.definitions.specs.Judgement.{powerHolds, commutatorHolds, relationsHold};
+ghost use Rattle.definitions.specs.Judgement.{powerHolds, commutatorHolds, relationsHold, intertwines, intertwinersHold};
 ghost use Rattle.rows.specs.Rows.{Reads};
 ghost use Rattle.separation.specs.Relations.{topRelations};
 ghost use Rattle.columns.specs.Columns.{sameAt, powerAt, commutatorAt, intertwinesAt};
+ghost use Rattle.level.specs.Stored.{targetIn};
+ghost use Rattle.seek.specs.Seek.{Found};
+ghost use Rattle.check_relations.specs.Among.{Among, Spells};
 ghost use Rattle.check_relations.specs.Kept.{repIn, Kept, PowerOf, WordOf, Conjugated, carries};
 use definitions::Entry;
 use level::Listed;
@@ -179,6 +185,62 @@ fn all_relations(words: &[u32], rows: &Words, primes: &Row, s: Scope, d: Listed,
 {
     for j in 0..i {
         if !top_relations(words, rows, primes, s, d, j) {
+            return false;
+        }
+    }
+    true
+}
+
+// The intertwiner of generator j carries generator k from d to e, of the same degree.
+fn carried(words: &[u32], rows: &Words, s: Scope, d: Listed, e: Listed, k: u32, j: u32) -> bool
+    requires { ⌜ Kept s (now words) d × Kept s (now words) e × (e .deg ≡ d .deg) × (k < j) × (j < s .gens) ⌝ }
+    ensures { λ r. ⌜ ((P : Presentation) → WordOf k j (getD (now (rows .entry)) (pairNumber j k) []) P → r ≡ carries P (s .m) (repIn (now (words .entry)) d) (repIn (now (words .entry)) e) k j) ⌝ }
+{
+    let w = rows::word(rows, level::up(j), level::up(k));
+    carries_over(words, s, d, e, k, j, &w)
+}
+
+// The same for every generator of level i.
+fn all_carried(words: &[u32], rows: &Words, s: Scope, i: u32, d: Listed, e: Listed, j: u32) -> bool
+    requires { ⌜ Kept s (now words) d × Kept s (now words) e × (e .deg ≡ d .deg) × (i ≤ j) × (j < s .gens) ⌝ }
+    ensures { λ r. ⌜ ((P : Presentation) → Spells s (now (rows .entry)) P → r ≡ allBelow i (λ k. carries P (s .m) (repIn (now (words .entry)) d) (repIn (now (words .entry)) e) k j)) ⌝ }
+{
+    for k in 0..i {
+        if !carried(words, rows, s, d, e, k, j) {
+            return false;
+        }
+    }
+    true
+}
+
+// Where the intertwiner of generator j leads from d, of level i.
+fn led_to(words: &[u32], s: Scope, i: u32, d: Listed, j: u32) -> Listed
+    requires { ⌜ Among s (now words) i d × (i ≤ j) × (j < s .gens) ⌝ }
+    ensures { λ e. ⌜ Found (s .gens) (now (words .entry)) i (targetIn (now (words .entry)) d j) e ⌝ }
+{
+    seek::found(words, s, i, level::up(level::target(words, d, j)))
+}
+
+// The intertwiner of generator j intertwines d, of level i, with the representation to which it leads.
+fn intertwiner(words: &[u32], rows: &Words, s: Scope, i: u32, d: Listed, j: u32) -> bool
+    requires { ⌜ Among s (now words) i d × (i ≤ j) × (j < s .gens) ⌝ }
+    ensures { λ r. ⌜ ((P : Presentation) → Spells s (now (rows .entry)) P → r ≡ intertwines P (s .m) (now (words .entry)) i (repIn (now (words .entry)) d) j) ⌝ }
+{
+    let e = led_to(words, s, i, d, j);
+    if e.deg != d.deg {
+        return false;
+    }
+    all_carried(words, rows, s, i, d, e, j)
+}
+
+// All intertwiners of d, of level i.
+fn all_intertwiners(words: &[u32], rows: &Words, s: Scope, i: u32, d: Listed) -> bool
+    requires { ⌜ Among s (now words) i d ⌝ }
+    ensures { λ r. ⌜ ((P : Presentation) → Spells s (now (rows .entry)) P → r ≡ intertwinersHold P (s .m) (now (words .entry)) i (repIn (now (words .entry)) d)) ⌝ }
+{
+    let gens = s.gens;
+    for j in i..gens {
+        if !intertwiner(words, rows, s, i, d, j) {
             return false;
         }
     }
