@@ -1,3 +1,4 @@
--- Representations of a table to which refusal 21 does not apply, and their relations.
+-- Representations of a table to which refusal 21 does not apply, and what is asked of them.
 pub mod Kept
 pub mod Among
+pub mod Asked

@@ -9,19 +9,23 @@
 //   top_relations, all_relations                     those of one generator with the ones below it, and of all
 //   carried, all_carried                             a generator carried over by an intertwiner, and all of a level
 //   led_to, intertwiner, all_intertwiners            an intertwiner of a representation, and all of them
+//   Condition, holds, holds_on, holds_everywhere     a condition on a representation, on those of a level, on all
+//   top_relations_hold, relations_hold, intertwiners_hold     the conditions on a table
 ghost use mathlib.Core.Path.{_≡_};
 ghost use mathlib.Core.List.{[]};
 ghost use Prim.Native.Nat.{suc, _≤_, _<_};
 ghost use lib.ListN.{getD};
 ghost use Rattle.definitions.specs.Lists.{allBelow};
 ghost use Rattle.definitions.specs.Presentation.{Presentation, pairNumber};
-ghost use Rattle.definitions.specs.Judgement.{powerHolds, commutatorHolds, relationsHold, intertwines, intertwinersHold};
+ghost use Rattle.definitions.specs.Judgement.{everywhere, powerHolds, commutatorHolds, relationsHold, intertwines, intertwinersHold};
 ghost use Rattle.rows.specs.Rows.{Reads};
 ghost use Rattle.separation.specs.Relations.{topRelations};
 ghost use Rattle.columns.specs.Columns.{sameAt, powerAt, commutatorAt, intertwinesAt};
 ghost use Rattle.level.specs.Stored.{targetIn};
 ghost use Rattle.seek.specs.Seek.{Found};
 ghost use Rattle.check_relations.specs.Among.{Among, Spells};
+ghost use Rattle.seek.specs.Formed.{Posed, TellsOf};
+ghost use Rattle.check_relations.specs.Asked.{asked, onLevel};
 ghost use Rattle.check_relations.specs.Kept.{repIn, Kept, PowerOf, WordOf, Conjugated, carries};
 use definitions::Entry;
 use level::Listed;
@@ -245,4 +249,94 @@ fn all_intertwiners(words: &[u32], rows: &Words, s: Scope, i: u32, d: Listed) ->
         }
     }
     true
+}
+
+// ---- Every representation
+
+// What is asked of each representation.
+enum Condition {
+    // The relations of the generator on top of its level.
+    Top,
+    // All relations of its level.
+    Every,
+    // Its intertwiners.
+    Intertwine,
+}
+
+// The condition holds of d, of level i.
+fn holds(
+    words: &[u32],
+    rows: &Words,
+    primes: &Row,
+    s: Scope,
+    q: Condition,
+    i: u32,
+    d: Listed,
+) -> bool
+    requires { ⌜ Among s (now words) i d ⌝ }
+    ensures { λ r. ⌜ TellsOf s (now (rows .entry)) (now (primes .entry)) (now (words .entry)) (λ P. asked q P (s .m) (now (words .entry)) i (repIn (now (words .entry)) d)) r ⌝ }
+{
+    match q {
+        Condition::Top => top_relations(words, rows, primes, s, d, i - 1),
+        Condition::Every => all_relations(words, rows, primes, s, d, i),
+        Condition::Intertwine => all_intertwiners(words, rows, s, i, d),
+    }
+}
+
+// It holds of every representation of level i.
+fn holds_on(words: &[u32], rows: &Words, primes: &Row, s: Scope, q: Condition, i: u32) -> bool
+    requires { ⌜ ((P : Presentation) × Posed P s (now rows) (now primes) (now words)) × (0 < i) × (i ≤ s .gens) ⌝ }
+    ensures { λ r. ⌜ TellsOf s (now (rows .entry)) (now (primes .entry)) (now (words .entry)) (λ P. onLevel (s .gens) (now (words .entry)) (asked q P (s .m) (now (words .entry))) i) r ⌝ }
+{
+    let reps = seek::count_of(words, s, i);
+    let mut d = seek::found(words, s, i, 0);
+    let mut r: usize = 0;
+    loop {
+        if !holds(words, rows, primes, s, q, i, d) {
+            return false;
+        }
+        r += 1;
+        if r == reps {
+            return true;
+        }
+        d = seek::following(words, s, d);
+    }
+}
+
+// It holds of every representation of every level.
+fn holds_everywhere(words: &[u32], rows: &Words, primes: &Row, s: Scope, q: Condition) -> bool
+    requires { ⌜ ((P : Presentation) × Posed P s (now rows) (now primes) (now words)) ⌝ }
+    ensures { λ r. ⌜ TellsOf s (now (rows .entry)) (now (primes .entry)) (now (words .entry)) (λ P. everywhere P (s .m) (now (words .entry)) (asked q P (s .m) (now (words .entry)))) r ⌝ }
+{
+    let gens = s.gens;
+    for i in 0..gens {
+        if !holds_on(words, rows, primes, s, q, i + 1) {
+            return false;
+        }
+    }
+    true
+}
+
+// Whether the relations of the generator on top of each level hold: refusal 22 where 23 does not apply.
+pub fn top_relations_hold(words: &[u32], rows: &Words, primes: &Row, s: Scope) -> bool
+    requires { ⌜ ((P : Presentation) × Posed P s (now rows) (now primes) (now words)) ⌝ }
+    ensures { λ r. ⌜ TellsOf s (now (rows .entry)) (now (primes .entry)) (now (words .entry)) (λ P. everywhere P (s .m) (now (words .entry)) (topRelations P (s .m) (now (words .entry)))) r ⌝ }
+{
+    holds_everywhere(words, rows, primes, s, Condition::Top)
+}
+
+// Whether all relations hold on every level: refusal 22.
+pub fn relations_hold(words: &[u32], rows: &Words, primes: &Row, s: Scope) -> bool
+    requires { ⌜ ((P : Presentation) × Posed P s (now rows) (now primes) (now words)) ⌝ }
+    ensures { λ r. ⌜ TellsOf s (now (rows .entry)) (now (primes .entry)) (now (words .entry)) (λ P. everywhere P (s .m) (now (words .entry)) (relationsHold P (s .m) (now (words .entry)))) r ⌝ }
+{
+    holds_everywhere(words, rows, primes, s, Condition::Every)
+}
+
+// Whether every intertwiner intertwines: refusal 24.
+pub fn intertwiners_hold(words: &[u32], rows: &Words, primes: &Row, s: Scope) -> bool
+    requires { ⌜ ((P : Presentation) × Posed P s (now rows) (now primes) (now words)) ⌝ }
+    ensures { λ r. ⌜ TellsOf s (now (rows .entry)) (now (primes .entry)) (now (words .entry)) (λ P. everywhere P (s .m) (now (words .entry)) (intertwinersHold P (s .m) (now (words .entry)))) r ⌝ }
+{
+    holds_everywhere(words, rows, primes, s, Condition::Intertwine)
 }
