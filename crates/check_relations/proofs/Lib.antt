@@ -1,5 +1,3 @@
--- Laws of representations whose lines hold matrices, of their relations and intertwiners, and of what is asked of all.
-pub mod Kept
-pub mod Relations
-pub mod Intertwiners
+-- Laws of conditions on all representations of a table.
+pub mod Asked
 pub mod Everywhere

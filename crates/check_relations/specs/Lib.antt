@@ -1,4 +1,2 @@
--- Representations of a table to which refusal 21 does not apply, and what is asked of them.
-pub mod Kept
-pub mod Among
+-- What is asked of the representations of a table.
 pub mod Asked

@@ -2,9 +2,8 @@
 use native.Mathlib.Omega.{arith}
 use denote.Ref.{now}
 use borrow.Author.Needs.{needs}
-use Rattle.check_relations.specs.Kept.{repIn}
-use Rattle.check_relations.proofs.Intertwiners.{among-kept}
-use Rattle.check_relations.proofs.Everywhere.{top-told, every-told, intertwine-told}
+use Rattle.relations.proofs.Intertwiners.{among-kept}
+use Rattle.check_relations.proofs.Asked.{top-asked, every-asked, intertwine-asked}
 use Rattle.check_relations.proofs.holds.Statement.{statement}
 use Rattle.check_relations.proofs.holds.Tie as tie
 
@@ -33,24 +32,22 @@ returns : tie.Need-returns
 returns c =
     let z = c .before .before .before .before in
     let a = z .args in
-    let T = now (a .words) in
     let told = c .before .enum-told .given .1 in
-    top-told (a .s) (now (a .rows)) (now (a .primes)) T (a .q) (a .i) (repIn T (a .d)) (c .top-relations .result) told (z .pre .found .level .0)
+    top-asked (a .q) (a .s) (now (a .rows)) (now (a .primes)) (now (a .words)) (a .i) (a .d) (c .top-relations .result) told (z .pre .found .level .0)
     (c .top-relations .ensures)
 
 returns-2 : tie.Need-returns-2
 returns-2 c =
     let a = c .before .before .before .before .args in
-    let T = now (a .words) in
     let told = c .before .enum-told2 .given .1 in
-    every-told (a .s) (now (a .rows)) (now (a .primes)) T (a .q) (a .i) (repIn T (a .d)) (c .all-relations .result) told (c .all-relations .ensures)
+    every-asked (a .q) (a .s) (now (a .rows)) (now (a .primes)) (now (a .words)) (a .i) (a .d) (c .all-relations .result) told (c .all-relations .ensures)
 
 returns-3 : tie.Need-returns-3
 returns-3 c =
     let a = c .before .before .before .before .args in
-    let T = now (a .words) in
     let told = c .before .enum-told3 .given .1 in
-    intertwine-told (a .s) (now (a .rows)) (now (a .primes)) T (a .q) (a .i) (repIn T (a .d)) (c .all-intertwiners .result) told (c .all-intertwiners .ensures)
+    intertwine-asked (a .q) (a .s) (now (a .rows)) (now (a .primes)) (now (a .words)) (a .i) (a .d) (c .all-intertwiners .result) told
+    (c .all-intertwiners .ensures)
 
 pub holds-spec : {M : Type 1} → statement M
 holds-spec =

@@ -2,15 +2,15 @@
 use Prim.Native.Nat.{_-_}
 use native.Mathlib.Omega.{arith}
 use borrow.Author.Tests.{not-true, not-false}
-use borrow.Author.Needs.{needs}
 use denote.Ref.{now}
 use Rattle.numbers.proofs.Passed.{passed-none, passed-more}
+use Rattle.check_relations.specs.Asked.{asked}
 use Rattle.check_relations.proofs.Everywhere.{PassingUpTo, level-told, table-fails, table-holds}
 use Rattle.check_relations.proofs.holds_everywhere.Statement.{statement}
 use Rattle.check_relations.proofs.holds_everywhere.Tie as tie
 
 abbrev Inv-loop : tie.InvT-loop
-Inv-loop words rows primes s q gens i₀ i = PassingUpTo s rows primes words q i
+Inv-loop words rows primes s q gens i₀ i = PassingUpTo (asked q) s rows primes words i
 
 abbrev μ-loop : tie.MeasureT-loop
 μ-loop words rows primes s q gens i₀ i = gens - i
@@ -29,7 +29,8 @@ returns c =
     let l = c .before .before .before in
     let a = l .before .before .args in
     let t = c .before .holds-on in
-    table-fails (a .s) (now (a .rows)) (now (a .primes)) (now (a .words)) (a .q) (l .loop .inv) (omega arith) (t .ensures) (not-true (t .result) (c .if1 .taken))
+    table-fails (asked (a .q)) (a .s) (now (a .rows)) (now (a .primes)) (now (a .words)) (l .loop .inv) (omega arith) (t .ensures)
+    (not-true (t .result) (c .if1 .taken))
 
 add-i : tie.Need-add-i Inv-loop μ-loop
 add-i c = omega arith
@@ -42,13 +43,14 @@ loop-again c =
     let l = c .before .before .before in
     let a = l .before .before .args in
     let t = c .before .holds-on in
-    passed-more (l .loop .inv) (level-told (a .s) (now (a .rows)) (now (a .primes)) (now (a .words)) (a .q) (l .loop .i) (t .ensures)) (not-false (t .result) (c .if1 .left))
+    let told = level-told (asked (a .q)) (a .s) (now (a .rows)) (now (a .primes)) (now (a .words)) (l .loop .i) (t .ensures) in
+    passed-more (l .loop .inv) told (not-false (t .result) (c .if1 .left))
 
 returns-2 : tie.Need-returns-2 Inv-loop μ-loop
 returns-2 c =
     let l = c .before in
     let a = l .before .before .args in
-    table-holds (a .s) (now (a .rows)) (now (a .primes)) (now (a .words)) (a .q) (l .loop .inv) (omega arith)
+    table-holds (asked (a .q)) (a .s) (now (a .rows)) (now (a .primes)) (now (a .words)) (l .loop .inv) (omega arith)
 
 pub holds-everywhere-spec : {M : Type 1} → statement M
 holds-everywhere-spec =

@@ -1,22 +1,22 @@
 -- `holds_on` goes through the representations of the level, one behind the other.
-use mathlib.Core.Path.{_≡_, sym, subst}
-use Prim.Native.Nat.{_-_, _<_}
+use mathlib.Core.Path.{sym, subst}
+use Prim.Native.Nat.{_-_}
 use native.Mathlib.Numerals.{add-one}
 use native.Mathlib.Omega.{arith}
 use lib.ListN.{length}
 use borrow.Author.Tests.{not-true, not-false}
-use borrow.Author.Needs.{needs}
 use denote.Ref.{now}
 use Rattle.definitions.specs.Table.{levelAt}
 use Rattle.numbers.proofs.Passed.{passed-none, passed-more}
 use Rattle.seek.specs.Seek.{Found}
 use Rattle.seek.proofs.Seek.{whole-some}
-use Rattle.check_relations.proofs.Everywhere.{PassingOn, told-found, level-fails, level-holds}
+use Rattle.check_relations.specs.Asked.{asked}
+use Rattle.check_relations.proofs.Everywhere.{PassingOn, found-told, level-fails, level-holds}
 use Rattle.check_relations.proofs.holds_on.Statement.{statement}
 use Rattle.check_relations.proofs.holds_on.Tie as tie
 
 abbrev Inv-loop : tie.InvT-loop
-Inv-loop words rows primes s q i reps d₀ r₀ d r = Found (s .gens) words i r d × PassingOn s rows primes words q i r
+Inv-loop words rows primes s q i reps d₀ r₀ d r = Found (s .gens) words i r d × PassingOn (asked q) s rows primes words i r
 
 abbrev μ-loop : tie.MeasureT-loop
 μ-loop words rows primes s q i reps d₀ r₀ d r = length (levelAt (s .gens) words i) - r
@@ -45,7 +45,7 @@ returns c =
     let a = l .before .before .before .before .args in
     let t = c .before .holds in
     let (F, passed) = l .loop .inv in
-    level-fails (a .s) (now (a .rows)) (now (a .primes)) (now (a .words)) (a .q) (a .i) passed F (t .ensures) (not-true (t .result) (c .if1 .taken))
+    level-fails (asked (a .q)) (a .s) (now (a .rows)) (now (a .primes)) (now (a .words)) (a .i) passed F (t .ensures) (not-true (t .result) (c .if1 .taken))
 
 add-r : tie.Need-add-r Inv-loop μ-loop
 add-r c =
@@ -61,8 +61,8 @@ returns-2 c =
     let t = o .before .holds in
     let (F, passed) = l .loop .inv in
     let n = l .before .before .count-of .ensures in
-    let told = told-found (a .s) (now (a .rows)) (now (a .primes)) T (a .q) (a .i) F (t .ensures) in
-    level-holds (a .s) (now (a .rows)) (now (a .primes)) T (a .q) (a .i) (passed-more passed told (not-false (t .result) (o .if1 .left)))
+    let told = found-told (asked (a .q)) (a .s) (now (a .rows)) (now (a .primes)) T (a .i) F (t .ensures) in
+    level-holds (asked (a .q)) (a .s) (now (a .rows)) (now (a .primes)) T (a .i) (passed-more passed told (not-false (t .result) (o .if1 .left)))
     (omega (arith, c .if2 .taken, n))
 
 following-requires : tie.Need-following-requires Inv-loop μ-loop
@@ -87,7 +87,7 @@ loop-again c =
     let (F, passed) = l .loop .inv in
     let n = l .before .before .count-of .ensures in
     let next = c .following .ensures (a .i) r F (omega (arith, F .listed, c .before .if2 .left, n)) in
-    let told = told-found (a .s) (now (a .rows)) (now (a .primes)) T (a .q) (a .i) F (t .ensures) in (
+    let told = found-told (asked (a .q)) (a .s) (now (a .rows)) (now (a .primes)) T (a .i) F (t .ensures) in (
       subst (λ r. Found (a .s .gens) T (a .i) r (c .following .result)) (sym (add-one r)) next,
       passed-more passed told (not-false (t .result) (o .if1 .left)),
     )
