@@ -222,7 +222,9 @@ fn intertwiner(words: &[u32], rows: &Words, s: Scope, i: u32, d: Listed, j: u32)
     ensures { λ r. ⌜ Decides (Spells s (now (rows .entry))) (intertwinesIn s (now (words .entry)) d i j) r ⌝ }
 {
     let e = led_to(words, s, i, d, j);
-    if e.deg != d.deg {
+    let from = d.deg;
+    let to = e.deg;
+    if to != from {
         return false;
     }
     all_carried(words, rows, s, i, d, e, j)
