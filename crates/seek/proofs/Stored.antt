@@ -2,20 +2,21 @@
 --
 --   valid-holds       lines of a valid matrix hold it
 --   found-stored      so the lines of a representation are stored, where 21 does not apply
+--   found-target      its intertwiners lead to representations of its level
 use mathlib.Core.Path.{_≡_, sym, _∙_, ap, subst}
-use mathlib.Core.Bool.{Bool, true, false, _&&_}
+use mathlib.Core.Bool.{Bool, true, false, _&&_, _||_}
 use mathlib.Core.List.{List}
 use Prim.Native.Nat.{ℕ, zero, suc, _+_, _*_, _%_, _≤_, _<_}
 use native.Mathlib.Nat.{mul-le-mul-right}
 use native.Mathlib.Omega.{arith}
 use lib.Dec.{eqb, ltb, leb}
 use lib.ListN.{length}
-use borrow.Author.Tests.{eqb-true, ltb-true, not-false}
+use borrow.Author.Tests.{eqb-true, ltb-true, le-ltb, not-false}
 use Rattle.definitions.specs.declared.Entry.{Entry}
 use Rattle.definitions.specs.Lists.{allBelow, anyBelow}
 use Rattle.definitions.specs.Presentation.{Presentation, lineWords, order}
 use Rattle.definitions.specs.Monomial.{col, valid, Rep, repOf}
-use Rattle.definitions.specs.Table.{repAt, levelAt, complete}
+use Rattle.definitions.specs.Table.{REF, wordAt, repAt, levelAt, complete}
 use Rattle.definitions.specs.Judgement.{matricesValid, blocksWhole, targetsListed, malformed}
 use Rattle.numbers.proofs.Bools.{and-left, and-right}
 use Rattle.numbers.proofs.Lists.{allBelow-elim}
@@ -24,7 +25,7 @@ use Rattle.numbers.proofs.Pigeonhole.{onto-injects}
 use Rattle.monomial.proofs.Frames.{col-table}
 use Rattle.clifford.proofs.Everywhere.{everywhere-elim}
 use Rattle.level.specs.declared.Listed.{Listed}
-use Rattle.level.specs.Stored.{entryIn, matrixIn, Below, Holds, Stored}
+use Rattle.level.specs.Stored.{entryIn, matrixIn, Below, Holds, targetIn, Stored}
 use Rattle.seek.specs.Seek.{Found}
 use Rattle.seek.proofs.Halves.{lines-there}
 
@@ -99,3 +100,28 @@ module _ (P : Presentation) (m : ℕ) (T : List ℕ) (formed : malformed P m T �
 
       matrix : (g : ℕ) → g < P .n → valid m (D .deg) (matrixIn T (D .line + g * D .deg) (D .deg)) ≡ true
       matrix g l = unfold repAt in (subst (λ (X : Rep). valid m (X .deg) (X .matrix g) ≡ true) (F .rep) (matrices-valid i (F .level .1) r (F .listed) g l))
+
+  -- ---- Its references
+
+  targets-listed : (i : ℕ) → i < P .n → (r : ℕ) → r < length (levelAt (P .n) T (suc i)) → (j : ℕ) → suc i ≤ j → j < P .n
+      → repOf (levelAt (P .n) T (suc i)) r .ref j 0 < length (levelAt (P .n) T (suc i))
+  unfolding targetsListed
+  targets-listed i l r h j a b =
+      let R : Rep = repOf (levelAt (P .n) T (suc i)) r in
+      let many : ℕ = length (levelAt (P .n) T (suc i)) in
+      let one : Bool = allBelow (R .deg) (λ c. eqb (R .ref j c) (R .ref j 0)) in
+      let v = and-right (matricesValid P m T (suc i) R && blocksWhole P m T (suc i) R) (targetsListed P m T (suc i) R) (wellFormed i l r h) in
+      let w = allBelow-elim (P .n) (λ j. ltb j (suc i) || (ltb (R .ref j 0) many && allBelow (R .deg) (λ c. eqb (R .ref j c) (R .ref j 0)))) v j b in
+      let x = sym (ap (λ t. t || (ltb (R .ref j 0) many && one)) (le-ltb j (suc i) a)) ∙ w in
+      ltb-true (R .ref j 0) many (and-left (ltb (R .ref j 0) many) one x)
+
+  pub found-target : (i r : ℕ) (D : Listed) → Found (P .n) T i r D → (j : ℕ) → i ≤ j → j < P .n → targetIn T D j < length (levelAt (P .n) T i)
+  found-target zero r D F j a b = absurd (omega (arith, F .level .0))
+  found-target (suc i) r D F j a b = subst (λ l. wordAt T l REF < length (levelAt (P .n) T (suc i))) first here
+    where
+      first : D .line + j * D .deg + 0 ≡ D .line + j * D .deg
+      first = omega arith
+
+      here : wordAt T (D .line + j * D .deg + 0) REF < length (levelAt (P .n) T (suc i))
+      here = unfold repAt in
+          (subst (λ (X : Rep). X .ref j 0 < length (levelAt (P .n) T (suc i))) (F .rep) (targets-listed i (F .level .1) r (F .listed) j a b))

@@ -1,0 +1,3 @@
+-- Laws of conditions on all representations of a table.
+pub mod Asked
+pub mod Everywhere

@@ -1,0 +1,65 @@
+-- `holds` picks the test of a condition.
+use native.Mathlib.Omega.{arith}
+use denote.Ref.{now}
+use borrow.Author.Needs.{needs}
+use Rattle.relations.proofs.Intertwiners.{among-kept}
+use Rattle.check_relations.proofs.Asked.{top-asked, every-asked, intertwine-asked}
+use Rattle.check_relations.proofs.holds.Statement.{statement}
+use Rattle.check_relations.proofs.holds.Tie as tie
+
+enum-told : tie.Need-enum-told
+enum-told c = search needs
+
+sub-top-relations : tie.Need-sub-top-relations
+sub-top-relations c = search needs
+
+top-relations-requires : tie.Need-top-relations-requires
+top-relations-requires c κs = let A = c .before .before .before .pre in (among-kept A, omega (arith, A .found .level))
+
+enum-told-2 : tie.Need-enum-told-2
+enum-told-2 c = search needs
+
+all-relations-requires : tie.Need-all-relations-requires
+all-relations-requires c κs = let A = c .before .before .before .pre in (among-kept A, A .found .level .1)
+
+enum-told-3 : tie.Need-enum-told-3
+enum-told-3 c = search needs
+
+all-intertwiners-requires : tie.Need-all-intertwiners-requires
+all-intertwiners-requires c κs = search needs
+
+returns : tie.Need-returns
+returns c =
+    let z = c .before .before .before .before in
+    let a = z .args in
+    let told = c .before .enum-told .given .1 in
+    top-asked (a .q) (a .s) (now (a .rows)) (now (a .primes)) (now (a .words)) (a .i) (a .d) (c .top-relations .result) told (z .pre .found .level .0)
+    (c .top-relations .ensures)
+
+returns-2 : tie.Need-returns-2
+returns-2 c =
+    let a = c .before .before .before .before .args in
+    let told = c .before .enum-told2 .given .1 in
+    every-asked (a .q) (a .s) (now (a .rows)) (now (a .primes)) (now (a .words)) (a .i) (a .d) (c .all-relations .result) told (c .all-relations .ensures)
+
+returns-3 : tie.Need-returns-3
+returns-3 c =
+    let a = c .before .before .before .before .args in
+    let told = c .before .enum-told3 .given .1 in
+    intertwine-asked (a .q) (a .s) (now (a .rows)) (now (a .primes)) (now (a .words)) (a .i) (a .d) (c .all-intertwiners .result) told
+    (c .all-intertwiners .ensures)
+
+pub holds-spec : {M : Type 1} → statement M
+holds-spec =
+    tie.close
+    (tie.spec
+    enum-told
+    sub-top-relations
+    top-relations-requires
+    enum-told-2
+    all-relations-requires
+    enum-told-3
+    all-intertwiners-requires
+    returns
+    returns-2
+    returns-3)

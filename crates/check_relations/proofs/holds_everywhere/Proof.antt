@@ -1,0 +1,57 @@
+-- `holds_everywhere` tests the levels one by one.
+use Prim.Native.Nat.{_-_}
+use native.Mathlib.Omega.{arith}
+use borrow.Author.Tests.{not-true, not-false}
+use denote.Ref.{now}
+use Rattle.numbers.proofs.Passed.{passed-none, passed-more}
+use Rattle.check_relations.specs.Asked.{asked}
+use Rattle.check_relations.proofs.Everywhere.{PassingUpTo, level-told, table-fails, table-holds}
+use Rattle.check_relations.proofs.holds_everywhere.Statement.{statement}
+use Rattle.check_relations.proofs.holds_everywhere.Tie as tie
+
+abbrev Inv-loop : tie.InvT-loop
+Inv-loop words rows primes s q gens i₀ i = PassingUpTo (asked q) s rows primes words i
+
+abbrev μ-loop : tie.MeasureT-loop
+μ-loop words rows primes s q gens i₀ i = gens - i
+
+loop-holds : tie.Need-loop-holds Inv-loop μ-loop
+loop-holds c = passed-none
+
+add-holds-on : tie.Need-add-holds-on Inv-loop μ-loop
+add-holds-on c = omega arith
+
+holds-on-requires : tie.Need-holds-on-requires Inv-loop μ-loop
+holds-on-requires c κs = let z = c .before .before .before in (z .pre, omega arith, omega arith)
+
+returns : tie.Need-returns Inv-loop μ-loop
+returns c =
+    let l = c .before .before .before in
+    let a = l .before .before .args in
+    let t = c .before .holds-on in
+    table-fails (asked (a .q)) (a .s) (now (a .rows)) (now (a .primes)) (now (a .words)) (l .loop .inv) (omega arith) (t .ensures)
+    (not-true (t .result) (c .if1 .taken))
+
+add-i : tie.Need-add-i Inv-loop μ-loop
+add-i c = omega arith
+
+loop-less : tie.Need-loop-less Inv-loop μ-loop
+loop-less c = omega arith
+
+loop-again : tie.Need-loop-again Inv-loop μ-loop
+loop-again c =
+    let l = c .before .before .before in
+    let a = l .before .before .args in
+    let t = c .before .holds-on in
+    let told = level-told (asked (a .q)) (a .s) (now (a .rows)) (now (a .primes)) (now (a .words)) (l .loop .i) (t .ensures) in
+    passed-more (l .loop .inv) told (not-false (t .result) (c .if1 .left))
+
+returns-2 : tie.Need-returns-2 Inv-loop μ-loop
+returns-2 c =
+    let l = c .before in
+    let a = l .before .before .args in
+    table-holds (asked (a .q)) (a .s) (now (a .rows)) (now (a .primes)) (now (a .words)) (l .loop .inv) (omega arith)
+
+pub holds-everywhere-spec : {M : Type 1} → statement M
+holds-everywhere-spec =
+    tie.close (tie.spec Inv-loop μ-loop loop-holds add-holds-on holds-on-requires returns add-i loop-less loop-again returns-2)

@@ -1,0 +1,15 @@
+-- `top_relations_hold` is one of the conditions.
+use borrow.Author.Needs.{needs}
+use Rattle.check_relations.specs.Asked.{asked}
+use Rattle.check_relations.proofs.top_relations_hold.Statement.{statement}
+use Rattle.check_relations.proofs.top_relations_hold.Tie as tie
+
+holds-everywhere-requires : tie.Need-holds-everywhere-requires
+holds-everywhere-requires c κs = search needs
+
+returns : tie.Need-returns
+unfolding asked
+returns c = c .holds-everywhere .ensures
+
+pub top-relations-hold-spec : {M : Type 1} → statement M
+top-relations-hold-spec = tie.close (tie.spec holds-everywhere-requires returns)

@@ -1,0 +1,2 @@
+-- What is asked of the representations of a table.
+pub mod Asked

@@ -1,0 +1,4 @@
+-- Laws of representations whose lines hold matrices, and of their relations and intertwiners.
+pub mod Kept
+pub mod Relations
+pub mod Intertwiners

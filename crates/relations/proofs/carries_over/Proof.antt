@@ -1,0 +1,53 @@
+-- `carries_over` tests the columns one by one.
+use mathlib.Core.Path.{_∙_}
+use Prim.Native.Nat.{_-_}
+use native.Mathlib.Omega.{arith}
+use borrow.Author.Tests.{not-true, not-false}
+use borrow.Author.Needs.{needs}
+use Rattle.numbers.proofs.Passed.{Passed, passed-none, passed-more, passed-all, passed-fails}
+use Rattle.relations.specs.Said.{WordOf}
+use Rattle.relations.specs.Tests.{carriesAtIn}
+use Rattle.relations.proofs.Kept.{intertwiner-everywhere}
+use Rattle.relations.proofs.carries_over.Statement.{statement}
+use Rattle.relations.proofs.carries_over.Tie as tie
+
+abbrev Inv-loop : tie.InvT-loop
+Inv-loop words s d e k j w deg c₀ c = Passed (WordOf k j w) (λ P c. carriesAtIn s words d e k j c P) c
+
+abbrev μ-loop : tie.MeasureT-loop
+μ-loop words s d e k j w deg c₀ c = deg - c
+
+loop-holds : tie.Need-loop-holds Inv-loop μ-loop
+loop-holds c = passed-none
+
+intertwines-at-requires : tie.Need-intertwines-at-requires Inv-loop μ-loop
+intertwines-at-requires c κs = search needs
+
+returns : tie.Need-returns Inv-loop μ-loop
+returns c = λ P is.
+    let l = c .before .before .before in
+    let z = l .before .before in
+    let t = c .before .intertwines-at in
+    passed-fails (l .loop .inv) (omega arith) (t .ensures) (not-true (t .result) (c .if1 .taken)) P is
+    ∙ intertwiner-everywhere (z .pre .0) P (z .args .k) (z .args .j) (z .pre .3) (z .pre .4) (z .pre .1) (z .pre .2)
+
+add-c : tie.Need-add-c Inv-loop μ-loop
+add-c c = omega arith
+
+loop-less : tie.Need-loop-less Inv-loop μ-loop
+loop-less c = omega arith
+
+loop-again : tie.Need-loop-again Inv-loop μ-loop
+loop-again c =
+    let t = c .before .intertwines-at in
+    passed-more (c .before .before .before .loop .inv) (t .ensures) (not-false (t .result) (c .if1 .left))
+
+returns-2 : tie.Need-returns-2 Inv-loop μ-loop
+returns-2 c = λ P is.
+    let l = c .before in
+    let z = l .before .before in
+    passed-all (l .loop .inv) (omega arith) P is
+    ∙ intertwiner-everywhere (z .pre .0) P (z .args .k) (z .args .j) (z .pre .3) (z .pre .4) (z .pre .1) (z .pre .2)
+
+pub carries-over-spec : {M : Type 1} → statement M
+carries-over-spec = tie.close (tie.spec Inv-loop μ-loop loop-holds intertwines-at-requires returns add-c loop-less loop-again returns-2)
