@@ -1,0 +1,83 @@
+-- `size_ok` meets its contract: the level, the degree, its square, its lines.
+use mathlib.Core.Path.{ap}
+use Prim.Native.Nat.{_*_, _≤_}
+use native.Mathlib.Omega.{arith}
+use denote.Ref.{now}
+use Rattle.check_heads.specs.Places.{ordersIn}
+use Rattle.check_heads.proofs.Places.{refuted, size-told, size-last}
+use borrow.Author.Needs.{needs}
+use Rattle.check_heads.proofs.size_ok.Statement.{statement}
+use Rattle.check_heads.proofs.size_ok.Tie as tie
+
+returns : tie.Need-returns
+returns c =
+    let a = c .before .before .before in
+    refuted _ (λ h. omega (arith, size-told (a .args .s) (ordersIn (now (a .args .orders))) (a .args .p) (a .args .d) h .level))
+
+returns-2 : tie.Need-returns-2
+returns-2 c =
+    let a = c .before .before .before .before in
+    refuted _ (λ h. omega (arith, size-told (a .args .s) (ordersIn (now (a .args .orders))) (a .args .p) (a .args .d) h .positive))
+
+up-requires : tie.Need-up-requires
+up-requires c κs = search needs
+
+mul-up : tie.Need-mul-up
+mul-up c = search needs
+
+element-copy-out-up : tie.Need-element-copy-out-up
+element-copy-out-up c = search needs
+
+up-requires-2 : tie.Need-up-requires-2
+up-requires-2 c κs = search needs
+
+times-requires : tie.Need-times-requires
+times-requires c κs = search needs
+
+returns-3 : tie.Need-returns-3
+returns-3 c =
+    let k1 = c .before in
+    let k2 = k1 .before in
+    let k3 = k2 .before .before in
+    let a = k3 .before .before .before .before .before in
+    let ord = ordersIn (now (a .args .orders)) in
+    let e = ap ord (k3 .up .ensures) in
+    refuted _ (λ h. omega (arith, e, k2 .up2 .ensures, k1 .times .ensures, size-told (a .args .s) ord (a .args .p) (a .args .d) h .square))
+
+times-requires-2 : tie.Need-times-requires-2
+times-requires-2 c κs = search needs
+
+sub-result : tie.Need-sub-result
+sub-result c = search needs
+
+returns-4 : tie.Need-returns-4
+returns-4 c =
+    let k1 = c .before .before in
+    let k2 = k1 .before in
+    let k3 = k2 .before in
+    let k4 = k3 .before in
+    let k5 = k4 .before .before in
+    let k6 = k5 .before in
+    let k7 = k6 .before in
+    let a = k7 .before .before .before in
+    let e = ap (ordersIn (now (a .args .orders))) (k5 .up .ensures) in
+    let square : a .args .d * a .args .d ≤ ordersIn (now (a .args .orders)) (a .args .p .level) =
+    omega (arith, e, k4 .up2 .ensures, k3 .times .ensures, k2 .if3 .left) in
+    size-last (a .args .s) (ordersIn (now (a .args .orders))) (a .args .p) (a .args .d) (k1 .times2 .result) (k1 .times2 .ensures)
+    (a .pre .0) (omega (arith, k7 .if1 .left)) (omega (arith, k6 .if2 .left)) square
+
+pub size-ok-spec : {M : Type 1} → statement M
+size-ok-spec =
+    tie.close
+    (tie.spec
+    returns
+    returns-2
+    up-requires
+    mul-up
+    element-copy-out-up
+    up-requires-2
+    times-requires
+    returns-3
+    times-requires-2
+    sub-result
+    returns-4)
