@@ -1,9 +1,7 @@
 -- What the tests of a walk over heads say, and how it goes on.
 --
---   refuted                        a test that cannot pass
 --   head-last                      the head of a line, by its last field
 --   matrix-is                      the lines of a generator
---   part-inside                    they stand within the words
 --   product-fits                   a product of two words
 --   Sizes, size-told, size-last    what is asked of a size, and its last test
 --   place-small, place-heads, place-room      a place by the size of its representation, and then by its heads
@@ -15,7 +13,7 @@ use mathlib.Core.Path.{_≡_, refl, sym, _∙_, ap, ap₂, subst}
 use mathlib.Core.Bool.{Bool, true, false, _&&_, false≢true}
 use mathlib.Core.List.{List}
 use Prim.Native.Nat.{ℕ, suc, _+_, _*_, _-_, _%_, _≤_, _<_}
-use native.Mathlib.Nat.{mul-pos, mul-le-mul, mul-le-mul-right}
+use native.Mathlib.Nat.{mul-pos, mul-le-mul}
 use native.Mathlib.Numerals.{add-one}
 use native.Mathlib.Omega.{arith}
 use lib.Dec.{eqb, leb, ltb}
@@ -24,7 +22,7 @@ use borrow.Author.Tests.{eqb-true, eq-eqb, ne-eqb, lt-ltb, le-ltb, ltb-true, le-
 use Rattle.definitions.specs.Lists.{allBelow}
 use Rattle.definitions.specs.Presentation.{lineWords}
 use Rattle.definitions.specs.Table.{LEVEL, REP, DEG, GEN, COL, wordAt, lineCount}
-use Rattle.numbers.proofs.Bools.{and-left, and-right, and-intro, same-test}
+use Rattle.numbers.proofs.Bools.{and-left, and-right, and-intro, same-test, refuted}
 use Rattle.heads.specs.Walk.{headIs, matrixHeads, begins, nextLevel, nextRep, repHeads, stepOk, walkFrom, headsOk}
 use Rattle.heads.proofs.Walk.{head-is, is-head, Passing, begins-yes, begins-no, step-kept}
 use Rattle.heads.proofs.Going.{Walking, going-none, going-more, going-fails, going-ends}
@@ -34,10 +32,6 @@ use Rattle.seek.specs.declared.Scope.{Scope}
 use Rattle.seek.proofs.Halves.{lines-there}
 use Rattle.check_heads.specs.declared.Place.{Place}
 use Rattle.check_heads.specs.Places.{Counted, turnedTo, behind, Inside, sizeOk, placeOk}
-
-pub refuted : (b : Bool) → ¬ (b ≡ true) → false ≡ b
-refuted true f = absurd (f refl)
-refuted false f = refl
 
 -- ---- Lines
 
@@ -51,9 +45,6 @@ head-last T l i r d g c a b e f =
 pub matrix-is : (T : List ℕ) (l i r d g at : ℕ) → at ≡ l + g * d → allBelow d (λ c. headIs T (at + c) i r d g c) ≡ matrixHeads T l i r d g
 unfolding matrixHeads
 matrix-is T l i r d g at e = ap (λ a. allBelow d (λ c. headIs T (a + c) i r d g c)) e
-
-pub part-inside : (l n d g words : ℕ) → g < n → 8 * (l + n * d) ≤ words → 8 * (l + g * d + d) ≤ words
-part-inside l n d g words h k = let e : suc g * d ≤ n * d = mul-le-mul-right {m = suc g} {n = n} d h in omega (arith, e)
 
 -- ---- The size of a representation
 

@@ -2,9 +2,10 @@
 use mathlib.Core.Path.{sym, _∙_, ap}
 use lib.Dec.{eqb}
 use denote.Ref.{now}
+use Rattle.numbers.proofs.Bools.{refuted}
 use native.Mathlib.Numerals.{add-one}
 use Rattle.heads.proofs.Walk.{head-is}
-use Rattle.check_heads.proofs.Places.{refuted, head-last}
+use Rattle.check_heads.proofs.Places.{head-last}
 use borrow.Author.Needs.{needs}
 use Rattle.check_heads.proofs.head_is.Statement.{statement}
 use Rattle.check_heads.proofs.head_is.Tie as tie

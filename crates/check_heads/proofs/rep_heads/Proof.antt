@@ -5,7 +5,7 @@ use native.Mathlib.Omega.{arith}
 use borrow.Author.Tests.{not-true, not-false}
 use Rattle.heads.specs.Walk.{matrixHeads}
 use Rattle.conditions.proofs.Conditions.{Tested, tested-none, tested-more, tested-all, tested-fails}
-use Rattle.check_heads.proofs.Places.{part-inside}
+use Rattle.level.proofs.Laws.{matrix-inside}
 use Rattle.check_heads.proofs.rep_heads.Statement.{statement}
 use Rattle.check_heads.proofs.rep_heads.Tie as tie
 
@@ -22,7 +22,7 @@ matrix-heads-requires : tie.Need-matrix-heads-requires Inv-loop μ-loop
 matrix-heads-requires c κs =
     let k1 = c .before in
     let a = k1 .before .before in
-    (part-inside (a .args .d .line) (a .args .n) (a .args .d .deg) (k1 .loop .g) _ (omega arith) (a .pre .0), omega (arith, a .pre .1))
+    (matrix-inside (a .args .d) (a .args .n) (k1 .loop .g) _ (omega arith) (a .pre .0), omega (arith, a .pre .1))
 
 returns : tie.Need-returns Inv-loop μ-loop
 returns c =

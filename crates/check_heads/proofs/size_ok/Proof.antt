@@ -3,8 +3,9 @@ use mathlib.Core.Path.{ap}
 use Prim.Native.Nat.{_*_, _≤_}
 use native.Mathlib.Omega.{arith}
 use denote.Ref.{now}
+use Rattle.numbers.proofs.Bools.{refuted}
 use Rattle.check_heads.specs.Places.{ordersIn}
-use Rattle.check_heads.proofs.Places.{refuted, size-told, size-last}
+use Rattle.check_heads.proofs.Places.{size-told, size-last}
 use borrow.Author.Needs.{needs}
 use Rattle.check_heads.proofs.size_ok.Statement.{statement}
 use Rattle.check_heads.proofs.size_ok.Tie as tie
