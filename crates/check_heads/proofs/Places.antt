@@ -31,7 +31,7 @@ use Rattle.level.specs.Stored.{lineIn, listedIn}
 use Rattle.seek.specs.declared.Scope.{Scope}
 use Rattle.seek.proofs.Halves.{lines-there}
 use Rattle.check_heads.specs.declared.Place.{Place}
-use Rattle.check_heads.specs.Places.{Counted, turnedTo, behind, Inside, sizeOk, placeOk}
+use Rattle.check_heads.specs.Places.{turnedTo, behind, Inside, sizeOk, placeOk}
 
 -- ---- Lines
 

@@ -18,7 +18,7 @@ use borrow.Author.Count.{below-more}
 use borrow.Author.Tests.{eq-eqb, lt-ltb, le-ltb}
 use Rattle.definitions.specs.declared.Entry.{Entry}
 use Rattle.definitions.specs.Lists.{allBelow, anyBelow}
-use Rattle.definitions.specs.Monomial.{Matrix, col, valid}
+use Rattle.definitions.specs.Monomial.{Matrix, valid}
 use Rattle.definitions.specs.Table.{REF, wordAt}
 use Rattle.numbers.proofs.Lists.{allBelow-below}
 use Rattle.numbers.proofs.Searches.{anyBelow-below, anyBelow-intro, anyBelow-fails}

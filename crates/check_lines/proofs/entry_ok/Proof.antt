@@ -21,7 +21,8 @@ returns-2 c =
     let k1 = c .before in
     let k2 = k1 .before .before in
     let a = k2 .before .before in
-    entry-last (a .args .m) (a .args .d) (k2 .entry-at .result) (omega (arith, k1 .if1 .left)) ∙ ap (entryOk (a .args .m) (a .args .d)) (k2 .entry-at .ensures)
+    entry-last (a .args .m) (a .args .d) (k2 .entry-at .result) (omega (arith, k1 .if1 .left))
+    ∙ ap (entryOk (a .args .m) (a .args .d)) (k2 .entry-at .ensures)
 
 pub entry-ok-spec : {M : Type 1} → statement M
 entry-ok-spec = tie.close (tie.spec entry-at-requires returns returns-2)
