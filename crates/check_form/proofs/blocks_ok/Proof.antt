@@ -26,46 +26,47 @@ block-requires c κs =
 
 returns : tie.Need-returns Inv-loop μ-loop
 returns c =
-    let k1 = c .before in
-    let k2 = k1 .before in
-    let k3 = k2 .before .before in
-    let a = k3 .before .before in
+    let k = c .before .before .before .before in
+    let a = k .before .before in
+    let block = c .before .block in
+    let if1 = c .before .before .if1 in
+    let loop = k .loop in
     let T = now (a .args .words) in
-    cutting-fails (levelAt (a .args .s .gens) T (a .args .i)) (repIn T (a .args .d)) (k3 .loop .o) (k3 .loop .inv)
-    (k2 .if1 .taken) (k1 .block .result) (k1 .block .ensures) (c .if2 .taken)
+    cutting-fails (levelAt (a .args .s .gens) T (a .args .i)) (repIn T (a .args .d)) (loop .o) (loop .inv)
+    (if1 .taken) (block .result) (block .ensures) (c .if2 .taken)
 
 add-o : tie.Need-add-o Inv-loop μ-loop
 add-o c =
-    let k1 = c .before in
-    let k2 = k1 .before in
-    let k3 = k2 .before .before in
-    let a = k3 .before .before in
+    let k = c .before .before .before .before in
+    let a = k .before .before in
+    let block = c .before .block in
+    let if1 = c .before .before .if1 in
+    let loop = k .loop in
     let T = now (a .args .words) in
-    let h = cutting-inside (levelAt (a .args .s .gens) T (a .args .i)) (repIn T (a .args .d)) (k3 .loop .o) (k3 .loop .inv)
-    (k2 .if1 .taken) (k1 .block .result) (k1 .block .ensures) (c .if2 .left) in
+    let h = cutting-inside (levelAt (a .args .s .gens) T (a .args .i)) (repIn T (a .args .d)) (loop .o) (loop .inv)
+    (if1 .taken) (block .result) (block .ensures) (c .if2 .left) in
     omega (arith, h, a .fits, a .good)
 
 loop-less : tie.Need-loop-less Inv-loop μ-loop
-loop-less c =
-    let k1 = c .before .before in
-    omega (arith, k1 .if1 .taken, c .if2 .left)
+loop-less c = omega (arith, c .before .before .if1 .taken, c .if2 .left)
 
 loop-again : tie.Need-loop-again Inv-loop μ-loop
 loop-again c =
-    let k1 = c .before in
-    let k2 = k1 .before in
-    let k3 = k2 .before .before in
-    let a = k3 .before .before in
+    let k = c .before .before .before .before in
+    let a = k .before .before in
+    let block = c .before .block in
+    let if1 = c .before .before .if1 in
+    let loop = k .loop in
     let T = now (a .args .words) in
-    cutting-more (levelAt (a .args .s .gens) T (a .args .i)) (repIn T (a .args .d)) (k3 .loop .o) (k3 .loop .inv)
-    (k2 .if1 .taken) (k1 .block .result) (k1 .block .ensures) (c .if2 .left)
+    cutting-more (levelAt (a .args .s .gens) T (a .args .i)) (repIn T (a .args .d)) (loop .o) (loop .inv)
+    (if1 .taken) (block .result) (block .ensures) (c .if2 .left)
 
 returns-2 : tie.Need-returns-2 Inv-loop μ-loop
 returns-2 c =
-    let k1 = c .before .before in
-    let a = k1 .before .before in
+    let a = c .before .before .before .before in
+    let loop = c .before .before .loop in
     let T = now (a .args .words) in
-    cutting-all (levelAt (a .args .s .gens) T (a .args .i)) (repIn T (a .args .d)) (k1 .loop .o) (k1 .loop .inv) (omega (arith, c .if1 .left))
+    cutting-all (levelAt (a .args .s .gens) T (a .args .i)) (repIn T (a .args .d)) (loop .o) (loop .inv) (omega (arith, c .if1 .left))
 
 pub blocks-ok-spec : {M : Type 1} → statement M
 blocks-ok-spec =

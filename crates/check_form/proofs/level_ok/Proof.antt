@@ -40,25 +40,23 @@ loop-holds c =
 
 rep-ok-requires : tie.Need-rep-ok-requires Inv-loop μ-loop
 rep-ok-requires c κs =
-    let k1 = c .before in
-    let a = k1 .before .before .before in
-    (a .pre .0, a .pre .1, reading-fits (a .args .s) (now (a .args .words)) (a .args .i) (k1 .loop .inv .1))
+    let a = c .before .before .before .before in
+    (a .pre .0, a .pre .1, reading-fits (a .args .s) (now (a .args .words)) (a .args .i) (c .before .loop .inv .1))
 
 returns : tie.Need-returns Inv-loop μ-loop
 returns c =
-    let k1 = c .before in
-    let k2 = k1 .before .before in
-    let a = k2 .before .before .before in
+    let k = c .before .before .before in
+    let a = k .before .before .before in
+    let rep-ok = c .before .rep-ok in
     let T = now (a .args .words) in
-    reading-fails (a .args .s) T (a .args .i) (k2 .loop .inv .1) (sym (k1 .rep-ok .ensures) ∙ not-true (k1 .rep-ok .result) (c .if1 .taken))
+    reading-fails (a .args .s) T (a .args .i) (k .loop .inv .1) (sym (rep-ok .ensures) ∙ not-true (rep-ok .result) (c .if1 .taken))
 
 following-requires : tie.Need-following-requires Inv-loop μ-loop
 following-requires c κs =
-    let k1 = c .before .before in
-    let k2 = k1 .before in
-    let a = k2 .before .before .before in
+    let k = c .before .before .before in
+    let a = k .before .before .before in
     let T = now (a .args .words) in
-    (a .pre .0 .whole, reading-follows (a .args .s) T (a .args .i) (k2 .loop .inv .1) (omega (arith, a .pre .1 .counts, k1 .loop-test .taken)))
+    (a .pre .0 .whole, reading-follows (a .args .s) T (a .args .i) (k .loop .inv .1) (omega (arith, a .pre .1 .counts, c .before .before .loop-test .taken)))
 
 add-r : tie.Need-add-r Inv-loop μ-loop
 add-r c = omega arith
@@ -68,34 +66,31 @@ loop-less c = omega arith
 
 loop-again : tie.Need-loop-again Inv-loop μ-loop
 loop-again c =
-    let k1 = c .before in
-    let k2 = k1 .before in
-    let k3 = k2 .before in
-    let k4 = k3 .before in
-    let a = k4 .before .before .before in
+    let k = c .before .before .before in
+    let a = k .before .before .before .before in
+    let rep-ok = c .before .before .rep-ok in
+    let loop = k .before .loop in
     let T = now (a .args .words) in
-    let more : suc (k4 .loop .r) < length (levelAt (a .args .s .gens) T (suc (a .args .i))) = omega (arith, a .pre .1 .counts, k3 .loop-test .taken) in
-    let next = c .following .ensures (suc (a .args .i)) (k4 .loop .r) (k4 .loop .inv .1 .here) more in (
+    let more : suc (loop .r) < length (levelAt (a .args .s .gens) T (suc (a .args .i))) = omega (arith, a .pre .1 .counts, k .loop-test .taken) in
+    let next = c .following .ensures (suc (a .args .i)) (loop .r) (loop .inv .1 .here) more in (
       omega arith,
-      reading-next (a .args .s) T (a .args .i) (k4 .loop .inv .1)
-          (sym (k2 .rep-ok .ensures) ∙ not-false (k2 .rep-ok .result) (k1 .if1 .left)) next,
+      reading-next (a .args .s) T (a .args .i) (loop .inv .1)
+          (sym (rep-ok .ensures) ∙ not-false (rep-ok .result) (c .before .if1 .left)) next,
     )
 
 rep-ok-requires-2 : tie.Need-rep-ok-requires-2 Inv-loop μ-loop
 rep-ok-requires-2 c κs =
-    let k1 = c .before in
-    let a = k1 .before .before .before in
-    (a .pre .0, a .pre .1, reading-fits (a .args .s) (now (a .args .words)) (a .args .i) (k1 .loop .inv .1))
+    let a = c .before .before .before .before in
+    (a .pre .0, a .pre .1, reading-fits (a .args .s) (now (a .args .words)) (a .args .i) (c .before .loop .inv .1))
 
 returns-2 : tie.Need-returns-2 Inv-loop μ-loop
 returns-2 c =
-    let k1 = c .before in
-    let k2 = k1 .before in
-    let a = k2 .before .before .before in
+    let a = c .before .before .before .before .before in
+    let loop = c .before .before .loop in
     let T = now (a .args .words) in
     let some = over-some (a .args .s) T (a .pre .0 .whole) (a .args .i) (a .args .many) (a .pre .1) in
     c .rep-ok2 .ensures
-    ∙ reading-last (a .args .s) T (a .args .i) (k2 .loop .inv .1) (omega (arith, a .pre .1 .counts, k2 .loop .inv .0, k1 .loop-test .left, some))
+    ∙ reading-last (a .args .s) T (a .args .i) (loop .inv .1) (omega (arith, a .pre .1 .counts, loop .inv .0, c .before .loop-test .left, some))
 
 pub level-ok-spec : {M : Type 1} → statement M
 level-ok-spec =

@@ -34,18 +34,17 @@ count-of-requires c κs =
 
 level-ok-requires : tie.Need-level-ok-requires Inv-loop μ-loop
 level-ok-requires c κs =
-    let k1 = c .before in
-    let k2 = k1 .before .before in
-    let a = k2 .before .before in
+    let k = c .before .before .before in
+    let a = k .before .before in
+    let loop = k .loop in
     let T = now (a .args .words) in
-    (k2 .loop .inv .0, over-next (a .args .s) T (a .pre) (k2 .loop .i) (c .count-of .result) (k1 .if1 .taken) (c .count-of .ensures))
+    (loop .inv .0, over-next (a .args .s) T (a .pre) (loop .i) (c .count-of .result) (c .before .if1 .taken) (c .count-of .ensures))
 
 returns : tie.Need-returns Inv-loop μ-loop
 returns c =
-    let k1 = c .before in
-    let k2 = k1 .before .before in
-    let k3 = k2 .before .before in
-    tested-fails (k3 .loop .inv .1) (k2 .if1 .taken) (sym (k1 .level-ok .ensures) ∙ not-true (k1 .level-ok .result) (c .if2 .taken))
+    let k = c .before .before .before in
+    let level-ok = c .before .level-ok in
+    tested-fails (k .before .before .loop .inv .1) (k .if1 .taken) (sym (level-ok .ensures) ∙ not-true (level-ok .result) (c .if2 .taken))
 
 add-i : tie.Need-add-i Inv-loop μ-loop
 add-i c = omega arith
@@ -55,20 +54,18 @@ loop-less c = omega arith
 
 loop-again : tie.Need-loop-again Inv-loop μ-loop
 loop-again c =
-    let k1 = c .before in
-    let k2 = k1 .before in
-    let k3 = k2 .before in
-    let k4 = k3 .before .before in
-    let a = k4 .before .before in
-    let next = over-next (a .args .s) (now (a .args .words)) (a .pre) (k4 .loop .i) (k2 .count-of .result) (k3 .if1 .taken) (k2 .count-of .ensures) in (
-      subst (λ k. Over (a .args .s) (now (a .args .words)) k (k2 .count-of .result)) (sym (add-one (k4 .loop .i))) next,
-      tested-more (k4 .loop .inv .1) (sym (k1 .level-ok .ensures) ∙ not-false (k1 .level-ok .result) (c .if2 .left)),
+    let k = c .before .before .before in
+    let a = k .before .before .before .before in
+    let level-ok = c .before .level-ok in
+    let count-of = c .before .before .count-of in
+    let loop = k .before .before .loop in
+    let next = over-next (a .args .s) (now (a .args .words)) (a .pre) (loop .i) (count-of .result) (k .if1 .taken) (count-of .ensures) in (
+      subst (λ k. Over (a .args .s) (now (a .args .words)) k (count-of .result)) (sym (add-one (loop .i))) next,
+      tested-more (loop .inv .1) (sym (level-ok .ensures) ∙ not-false (level-ok .result) (c .if2 .left)),
     )
 
 returns-2 : tie.Need-returns-2 Inv-loop μ-loop
-returns-2 c =
-    let k1 = c .before .before in
-    tested-all (k1 .loop .inv .1) (omega (arith, c .if1 .left))
+returns-2 c = tested-all (c .before .before .loop .inv .1) (omega (arith, c .if1 .left))
 
 pub levels-ok-spec : {M : Type 1} → statement M
 levels-ok-spec =

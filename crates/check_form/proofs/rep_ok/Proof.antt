@@ -13,10 +13,10 @@ matrices-ok-requires c κs = c .before .pre .2 .room
 
 returns : tie.Need-returns
 returns c =
-    let k1 = c .before in
-    let a = k1 .before .before in
+    let a = c .before .before .before in
+    let matrices-ok = c .before .matrices-ok in
     body-matrices (a .args .s .gens) (a .args .s .m) (now (a .args .words)) (a .args .i) (a .args .d)
-    (sym (k1 .matrices-ok .ensures) ∙ not-true (k1 .matrices-ok .result) (c .if1 .taken))
+    (sym (matrices-ok .ensures) ∙ not-true (matrices-ok .result) (c .if1 .taken))
 
 blocks-ok-requires : tie.Need-blocks-ok-requires
 blocks-ok-requires c κs =
@@ -25,13 +25,14 @@ blocks-ok-requires c κs =
 
 returns-2 : tie.Need-returns-2
 returns-2 c =
-    let k1 = c .before in
-    let k2 = k1 .before in
-    let k3 = k2 .before in
-    let a = k3 .before .before in
-    let matrices = sym (k3 .matrices-ok .ensures) ∙ not-false (k3 .matrices-ok .result) (k2 .if1 .left) in
+    let k = c .before .before .before in
+    let a = k .before .before in
+    let blocks-ok = c .before .blocks-ok in
+    let if1 = c .before .before .if1 in
+    let matrices-ok = k .matrices-ok in
+    let matrices = sym (matrices-ok .ensures) ∙ not-false (matrices-ok .result) (if1 .left) in
     body-blocks (a .args .s .gens) (a .args .s .m) (now (a .args .words)) (a .args .i) (a .args .d) matrices
-    (sym (k1 .blocks-ok .ensures) ∙ not-true (k1 .blocks-ok .result) (c .if2 .taken))
+    (sym (blocks-ok .ensures) ∙ not-true (blocks-ok .result) (c .if2 .taken))
 
 add-refs-equal : tie.Need-add-refs-equal
 add-refs-equal c =
@@ -45,16 +46,16 @@ refs-equal-requires c κs =
 
 returns-3 : tie.Need-returns-3
 returns-3 c =
-    let k1 = c .before in
-    let k2 = k1 .before in
-    let k3 = k2 .before in
-    let k4 = k3 .before in
-    let k5 = k4 .before in
-    let a = k5 .before .before in
-    let matrices = sym (k5 .matrices-ok .ensures) ∙ not-false (k5 .matrices-ok .result) (k4 .if1 .left) in
-    let blocks = sym (k3 .blocks-ok .ensures) ∙ not-false (k3 .blocks-ok .result) (k2 .if2 .left) in
+    let k = c .before .before .before in
+    let a = k .before .before .before .before in
+    let refs-equal = c .before .refs-equal in
+    let if2 = c .before .before .if2 in
+    let blocks-ok = k .blocks-ok in
+    let matrices-ok = k .before .before .matrices-ok in
+    let matrices = sym (matrices-ok .ensures) ∙ not-false (matrices-ok .result) (k .before .if1 .left) in
+    let blocks = sym (blocks-ok .ensures) ∙ not-false (blocks-ok .result) (if2 .left) in
     body-refs (a .args .s .gens) (a .args .s .m) (now (a .args .words)) (a .args .i) (a .args .d) matrices blocks
-    (sym (k1 .refs-equal .ensures) ∙ not-true (k1 .refs-equal .result) (c .if3 .taken))
+    (sym (refs-equal .ensures) ∙ not-true (refs-equal .result) (c .if3 .taken))
 
 add-targets-ok : tie.Need-add-targets-ok
 add-targets-ok c =
@@ -68,19 +69,19 @@ targets-ok-requires c κs =
 
 returns-4 : tie.Need-returns-4
 returns-4 c =
-    let k1 = c .before in
-    let k2 = k1 .before in
-    let k3 = k2 .before in
-    let k4 = k3 .before in
-    let k5 = k4 .before in
-    let k6 = k5 .before in
-    let a = k6 .before .before in
+    let k1 = c .before .before .before in
+    let k2 = k1 .before .before .before in
+    let a = k2 .before .before in
+    let refs-equal = c .before .before .refs-equal in
+    let blocks-ok = k1 .before .blocks-ok in
+    let if1 = k1 .before .before .if1 in
+    let matrices-ok = k2 .matrices-ok in
     let T = now (a .args .words) in
-    let matrices = sym (k6 .matrices-ok .ensures) ∙ not-false (k6 .matrices-ok .result) (k5 .if1 .left) in
-    let blocks = sym (k4 .blocks-ok .ensures) ∙ not-false (k4 .blocks-ok .result) (k3 .if2 .left) in
+    let matrices = sym (matrices-ok .ensures) ∙ not-false (matrices-ok .result) (if1 .left) in
+    let blocks = sym (blocks-ok .ensures) ∙ not-false (blocks-ok .result) (k1 .if2 .left) in
     c .targets-ok .ensures
     ∙ body-targets (a .args .s .gens) (a .args .s .m) T (a .args .i) (a .args .d) matrices blocks (a .args .many) (a .pre .1 .counts)
-    (sym (k2 .refs-equal .ensures) ∙ not-false (k2 .refs-equal .result) (k1 .if3 .left))
+    (sym (refs-equal .ensures) ∙ not-false (refs-equal .result) (c .before .if3 .left))
 
 pub rep-ok-spec : {M : Type 1} → statement M
 rep-ok-spec =

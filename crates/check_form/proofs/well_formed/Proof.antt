@@ -12,25 +12,22 @@ heads-requires c κs = search needs
 
 returns : tie.Need-returns
 returns c =
-    let k1 = c .before in
-    let a = k1 .before .before in
-    let T = now (a .args .words) in
-    form-heads (a .args .s) (now (a .args .orders)) T (a .pre) (sym (k1 .heads .ensures) ∙ not-true (k1 .heads .result) (c .if1 .taken))
+    let a = c .before .before .before in
+    let heads = c .before .heads in
+    form-heads (a .args .s) (now (a .args .orders)) (now (a .args .words)) (a .pre) (sym (heads .ensures) ∙ not-true (heads .result) (c .if1 .taken))
 
 levels-ok-requires : tie.Need-levels-ok-requires
 levels-ok-requires c κs =
-    let k1 = c .before in
-    let a = k1 .before .before in
-    let T = now (a .args .words) in
-    form-whole (a .args .s) (now (a .args .orders)) T (a .pre) (sym (k1 .heads .ensures) ∙ not-false (k1 .heads .result) (c .if1 .left))
+    let a = c .before .before .before in
+    let heads = c .before .heads in
+    form-whole (a .args .s) (now (a .args .orders)) (now (a .args .words)) (a .pre) (sym (heads .ensures) ∙ not-false (heads .result) (c .if1 .left))
 
 returns-2 : tie.Need-returns-2
 returns-2 c =
-    let k1 = c .before in
-    let k2 = k1 .before in
-    let a = k2 .before .before in
+    let a = c .before .before .before .before in
+    let heads = c .before .before .heads in
     let T = now (a .args .words) in
-    form-levels (a .args .s) (now (a .args .orders)) T (a .pre) (sym (k2 .heads .ensures) ∙ not-false (k2 .heads .result) (k1 .if1 .left))
+    form-levels (a .args .s) (now (a .args .orders)) T (a .pre) (sym (heads .ensures) ∙ not-false (heads .result) (c .before .if1 .left))
     (c .levels-ok .result) (c .levels-ok .ensures)
 
 pub well-formed-spec : {M : Type 1} → statement M

@@ -14,9 +14,7 @@ word-at-requires : tie.Need-word-at-requires
 word-at-requires c κs = search needs
 
 returns : tie.Need-returns
-returns c =
-    let k1 = c .before .before in
-    refuted _ (λ h. c .if1 .taken (k1 .word-at .ensures ∙ head-is _ _ _ _ _ _ _ h .level))
+returns c = refuted _ (λ h. c .if1 .taken (c .before .before .word-at .ensures ∙ head-is _ _ _ _ _ _ _ h .level))
 
 word-at-requires-2 : tie.Need-word-at-requires-2
 word-at-requires-2 c κs = search needs
@@ -26,9 +24,8 @@ up-requires c κs = search needs
 
 returns-2 : tie.Need-returns-2
 returns-2 c =
-    let k1 = c .before .before in
-    let k2 = k1 .before in
-    refuted _ (λ h. c .if2 .taken (k1 .up .ensures ∙ k2 .word-at2 .ensures ∙ head-is _ _ _ _ _ _ _ h .rep))
+    let k = c .before .before .before in
+    refuted _ (λ h. c .if2 .taken (c .before .before .up .ensures ∙ k .word-at2 .ensures ∙ head-is _ _ _ _ _ _ _ h .rep))
 
 word-at-requires-3 : tie.Need-word-at-requires-3
 word-at-requires-3 c κs = search needs
@@ -50,20 +47,17 @@ word-at-requires-5 c κs = search needs
 
 returns-5 : tie.Need-returns-5
 returns-5 c =
-    let k1 = c .before in
-    let k2 = k1 .before in
-    let k3 = k2 .before in
-    let k4 = k3 .before in
-    let k5 = k4 .before in
-    let k6 = k5 .before .before in
-    let k7 = k6 .before in
-    let k8 = k7 .before in
-    let k9 = k8 .before .before in
-    let a = k9 .before .before in
-    let level = sym (k9 .word-at .ensures) ∙ k8 .if1 .left in
-    let rep = sym (k6 .up .ensures ∙ k7 .word-at2 .ensures) ∙ k5 .if2 .left in
-    let deg = sym (k4 .word-at3 .ensures) ∙ k3 .if3 .left in
-    let gen = sym (k2 .word-at4 .ensures) ∙ k1 .if4 .left in
+    let k1 = c .before .before .before in
+    let k2 = k1 .before .before .before .before in
+    let k3 = k2 .before .before .before .before in
+    let a = k3 .before .before in
+    let word-at4 = c .before .before .word-at4 in
+    let if2 = k1 .before .before .if2 in
+    let if1 = k2 .before .before .if1 in
+    let level = sym (k3 .word-at .ensures) ∙ if1 .left in
+    let rep = sym (k2 .up .ensures ∙ k2 .before .word-at2 .ensures) ∙ if2 .left in
+    let deg = sym (k1 .before .word-at3 .ensures) ∙ k1 .if3 .left in
+    let gen = sym (word-at4 .ensures) ∙ c .before .if4 .left in
     ap (λ x. eqb x (a .args .c)) (c .word-at5 .ensures)
     ∙ head-last (now (a .args .words)) (a .args .at) (a .args .p .level) (a .args .p .rep) (a .args .d) (a .args .g) (a .args .c) level rep deg gen
 

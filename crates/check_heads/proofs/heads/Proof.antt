@@ -31,94 +31,96 @@ loop-holds c =
 
 turned-requires : tie.Need-turned-requires Inv-loop μ-loop
 turned-requires c κs =
-    let k1 = c .before .before .before in
-    let a = k1 .before .before .before in
+    let k = c .before .before .before in
+    let a = k .before .before .before in
+    let loop = k .loop in
     let T = now (a .args .words) in
-    (line-there T (k1 .loop .p .line) (omega (arith, a .pre .lines-are, c .if2 .taken)), omega (arith, k1 .loop .inv .levels, a .pre .few))
+    (line-there T (loop .p .line) (omega (arith, a .pre .lines-are, c .if2 .taken)), omega (arith, loop .inv .levels, a .pre .few))
 
 place-ok-requires : tie.Need-place-ok-requires Inv-loop μ-loop
 place-ok-requires c κs =
-    let k1 = c .before in
-    let a = k1 .before .before .before .before .before .before in
-    (a .pre, omega (arith, k1 .if2 .taken, ap (λ (t : Place). t .line) (c .turned .ensures)))
+    let a = c .before .before .before .before .before .before .before in
+    (a .pre, omega (arith, c .before .if2 .taken, ap (λ (t : Place). t .line) (c .turned .ensures)))
 
 returns-2 : tie.Need-returns-2 Inv-loop μ-loop
 returns-2 c =
-    let k1 = c .before in
-    let k2 = k1 .before in
-    let k3 = k2 .before in
-    let k4 = k3 .before .before .before in
-    let a = k4 .before .before .before in
+    let k1 = c .before .before .before in
+    let k2 = k1 .before .before .before in
+    let a = k2 .before .before .before in
+    let place-ok = c .before .place-ok in
+    let turned = c .before .before .turned in
+    let loop = k2 .loop in
     let ord = ordersIn (now (a .args .orders)) in
     let T = now (a .args .words) in
-    let more : k4 .loop .p .line < lineCount T = omega (arith, a .pre .lines-are, k3 .if2 .taken) in
-    stepped-fails (a .args .s .gens) T ord (k4 .loop .p) (k2 .turned .result) (k4 .loop .inv) more (k2 .turned .ensures)
-    (sym (k1 .place-ok .ensures) ∙ not-true (k1 .place-ok .result) (c .if3 .taken))
+    let more : loop .p .line < lineCount T = omega (arith, a .pre .lines-are, k1 .if2 .taken) in
+    stepped-fails (a .args .s .gens) T ord (loop .p) (turned .result) (loop .inv) more (turned .ensures)
+    (sym (place-ok .ensures) ∙ not-true (place-ok .result) (c .if3 .taken))
 
 onward-requires : tie.Need-onward-requires Inv-loop μ-loop
 onward-requires c κs =
-    let k1 = c .before in
-    let k2 = k1 .before in
-    let k3 = k2 .before in
-    let k4 = k3 .before .before .before in
-    let a = k4 .before .before .before in
+    let k1 = c .before .before .before in
+    let k2 = k1 .before .before .before in
+    let a = k2 .before .before .before in
+    let place-ok = c .before .place-ok in
+    let turned = c .before .before .turned in
+    let loop = k2 .loop in
     let ord = ordersIn (now (a .args .orders)) in
     let T = now (a .args .words) in
-    let more : k4 .loop .p .line < lineCount T = omega (arith, a .pre .lines-are, k3 .if2 .taken) in
-    stepped-inside (a .args .s .gens) T ord (k4 .loop .p) (k2 .turned .result) (k4 .loop .inv) more (k2 .turned .ensures)
-    (sym (k1 .place-ok .ensures) ∙ not-false (k1 .place-ok .result) (c .if3 .left))
+    let more : loop .p .line < lineCount T = omega (arith, a .pre .lines-are, k1 .if2 .taken) in
+    stepped-inside (a .args .s .gens) T ord (loop .p) (turned .result) (loop .inv) more (turned .ensures)
+    (sym (place-ok .ensures) ∙ not-false (place-ok .result) (c .if3 .left))
 
 loop-less : tie.Need-loop-less Inv-loop μ-loop
 loop-less c =
-    let k1 = c .before in
-    let k2 = k1 .before in
-    let k3 = k2 .before in
-    let k4 = k3 .before in
-    let k5 = k4 .before .before .before in
-    let a = k5 .before .before .before in
+    let k1 = c .before .before .before in
+    let k2 = k1 .before .before .before .before in
+    let a = k2 .before .before .before in
+    let place-ok = c .before .before .place-ok in
+    let turned = k1 .turned in
+    let if2 = k1 .before .if2 in
+    let loop = k2 .loop in
     let ord = ordersIn (now (a .args .orders)) in
     let T = now (a .args .words) in
-    let more : k5 .loop .p .line < lineCount T = omega (arith, a .pre .lines-are, k4 .if2 .taken) in
-    let forth = stepped-forth (a .args .s .gens) T ord (k5 .loop .p) (k3 .turned .result) (k5 .loop .inv) more (k3 .turned .ensures)
-    (sym (k2 .place-ok .ensures) ∙ not-false (k2 .place-ok .result) (k1 .if3 .left)) (a .pre .some) (c .onward .result) (c .onward .ensures) in
-    omega (arith, k4 .if2 .taken, forth)
+    let more : loop .p .line < lineCount T = omega (arith, a .pre .lines-are, if2 .taken) in
+    let forth = stepped-forth (a .args .s .gens) T ord (loop .p) (turned .result) (loop .inv) more (turned .ensures)
+    (sym (place-ok .ensures) ∙ not-false (place-ok .result) (c .before .if3 .left)) (a .pre .some) (c .onward .result) (c .onward .ensures) in
+    omega (arith, if2 .taken, forth)
 
 loop-again : tie.Need-loop-again Inv-loop μ-loop
 loop-again c =
-    let k1 = c .before in
-    let k2 = k1 .before in
-    let k3 = k2 .before in
-    let k4 = k3 .before in
-    let k5 = k4 .before .before .before in
-    let a = k5 .before .before .before in
+    let k1 = c .before .before .before in
+    let k2 = k1 .before .before .before .before in
+    let a = k2 .before .before .before in
+    let place-ok = c .before .before .place-ok in
+    let turned = k1 .turned in
+    let loop = k2 .loop in
     let ord = ordersIn (now (a .args .orders)) in
     let T = now (a .args .words) in
-    let more : k5 .loop .p .line < lineCount T = omega (arith, a .pre .lines-are, k4 .if2 .taken) in
-    stepped-more (a .args .s .gens) T ord (k5 .loop .p) (k3 .turned .result) (k5 .loop .inv) more (k3 .turned .ensures)
-    (sym (k2 .place-ok .ensures) ∙ not-false (k2 .place-ok .result) (k1 .if3 .left)) (a .pre .some) (c .onward .result) (c .onward .ensures)
+    let more : loop .p .line < lineCount T = omega (arith, a .pre .lines-are, k1 .before .if2 .taken) in
+    stepped-more (a .args .s .gens) T ord (loop .p) (turned .result) (loop .inv) more (turned .ensures)
+    (sym (place-ok .ensures) ∙ not-false (place-ok .result) (c .before .if3 .left)) (a .pre .some) (c .onward .result) (c .onward .ensures)
 
 returns-3 : tie.Need-returns-3 Inv-loop μ-loop
 returns-3 c =
     let k1 = c .before .before .before in
     let k2 = k1 .before .before .before in
-    let k3 = k2 .before in
-    let a = k3 .before .before in
+    let a = k2 .before .before .before in
+    let loop = k2 .loop in
     let ord = ordersIn (now (a .args .orders)) in
     let T = now (a .args .words) in
-    stepped-short (a .args .s .gens) T ord (k2 .loop .p) (k2 .loop .inv) (omega (arith, a .pre .lines-are, k1 .if2 .left))
-    (omega (arith, k3 .if1 .left)) (c .if4 .taken)
+    stepped-short (a .args .s .gens) T ord (loop .p) (loop .inv) (omega (arith, a .pre .lines-are, k1 .if2 .left))
+    (omega (arith, k2 .before .if1 .left)) (c .if4 .taken)
 
 returns-4 : tie.Need-returns-4 Inv-loop μ-loop
 returns-4 c =
-    let k1 = c .before in
+    let k1 = c .before .before .before .before in
     let k2 = k1 .before .before .before in
-    let k3 = k2 .before .before .before in
-    let k4 = k3 .before in
-    let a = k4 .before .before in
+    let a = k2 .before .before .before in
+    let loop = k2 .loop in
     let ord = ordersIn (now (a .args .orders)) in
     let T = now (a .args .words) in
-    stepped-all (a .args .s .gens) T ord (k3 .loop .p) (k3 .loop .inv) (omega (arith, a .pre .lines-are, k2 .if2 .left))
-    (omega (arith, k4 .if1 .left)) (k1 .if4 .left)
+    stepped-all (a .args .s .gens) T ord (loop .p) (loop .inv) (omega (arith, a .pre .lines-are, k1 .if2 .left))
+    (omega (arith, k2 .before .if1 .left)) (c .before .if4 .left)
 
 pub heads-spec : {M : Type 1} → statement M
 heads-spec =

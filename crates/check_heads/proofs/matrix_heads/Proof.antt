@@ -29,27 +29,27 @@ up-requires c κs = omega arith
 
 add-head-is : tie.Need-add-head-is Inv-loop μ-loop
 add-head-is c =
-    let k1 = c .before .before .before .before in
-    let a = k1 .before .before in
-    omega (arith, c .up .ensures, k1 .matrix-line .ensures, a .pre .0, a .good)
+    let k = c .before .before .before .before in
+    let a = k .before .before in
+    omega (arith, c .up .ensures, k .matrix-line .ensures, a .pre .0, a .good)
 
 head-is-requires : tie.Need-head-is-requires Inv-loop μ-loop
 head-is-requires c κs =
-    let k1 = c .before .before .before .before in
-    let a = k1 .before .before in
-    (omega (arith, c .up .ensures, k1 .matrix-line .ensures, a .pre .0), a .pre .1)
+    let k = c .before .before .before .before in
+    let a = k .before .before in
+    (omega (arith, c .up .ensures, k .matrix-line .ensures, a .pre .0), a .pre .1)
 
 returns : tie.Need-returns Inv-loop μ-loop
 returns c =
-    let k1 = c .before in
-    let k2 = k1 .before in
-    let k3 = k2 .before .before .before in
-    let k4 = k3 .before in
-    let a = k4 .before .before in
-    let e = rw (k2 .up .ensures) at (k1 .head-is .ensures) in
-    tested-fails (k3 .loop .inv) (omega arith) (sym e ∙ not-true (k1 .head-is .result) (c .if2 .taken))
+    let k = c .before .before .before .before .before in
+    let a = k .before .before .before in
+    let head-is = c .before .head-is in
+    let up = c .before .before .up in
+    let matrix-line = k .before .matrix-line in
+    let e = rw (up .ensures) at (head-is .ensures) in
+    tested-fails (k .loop .inv) (omega arith) (sym e ∙ not-true (head-is .result) (c .if2 .taken))
     ∙ matrix-is (now (a .args .words)) (a .args .d .line) (a .args .p .level) (a .args .p .rep) (a .args .d .deg) (a .args .g)
-    (k4 .matrix-line .result) (k4 .matrix-line .ensures)
+    (matrix-line .result) (matrix-line .ensures)
 
 add-c : tie.Need-add-c Inv-loop μ-loop
 add-c c = omega arith
@@ -59,20 +59,20 @@ loop-less c = omega arith
 
 loop-again : tie.Need-loop-again Inv-loop μ-loop
 loop-again c =
-    let k1 = c .before in
-    let k2 = k1 .before in
-    let k3 = k2 .before .before .before in
-    let e = rw (k2 .up .ensures) at (k1 .head-is .ensures) in
-    tested-more (k3 .loop .inv) (sym e ∙ not-false (k1 .head-is .result) (c .if2 .left))
+    let k = c .before .before .before .before .before in
+    let head-is = c .before .head-is in
+    let e = rw (c .before .before .up .ensures) at (head-is .ensures) in
+    tested-more (k .loop .inv) (sym e ∙ not-false (head-is .result) (c .if2 .left))
 
 returns-2 : tie.Need-returns-2 Inv-loop μ-loop
 returns-2 c =
-    let k1 = c .before .before in
-    let k2 = k1 .before in
-    let a = k2 .before .before in
-    tested-all (k1 .loop .inv) (omega arith)
+    let k = c .before .before .before in
+    let a = k .before .before in
+    let loop = c .before .before .loop in
+    let matrix-line = k .matrix-line in
+    tested-all (loop .inv) (omega arith)
     ∙ matrix-is (now (a .args .words)) (a .args .d .line) (a .args .p .level) (a .args .p .rep) (a .args .d .deg) (a .args .g)
-    (k2 .matrix-line .result) (k2 .matrix-line .ensures)
+    (matrix-line .result) (matrix-line .ensures)
 
 pub matrix-heads-spec : {M : Type 1} → statement M
 matrix-heads-spec =

@@ -28,11 +28,10 @@ add-t6 c =
 
 returns : tie.Need-returns
 returns c =
-    let k1 = c .before in
-    let k2 = k1 .before in
-    let a = k2 .before .before in
-    let e = ap (λ (d : Listed). lineIn d (a .args .s .gens)) (k2 .representation .ensures) in
-    ap₂ (λ l r. record { line = l; level = a .args .p .level; rep = r }) (k1 .matrix-line .ensures ∙ e) (add-one (a .args .p .rep))
+    let a = c .before .before .before .before in
+    let representation = c .before .before .representation in
+    let e = ap (λ (d : Listed). lineIn d (a .args .s .gens)) (representation .ensures) in
+    ap₂ (λ l r. record { line = l; level = a .args .p .level; rep = r }) (c .before .matrix-line .ensures ∙ e) (add-one (a .args .p .rep))
 
 pub onward-spec : {M : Type 1} → statement M
 onward-spec = tie.close (tie.spec representation-requires matrix-line-requires add-t6 returns)

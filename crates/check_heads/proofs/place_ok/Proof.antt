@@ -21,37 +21,37 @@ size-ok-requires c κs =
 
 returns : tie.Need-returns
 returns c =
-    let k1 = c .before in
-    let k2 = k1 .before in
-    let a = k2 .before .before in
+    let a = c .before .before .before .before in
+    let size-ok = c .before .size-ok in
+    let representation = c .before .before .representation in
     let ord = ordersIn (now (a .args .orders)) in
     let T = now (a .args .words) in
-    place-small (a .args .s) T ord (a .args .p) (a .pre .0 .lines-are) (k2 .representation .result) (k2 .representation .ensures)
-    (sym (k1 .size-ok .ensures) ∙ not-true (k1 .size-ok .result) (c .if1 .taken))
+    place-small (a .args .s) T ord (a .args .p) (a .pre .0 .lines-are) (representation .result) (representation .ensures)
+    (sym (size-ok .ensures) ∙ not-true (size-ok .result) (c .if1 .taken))
 
 rep-heads-requires : tie.Need-rep-heads-requires
 rep-heads-requires c κs =
-    let k1 = c .before in
-    let k2 = k1 .before in
-    let a = k2 .before .before in
+    let a = c .before .before .before .before in
+    let size-ok = c .before .size-ok in
+    let representation = c .before .before .representation in
     let ord = ordersIn (now (a .args .orders)) in
     let T = now (a .args .words) in (
-      place-room (a .args .s) T ord (a .args .p) (a .pre .0 .lines-are) (k2 .representation .result) (k2 .representation .ensures)
-          (sym (k1 .size-ok .ensures) ∙ not-false (k1 .size-ok .result) (c .if1 .left)),
+      place-room (a .args .s) T ord (a .args .p) (a .pre .0 .lines-are) (representation .result) (representation .ensures)
+          (sym (size-ok .ensures) ∙ not-false (size-ok .result) (c .if1 .left)),
       a .pre .0 .few,
     )
 
 returns-2 : tie.Need-returns-2
 returns-2 c =
-    let k1 = c .before in
-    let k2 = k1 .before in
-    let k3 = k2 .before in
-    let a = k3 .before .before in
+    let k = c .before .before .before in
+    let a = k .before .before in
+    let size-ok = c .before .before .size-ok in
+    let representation = k .representation in
     let ord = ordersIn (now (a .args .orders)) in
     let T = now (a .args .words) in
     c .rep-heads .ensures
-    ∙ place-heads (a .args .s) T ord (a .args .p) (a .pre .0 .lines-are) (k3 .representation .result) (k3 .representation .ensures)
-    (sym (k2 .size-ok .ensures) ∙ not-false (k2 .size-ok .result) (k1 .if1 .left))
+    ∙ place-heads (a .args .s) T ord (a .args .p) (a .pre .0 .lines-are) (representation .result) (representation .ensures)
+    (sym (size-ok .ensures) ∙ not-false (size-ok .result) (c .before .if1 .left))
 
 pub place-ok-spec : {M : Type 1} → statement M
 place-ok-spec =

@@ -20,15 +20,14 @@ loop-holds c = tested-none
 
 matrix-heads-requires : tie.Need-matrix-heads-requires Inv-loop μ-loop
 matrix-heads-requires c κs =
-    let k1 = c .before in
-    let a = k1 .before .before in
-    (matrix-inside (a .args .d) (a .args .n) (k1 .loop .g) _ (omega arith) (a .pre .0), omega (arith, a .pre .1))
+    let a = c .before .before .before in
+    (matrix-inside (a .args .d) (a .args .n) (c .before .loop .g) _ (omega arith) (a .pre .0), omega (arith, a .pre .1))
 
 returns : tie.Need-returns Inv-loop μ-loop
 returns c =
-    let k1 = c .before in
-    let k2 = k1 .before .before in
-    tested-fails (k2 .loop .inv) (omega arith) (sym (k1 .matrix-heads .ensures) ∙ not-true (k1 .matrix-heads .result) (c .if1 .taken))
+    let k = c .before .before .before in
+    let matrix-heads = c .before .matrix-heads in
+    tested-fails (k .loop .inv) (omega arith) (sym (matrix-heads .ensures) ∙ not-true (matrix-heads .result) (c .if1 .taken))
 
 add-g : tie.Need-add-g Inv-loop μ-loop
 add-g c = omega arith
@@ -38,9 +37,9 @@ loop-less c = omega arith
 
 loop-again : tie.Need-loop-again Inv-loop μ-loop
 loop-again c =
-    let k1 = c .before in
-    let k2 = k1 .before .before in
-    tested-more (k2 .loop .inv) (sym (k1 .matrix-heads .ensures) ∙ not-false (k1 .matrix-heads .result) (c .if1 .left))
+    let k = c .before .before .before in
+    let matrix-heads = c .before .matrix-heads in
+    tested-more (k .loop .inv) (sym (matrix-heads .ensures) ∙ not-false (matrix-heads .result) (c .if1 .left))
 
 returns-2 : tie.Need-returns-2 Inv-loop μ-loop
 returns-2 c = tested-all (c .before .loop .inv) (omega arith)

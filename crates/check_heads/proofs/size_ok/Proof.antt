@@ -37,13 +37,12 @@ times-requires c κs = search needs
 
 returns-3 : tie.Need-returns-3
 returns-3 c =
-    let k1 = c .before in
-    let k2 = k1 .before in
-    let k3 = k2 .before .before in
-    let a = k3 .before .before .before .before .before in
+    let k = c .before .before .before .before in
+    let a = k .before .before .before .before .before in
+    let up2 = c .before .before .up2 in
     let ord = ordersIn (now (a .args .orders)) in
-    let e = ap ord (k3 .up .ensures) in
-    refuted _ (λ h. omega (arith, e, k2 .up2 .ensures, k1 .times .ensures, size-told (a .args .s) ord (a .args .p) (a .args .d) h .square))
+    let e = ap ord (k .up .ensures) in
+    refuted _ (λ h. omega (arith, e, up2 .ensures, c .before .times .ensures, size-told (a .args .s) ord (a .args .p) (a .args .d) h .square))
 
 times-requires-2 : tie.Need-times-requires-2
 times-requires-2 c κs = search needs
@@ -53,19 +52,17 @@ sub-result c = search needs
 
 returns-4 : tie.Need-returns-4
 returns-4 c =
-    let k1 = c .before .before in
-    let k2 = k1 .before in
-    let k3 = k2 .before in
-    let k4 = k3 .before in
-    let k5 = k4 .before .before in
-    let k6 = k5 .before in
-    let k7 = k6 .before in
-    let a = k7 .before .before .before in
-    let e = ap (ordersIn (now (a .args .orders))) (k5 .up .ensures) in
+    let k1 = c .before .before .before in
+    let k2 = k1 .before .before .before .before in
+    let a = k2 .before .before .before .before .before in
+    let times2 = c .before .before .times2 in
+    let up2 = k1 .before .before .up2 in
+    let if1 = k2 .before .before .if1 in
+    let e = ap (ordersIn (now (a .args .orders))) (k2 .up .ensures) in
     let square : a .args .d * a .args .d ≤ ordersIn (now (a .args .orders)) (a .args .p .level) =
-    omega (arith, e, k4 .up2 .ensures, k3 .times .ensures, k2 .if3 .left) in
-    size-last (a .args .s) (ordersIn (now (a .args .orders))) (a .args .p) (a .args .d) (k1 .times2 .result) (k1 .times2 .ensures)
-    (a .pre .0) (omega (arith, k7 .if1 .left)) (omega (arith, k6 .if2 .left)) square
+    omega (arith, e, up2 .ensures, k1 .before .times .ensures, k1 .if3 .left) in
+    size-last (a .args .s) (ordersIn (now (a .args .orders))) (a .args .p) (a .args .d) (times2 .result) (times2 .ensures)
+    (a .pre .0) (omega (arith, if1 .left)) (omega (arith, k2 .before .if2 .left)) square
 
 pub size-ok-spec : {M : Type 1} → statement M
 size-ok-spec =

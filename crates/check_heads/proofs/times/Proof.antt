@@ -15,9 +15,9 @@ up-requires-2 c κs = search needs
 
 mul-result : tie.Need-mul-result
 mul-result c =
-    let k1 = c .before in
-    let a = k1 .before in
-    let h = product-fits (k1 .up .result) (c .up2 .result) (omega (arith, k1 .up .ensures, a .fits)) (omega (arith, c .up2 .ensures, a .fits)) in
+    let a = c .before .before in
+    let up = c .before .up in
+    let h = product-fits (up .result) (c .up2 .result) (omega (arith, up .ensures, a .fits)) (omega (arith, c .up2 .ensures, a .fits)) in
     omega (arith, h)
 
 returns : tie.Need-returns

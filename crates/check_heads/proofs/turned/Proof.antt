@@ -19,17 +19,15 @@ word-at-requires c κs = search needs
 
 returns-2 : tie.Need-returns-2
 returns-2 c =
-    let k1 = c .before in
-    let k2 = k1 .before .before in
-    let a = k2 .before .before .before in
-    other-stays (now (a .args .words)) (a .args .p) (k2 .if1 .left) (rw (k1 .word-at .ensures) at (c .if2 .taken))
+    let k = c .before .before .before in
+    let a = k .before .before .before in
+    other-stays (now (a .args .words)) (a .args .p) (k .if1 .left) (rw (c .before .word-at .ensures) at (c .if2 .taken))
 
 returns-3 : tie.Need-returns-3
 returns-3 c =
-    let k1 = c .before in
-    let k2 = k1 .before .before in
-    let a = k2 .before .before .before in
-    next-turns (now (a .args .words)) (a .args .p) (k2 .if1 .left) (sym (k1 .word-at .ensures) ∙ c .if2 .left)
+    let k = c .before .before .before in
+    let a = k .before .before .before in
+    next-turns (now (a .args .words)) (a .args .p) (k .if1 .left) (sym (c .before .word-at .ensures) ∙ c .if2 .left)
 
 pub turned-spec : {M : Type 1} → statement M
 turned-spec = tie.close (tie.spec returns add-i word-at-requires returns-2 returns-3)

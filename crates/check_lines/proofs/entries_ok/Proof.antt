@@ -33,11 +33,10 @@ entry-ok-requires c κs =
 
 returns : tie.Need-returns Inv-loop μ-loop
 returns c =
-    let k1 = c .before in
-    let k2 = k1 .before in
-    let k3 = k2 .before .before in
-    let e = rw (k2 .up .ensures) at (k1 .entry-ok .ensures) in
-    tested-fails (k3 .loop .inv) (omega arith) (sym e ∙ not-true (k1 .entry-ok .result) (c .if1 .taken))
+    let k = c .before .before .before .before in
+    let entry-ok = c .before .entry-ok in
+    let e = rw (c .before .before .up .ensures) at (entry-ok .ensures) in
+    tested-fails (k .loop .inv) (omega arith) (sym e ∙ not-true (entry-ok .result) (c .if1 .taken))
 
 add-c : tie.Need-add-c Inv-loop μ-loop
 add-c c = omega arith
@@ -47,11 +46,10 @@ loop-less c = omega arith
 
 loop-again : tie.Need-loop-again Inv-loop μ-loop
 loop-again c =
-    let k1 = c .before in
-    let k2 = k1 .before in
-    let k3 = k2 .before .before in
-    let e = rw (k2 .up .ensures) at (k1 .entry-ok .ensures) in
-    tested-more (k3 .loop .inv) (sym e ∙ not-false (k1 .entry-ok .result) (c .if1 .left))
+    let k = c .before .before .before .before in
+    let entry-ok = c .before .entry-ok in
+    let e = rw (c .before .before .up .ensures) at (entry-ok .ensures) in
+    tested-more (k .loop .inv) (sym e ∙ not-false (entry-ok .result) (c .if1 .left))
 
 returns-2 : tie.Need-returns-2 Inv-loop μ-loop
 returns-2 c = tested-all (c .before .loop .inv) (omega arith)

@@ -12,17 +12,17 @@ entry-at-requires c κs = search needs
 
 returns : tie.Need-returns
 returns c =
-    let k1 = c .before .before in
-    let a = k1 .before .before in
-    entry-high (a .args .m) (a .args .d) (k1 .entry-at .result) (c .if1 .taken) ∙ ap (entryOk (a .args .m) (a .args .d)) (k1 .entry-at .ensures)
+    let a = c .before .before .before .before in
+    let entry-at = c .before .before .entry-at in
+    entry-high (a .args .m) (a .args .d) (entry-at .result) (c .if1 .taken) ∙ ap (entryOk (a .args .m) (a .args .d)) (entry-at .ensures)
 
 returns-2 : tie.Need-returns-2
 returns-2 c =
-    let k1 = c .before in
-    let k2 = k1 .before .before in
-    let a = k2 .before .before in
-    entry-last (a .args .m) (a .args .d) (k2 .entry-at .result) (omega (arith, k1 .if1 .left))
-    ∙ ap (entryOk (a .args .m) (a .args .d)) (k2 .entry-at .ensures)
+    let k = c .before .before .before in
+    let a = k .before .before in
+    let entry-at = k .entry-at in
+    entry-last (a .args .m) (a .args .d) (entry-at .result) (omega (arith, c .before .if1 .left))
+    ∙ ap (entryOk (a .args .m) (a .args .d)) (entry-at .ensures)
 
 pub entry-ok-spec : {M : Type 1} → statement M
 entry-ok-spec = tie.close (tie.spec entry-at-requires returns returns-2)

@@ -33,11 +33,9 @@ word-at-requires c κs =
 
 returns : tie.Need-returns Inv-loop μ-loop
 returns c =
-    let k1 = c .before in
-    let k2 = k1 .before in
-    let k3 = k2 .before .before in
-    let e = rw (k2 .up .ensures) at (k1 .word-at .ensures) in
-    missed-found (k3 .loop .inv) (omega arith) (eq-eqb _ _ (sym e ∙ c .if1 .taken))
+    let k = c .before .before .before .before in
+    let e = rw (c .before .before .up .ensures) at (c .before .word-at .ensures) in
+    missed-found (k .loop .inv) (omega arith) (eq-eqb _ _ (sym e ∙ c .if1 .taken))
 
 add-c : tie.Need-add-c Inv-loop μ-loop
 add-c c = omega arith
@@ -47,11 +45,9 @@ loop-less c = omega arith
 
 loop-again : tie.Need-loop-again Inv-loop μ-loop
 loop-again c =
-    let k1 = c .before in
-    let k2 = k1 .before in
-    let k3 = k2 .before .before in
-    let e = rw (k2 .up .ensures) at (k1 .word-at .ensures) in
-    missed-more (k3 .loop .inv) (ne-eqb _ _ (λ h. c .if1 .left (e ∙ h)))
+    let k = c .before .before .before .before in
+    let e = rw (c .before .before .up .ensures) at (c .before .word-at .ensures) in
+    missed-more (k .loop .inv) (ne-eqb _ _ (λ h. c .if1 .left (e ∙ h)))
 
 returns-2 : tie.Need-returns-2 Inv-loop μ-loop
 returns-2 c = missed-all (c .before .loop .inv) (omega arith)

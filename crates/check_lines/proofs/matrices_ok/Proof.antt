@@ -21,23 +21,21 @@ loop-holds c = tested-none
 
 matrix-line-requires : tie.Need-matrix-line-requires Inv-loop μ-loop
 matrix-line-requires c κs =
-    let k1 = c .before in
-    let a = k1 .before .before in
-    omega (arith, matrix-inside (a .args .d) (a .args .n) (k1 .loop .g) _ (omega arith) (a .pre), a .good)
+    let a = c .before .before .before in
+    omega (arith, matrix-inside (a .args .d) (a .args .n) (c .before .loop .g) _ (omega arith) (a .pre), a .good)
 
 matrix-ok-requires : tie.Need-matrix-ok-requires Inv-loop μ-loop
 matrix-ok-requires c κs =
-    let k1 = c .before .before in
-    let a = k1 .before .before in
-    omega (arith, c .matrix-line .ensures, matrix-inside (a .args .d) (a .args .n) (k1 .loop .g) _ (omega arith) (a .pre))
+    let a = c .before .before .before .before in
+    omega (arith, c .matrix-line .ensures, matrix-inside (a .args .d) (a .args .n) (c .before .before .loop .g) _ (omega arith) (a .pre))
 
 returns : tie.Need-returns Inv-loop μ-loop
 returns c =
-    let k1 = c .before in
-    let k2 = k1 .before in
-    let k3 = k2 .before .before in
-    let e = rw (k2 .matrix-line .ensures) at (k1 .matrix-ok .ensures) in
-    tested-fails (k3 .loop .inv) (omega arith) (sym e ∙ not-true (k1 .matrix-ok .result) (c .if1 .taken))
+    let k = c .before .before .before .before in
+    let matrix-ok = c .before .matrix-ok in
+    let matrix-line = c .before .before .matrix-line in
+    let e = rw (matrix-line .ensures) at (matrix-ok .ensures) in
+    tested-fails (k .loop .inv) (omega arith) (sym e ∙ not-true (matrix-ok .result) (c .if1 .taken))
 
 add-g : tie.Need-add-g Inv-loop μ-loop
 add-g c = omega arith
@@ -47,11 +45,10 @@ loop-less c = omega arith
 
 loop-again : tie.Need-loop-again Inv-loop μ-loop
 loop-again c =
-    let k1 = c .before in
-    let k2 = k1 .before in
-    let k3 = k2 .before .before in
-    let e = rw (k2 .matrix-line .ensures) at (k1 .matrix-ok .ensures) in
-    tested-more (k3 .loop .inv) (sym e ∙ not-false (k1 .matrix-ok .result) (c .if1 .left))
+    let k = c .before .before .before .before in
+    let matrix-ok = c .before .matrix-ok in
+    let e = rw (c .before .before .matrix-line .ensures) at (matrix-ok .ensures) in
+    tested-more (k .loop .inv) (sym e ∙ not-false (matrix-ok .result) (c .if1 .left))
 
 returns-2 : tie.Need-returns-2 Inv-loop μ-loop
 returns-2 c = tested-all (c .before .loop .inv) (omega arith)

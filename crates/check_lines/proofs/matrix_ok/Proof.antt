@@ -12,22 +12,21 @@ entries-ok-requires c κs = search needs
 
 returns : tie.Need-returns
 returns c =
-    let k1 = c .before in
-    let a = k1 .before .before in
+    let a = c .before .before .before in
+    let entries-ok = c .before .entries-ok in
     let T = now (a .args .words) in
-    matrix-apart (a .args .m) T (a .args .at) (a .args .d) (sym (k1 .entries-ok .ensures) ∙ not-true (k1 .entries-ok .result) (c .if1 .taken))
+    matrix-apart (a .args .m) T (a .args .at) (a .args .d) (sym (entries-ok .ensures) ∙ not-true (entries-ok .result) (c .if1 .taken))
 
 rows-ok-requires : tie.Need-rows-ok-requires
 rows-ok-requires c κs = search needs
 
 returns-2 : tie.Need-returns-2
 returns-2 c =
-    let k1 = c .before in
-    let k2 = k1 .before in
-    let a = k2 .before .before in
+    let a = c .before .before .before .before in
+    let entries-ok = c .before .before .entries-ok in
     let T = now (a .args .words) in
     c .rows-ok .ensures
-    ∙ matrix-rows (a .args .m) T (a .args .at) (a .args .d) (sym (k2 .entries-ok .ensures) ∙ not-false (k2 .entries-ok .result) (k1 .if1 .left))
+    ∙ matrix-rows (a .args .m) T (a .args .at) (a .args .d) (sym (entries-ok .ensures) ∙ not-false (entries-ok .result) (c .before .if1 .left))
 
 pub matrix-ok-spec : {M : Type 1} → statement M
 matrix-ok-spec = tie.close (tie.spec entries-ok-requires returns rows-ok-requires returns-2)

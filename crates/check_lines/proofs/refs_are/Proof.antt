@@ -33,11 +33,9 @@ word-at-requires c κs =
 
 returns : tie.Need-returns Inv-loop μ-loop
 returns c =
-    let k1 = c .before in
-    let k2 = k1 .before in
-    let k3 = k2 .before .before in
-    let e = rw (k2 .up .ensures) at (k1 .word-at .ensures) in
-    tested-fails (k3 .loop .inv) (omega arith) (ne-eqb _ _ (λ h. c .if1 .taken (e ∙ h)))
+    let k = c .before .before .before .before in
+    let e = rw (c .before .before .up .ensures) at (c .before .word-at .ensures) in
+    tested-fails (k .loop .inv) (omega arith) (ne-eqb _ _ (λ h. c .if1 .taken (e ∙ h)))
 
 add-c : tie.Need-add-c Inv-loop μ-loop
 add-c c = omega arith
@@ -47,11 +45,9 @@ loop-less c = omega arith
 
 loop-again : tie.Need-loop-again Inv-loop μ-loop
 loop-again c =
-    let k1 = c .before in
-    let k2 = k1 .before in
-    let k3 = k2 .before .before in
-    let e = rw (k2 .up .ensures) at (k1 .word-at .ensures) in
-    tested-more (k3 .loop .inv) (eq-eqb _ _ (sym e ∙ c .if1 .left))
+    let k = c .before .before .before .before in
+    let e = rw (c .before .before .up .ensures) at (c .before .word-at .ensures) in
+    tested-more (k .loop .inv) (eq-eqb _ _ (sym e ∙ c .if1 .left))
 
 returns-2 : tie.Need-returns-2 Inv-loop μ-loop
 returns-2 c = tested-all (c .before .loop .inv) (omega arith)

@@ -35,42 +35,38 @@ up-requires c κs = omega arith
 
 add-word-at : tie.Need-add-word-at Inv-loop μ-loop
 add-word-at c =
-    let k1 = c .before .before .before .before .before in
-    let a = k1 .before .before in
-    omega (arith, c .up .ensures, k1 .matrix-line .ensures, a .pre .0, a .good)
+    let k = c .before .before .before .before .before in
+    let a = k .before .before in
+    omega (arith, c .up .ensures, k .matrix-line .ensures, a .pre .0, a .good)
 
 word-at-requires : tie.Need-word-at-requires Inv-loop μ-loop
 word-at-requires c κs =
-    let k1 = c .before .before .before .before .before in
-    let a = k1 .before .before in
-    (omega (arith, c .up .ensures, k1 .matrix-line .ensures, a .pre .0), omega arith)
+    let k = c .before .before .before .before .before in
+    (omega (arith, c .up .ensures, k .matrix-line .ensures, k .before .before .pre .0), omega arith)
 
 add-word-at-2 : tie.Need-add-word-at-2 Inv-loop μ-loop
 add-word-at-2 c =
-    let k1 = c .before in
-    let k2 = k1 .before .before .before .before in
-    let a = k2 .before .before .before in
-    omega (arith, k1 .up .ensures, k2 .matrix-line2 .ensures, a .pre .1, a .good)
+    let k = c .before .before .before .before .before in
+    let a = k .before .before .before in
+    omega (arith, c .before .up .ensures, k .matrix-line2 .ensures, a .pre .1, a .good)
 
 word-at-requires-2 : tie.Need-word-at-requires-2 Inv-loop μ-loop
 word-at-requires-2 c κs =
-    let k1 = c .before in
-    let k2 = k1 .before .before .before .before in
-    let a = k2 .before .before .before in
-    (omega (arith, k1 .up .ensures, k2 .matrix-line2 .ensures, a .pre .1), omega arith)
+    let k = c .before .before .before .before .before in
+    let a = k .before .before .before in
+    (omega (arith, c .before .up .ensures, k .matrix-line2 .ensures, a .pre .1), omega arith)
 
 returns : tie.Need-returns Inv-loop μ-loop
 returns c =
-    let k1 = c .before in
-    let k2 = k1 .before in
-    let k3 = k2 .before in
-    let k4 = k3 .before .before .before in
-    let k5 = k4 .before in
-    let k6 = k5 .before in
-    let a = k6 .before .before in
-    let x = ref-read (now (a .args .words)) (a .args .d) (a .args .g) (k6 .matrix-line .ensures) (k3 .up .ensures) (k2 .word-at .ensures) in
-    let y = ref-read (now (a .args .words)) (a .args .d) 0 (k5 .matrix-line2 .ensures) (k3 .up .ensures) (k1 .word-at2 .ensures) in
-    tested-fails (k4 .loop .inv) (omega arith) (ne-eqb _ _ (λ h. c .if2 .taken (x ∙ h ∙ sym y)))
+    let k1 = c .before .before .before in
+    let k2 = k1 .before .before .before in
+    let a = k2 .before .before .before .before in
+    let word-at = c .before .before .word-at in
+    let up = k1 .up in
+    let matrix-line = k2 .before .before .matrix-line in
+    let x = ref-read (now (a .args .words)) (a .args .d) (a .args .g) (matrix-line .ensures) (up .ensures) (word-at .ensures) in
+    let y = ref-read (now (a .args .words)) (a .args .d) 0 (k2 .before .matrix-line2 .ensures) (up .ensures) (c .before .word-at2 .ensures) in
+    tested-fails (k2 .loop .inv) (omega arith) (ne-eqb _ _ (λ h. c .if2 .taken (x ∙ h ∙ sym y)))
 
 add-c : tie.Need-add-c Inv-loop μ-loop
 add-c c = omega arith
@@ -80,21 +76,18 @@ loop-less c = omega arith
 
 loop-again : tie.Need-loop-again Inv-loop μ-loop
 loop-again c =
-    let k1 = c .before in
-    let k2 = k1 .before in
-    let k3 = k2 .before in
-    let k4 = k3 .before .before .before in
-    let k5 = k4 .before in
-    let k6 = k5 .before in
-    let a = k6 .before .before in
-    let x = ref-read (now (a .args .words)) (a .args .d) (a .args .g) (k6 .matrix-line .ensures) (k3 .up .ensures) (k2 .word-at .ensures) in
-    let y = ref-read (now (a .args .words)) (a .args .d) 0 (k5 .matrix-line2 .ensures) (k3 .up .ensures) (k1 .word-at2 .ensures) in
-    tested-more (k4 .loop .inv) (eq-eqb _ _ (sym x ∙ c .if2 .left ∙ y))
+    let k1 = c .before .before .before in
+    let k2 = k1 .before .before .before in
+    let a = k2 .before .before .before .before in
+    let word-at = c .before .before .word-at in
+    let up = k1 .up in
+    let matrix-line = k2 .before .before .matrix-line in
+    let x = ref-read (now (a .args .words)) (a .args .d) (a .args .g) (matrix-line .ensures) (up .ensures) (word-at .ensures) in
+    let y = ref-read (now (a .args .words)) (a .args .d) 0 (k2 .before .matrix-line2 .ensures) (up .ensures) (c .before .word-at2 .ensures) in
+    tested-more (k2 .loop .inv) (eq-eqb _ _ (sym x ∙ c .if2 .left ∙ y))
 
 returns-2 : tie.Need-returns-2 Inv-loop μ-loop
-returns-2 c =
-    let k1 = c .before .before in
-    tested-all (k1 .loop .inv) (omega arith)
+returns-2 c = tested-all (c .before .before .loop .inv) (omega arith)
 
 pub refs-as-spec : {M : Type 1} → statement M
 refs-as-spec =

@@ -20,15 +20,14 @@ loop-holds c = tested-none
 
 refs-as-requires : tie.Need-refs-as-requires Inv-loop μ-loop
 refs-as-requires c κs =
-    let k1 = c .before in
-    let a = k1 .before .before in
-    (matrix-inside (a .args .d) (a .args .n) (k1 .loop .g) _ (omega arith) (a .pre), matrix-inside (a .args .d) (a .args .n) 0 _ (omega arith) (a .pre))
+    let a = c .before .before .before in
+    (matrix-inside (a .args .d) (a .args .n) (c .before .loop .g) _ (omega arith) (a .pre), matrix-inside (a .args .d) (a .args .n) 0 _ (omega arith) (a .pre))
 
 returns : tie.Need-returns Inv-loop μ-loop
 returns c =
-    let k1 = c .before in
-    let k2 = k1 .before .before in
-    tested-fails (k2 .loop .inv) (omega arith) (sym (k1 .refs-as .ensures) ∙ not-true (k1 .refs-as .result) (c .if1 .taken))
+    let k = c .before .before .before in
+    let refs-as = c .before .refs-as in
+    tested-fails (k .loop .inv) (omega arith) (sym (refs-as .ensures) ∙ not-true (refs-as .result) (c .if1 .taken))
 
 add-g : tie.Need-add-g Inv-loop μ-loop
 add-g c = omega arith
@@ -38,9 +37,9 @@ loop-less c = omega arith
 
 loop-again : tie.Need-loop-again Inv-loop μ-loop
 loop-again c =
-    let k1 = c .before in
-    let k2 = k1 .before .before in
-    tested-more (k2 .loop .inv) (sym (k1 .refs-as .ensures) ∙ not-false (k1 .refs-as .result) (c .if1 .left))
+    let k = c .before .before .before in
+    let refs-as = c .before .refs-as in
+    tested-more (k .loop .inv) (sym (refs-as .ensures) ∙ not-false (refs-as .result) (c .if1 .left))
 
 returns-2 : tie.Need-returns-2 Inv-loop μ-loop
 returns-2 c = tested-all (c .before .loop .inv) (omega arith)

@@ -24,9 +24,9 @@ has-row-requires c κs =
 
 returns : tie.Need-returns Inv-loop μ-loop
 returns c =
-    let k1 = c .before in
-    let k2 = k1 .before .before in
-    tested-fails (k2 .loop .inv) (omega arith) (sym (k1 .has-row .ensures) ∙ not-true (k1 .has-row .result) (c .if1 .taken))
+    let k = c .before .before .before in
+    let has-row = c .before .has-row in
+    tested-fails (k .loop .inv) (omega arith) (sym (has-row .ensures) ∙ not-true (has-row .result) (c .if1 .taken))
 
 add-r : tie.Need-add-r Inv-loop μ-loop
 add-r c = omega arith
@@ -36,9 +36,9 @@ loop-less c = omega arith
 
 loop-again : tie.Need-loop-again Inv-loop μ-loop
 loop-again c =
-    let k1 = c .before in
-    let k2 = k1 .before .before in
-    tested-more (k2 .loop .inv) (sym (k1 .has-row .ensures) ∙ not-false (k1 .has-row .result) (c .if1 .left))
+    let k = c .before .before .before in
+    let has-row = c .before .has-row in
+    tested-more (k .loop .inv) (sym (has-row .ensures) ∙ not-false (has-row .result) (c .if1 .left))
 
 returns-2 : tie.Need-returns-2 Inv-loop μ-loop
 returns-2 c = tested-all (c .before .loop .inv) (omega arith)

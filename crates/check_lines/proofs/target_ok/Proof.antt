@@ -22,31 +22,28 @@ up-requires c κs = search needs
 
 returns : tie.Need-returns
 returns c =
-    let k1 = c .before in
-    let k2 = k1 .before in
-    let k3 = k2 .before in
-    let a = k3 .before .before in
-    let T = now (a .args .words) in
-    target-unlisted T (a .args .d) (a .args .many) (a .args .j) (k3 .matrix-line .result) (k2 .word-at .result) (k3 .matrix-line .ensures)
-    (k2 .word-at .ensures) (omega (arith, k1 .up .ensures, c .if1 .taken))
+    let k = c .before .before .before in
+    let a = k .before .before in
+    let word-at = c .before .before .word-at in
+    let matrix-line = k .matrix-line in
+    target-unlisted (now (a .args .words)) (a .args .d) (a .args .many) (a .args .j) (matrix-line .result) (word-at .result) (matrix-line .ensures)
+    (word-at .ensures) (omega (arith, c .before .up .ensures, c .if1 .taken))
 
 refs-are-requires : tie.Need-refs-are-requires
 refs-are-requires c κs =
-    let k1 = c .before .before .before in
-    let a = k1 .before .before in
-    omega (arith, k1 .matrix-line .ensures, a .pre .0)
+    let k = c .before .before .before in
+    omega (arith, k .matrix-line .ensures, k .before .before .pre .0)
 
 returns-2 : tie.Need-returns-2
 returns-2 c =
-    let k1 = c .before in
-    let k2 = k1 .before in
-    let k3 = k2 .before in
-    let k4 = k3 .before in
-    let a = k4 .before .before in
-    let T = now (a .args .words) in
+    let k = c .before .before .before in
+    let a = k .before .before .before in
+    let up = c .before .before .up in
+    let word-at = k .word-at in
+    let matrix-line = k .before .matrix-line in
     c .refs-are .ensures
-    ∙ target-refs T (a .args .d) (a .args .many) (a .args .j) (k4 .matrix-line .result) (k3 .word-at .result) (k4 .matrix-line .ensures)
-    (k3 .word-at .ensures) (omega (arith, k2 .up .ensures, k1 .if1 .left))
+    ∙ target-refs (now (a .args .words)) (a .args .d) (a .args .many) (a .args .j) (matrix-line .result) (word-at .result) (matrix-line .ensures)
+    (word-at .ensures) (omega (arith, up .ensures, c .before .if1 .left))
 
 pub target-ok-spec : {M : Type 1} → statement M
 target-ok-spec =

@@ -26,17 +26,17 @@ loop-holds c =
 
 target-ok-requires : tie.Need-target-ok-requires Inv-loop μ-loop
 target-ok-requires c κs =
-    let k1 = c .before in
-    let a = k1 .before .before in
-    (matrix-inside (a .args .d) (a .args .n) (k1 .loop .j) _ (omega arith) (a .pre .0), a .pre .1)
+    let a = c .before .before .before in
+    (matrix-inside (a .args .d) (a .args .n) (c .before .loop .j) _ (omega arith) (a .pre .0), a .pre .1)
 
 returns : tie.Need-returns Inv-loop μ-loop
 returns c =
-    let k1 = c .before in
-    let k2 = k1 .before .before in
-    let a = k2 .before .before in
-    let e = above-is (targetOk (now (a .args .words)) (a .args .d) (a .args .many)) (a .args .i) (k2 .loop .j) (k2 .loop .inv .0) in
-    tested-fails (k2 .loop .inv .1) (omega arith) (e ∙ sym (k1 .target-ok .ensures) ∙ not-true (k1 .target-ok .result) (c .if1 .taken))
+    let k = c .before .before .before in
+    let a = k .before .before in
+    let target-ok = c .before .target-ok in
+    let loop = k .loop in
+    let e = above-is (targetOk (now (a .args .words)) (a .args .d) (a .args .many)) (a .args .i) (loop .j) (loop .inv .0) in
+    tested-fails (loop .inv .1) (omega arith) (e ∙ sym (target-ok .ensures) ∙ not-true (target-ok .result) (c .if1 .taken))
 
 add-j : tie.Need-add-j Inv-loop μ-loop
 add-j c = omega arith
@@ -46,11 +46,12 @@ loop-less c = omega arith
 
 loop-again : tie.Need-loop-again Inv-loop μ-loop
 loop-again c =
-    let k1 = c .before in
-    let k2 = k1 .before .before in
-    let a = k2 .before .before in
-    let e = above-is (targetOk (now (a .args .words)) (a .args .d) (a .args .many)) (a .args .i) (k2 .loop .j) (k2 .loop .inv .0) in
-    (omega arith, tested-more (k2 .loop .inv .1) (e ∙ sym (k1 .target-ok .ensures) ∙ not-false (k1 .target-ok .result) (c .if1 .left)))
+    let k = c .before .before .before in
+    let a = k .before .before in
+    let target-ok = c .before .target-ok in
+    let loop = k .loop in
+    let e = above-is (targetOk (now (a .args .words)) (a .args .d) (a .args .many)) (a .args .i) (loop .j) (loop .inv .0) in
+    (omega arith, tested-more (loop .inv .1) (e ∙ sym (target-ok .ensures) ∙ not-false (target-ok .result) (c .if1 .left)))
 
 returns-2 : tie.Need-returns-2 Inv-loop μ-loop
 returns-2 c = tested-all (c .before .loop .inv .1) (omega arith)
