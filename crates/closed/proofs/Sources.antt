@@ -6,7 +6,7 @@
 --   orbit-same .. scalar-same      every function of the formulas
 --   twins-words             their levels have the same lines
 use mathlib.Core.Path.{_≡_, refl, sym, _∙_, ap, ap₂, subst}
-use mathlib.Core.Bool.{Bool, true, false, _||_, cond}
+use mathlib.Core.Bool.{Bool, true, false, cond}
 use mathlib.Core.List.{[], _∷_, map}
 use Prim.Native.Nat.{ℕ, zero, suc, _+_, _*_, _/_, _%_, _≤_, _<_}
 use native.Mathlib.Omega.{arith}
@@ -25,7 +25,7 @@ use Rattle.formulas.specs.Formulas.{Source, Moved}
 use Rattle.numbers.proofs.Bools.{cond-true, cond-eq, cond-lt}
 use Rattle.numbers.proofs.Lists.{iter-zero, iter-suc, length-blocks}
 use Rattle.numbers.proofs.Sums.{sum-below, owner}
-use Rattle.numbers.proofs.Searches.{anyBelow-intro, least-least}
+use Rattle.numbers.proofs.Searches.{anyBelow-intro, anyBelow-below, least-least}
 use Rattle.numbers.proofs.Blocks.{getD-table, length-table, getD-blocks, blocks-below}
 
 -- ---- Searches ask only below their bound
@@ -38,11 +38,6 @@ leastFrom-below (suc n) k q q′ h = ap₂ (λ b x. cond b k x) (h k (omega arit
 least-below : (n : ℕ) (q q′ : ℕ → Bool) → ((j : ℕ) → j < n → q j ≡ q′ j) → least n q ≡ least n q′
 unfolding least
 least-below n q q′ h = leastFrom-below n 0 q q′ (λ j a b. h j (omega arith))
-
-anyBelow-below : (n : ℕ) (q q′ : ℕ → Bool) → ((j : ℕ) → j < n → q j ≡ q′ j) → anyBelow n q ≡ anyBelow n q′
-unfolding anyBelow
-anyBelow-below zero q q′ h = refl
-anyBelow-below (suc n) q q′ h = ap₂ (_||_) (anyBelow-below n q q′ (λ j a. h j (omega arith))) (h n (omega arith))
 
 pub record Twins : Type 0 where
   pub m : ℕ

@@ -7,6 +7,7 @@
 --   p-power, p-commutator, pair-stray, pair-row     a line, by its p and its word
 --   Tested, tested-none, tested-more, tested-all, tested-fails      a loop of tests
 --   primes-none, primes-more, primes-all      the primes of the first generators
+--   orders-none, orders-more, orders-all, orders-are     the orders of the levels
 use mathlib.Core.Path.{_≡_, refl, sym, ap, ap₂, subst, _∙_}
 use mathlib.Core.Logic.{_≢_}
 use mathlib.Core.Bool.{Bool, true, false, _&&_, _||_}
@@ -27,6 +28,7 @@ use Rattle.numbers.proofs.Bools.{cond-eq, cond-ne}
 use Rattle.numbers.proofs.Lists.{allBelow-intro, allBelow-fails}
 use Rattle.numbers.proofs.Sums.{sum-suc}
 use Rattle.conditions.specs.Conditions.{product, entryWell, rowWells, pairWell, Primes}
+use Rattle.conditions.specs.Size.{LevelOrders}
 
 -- ---- The product of primes
 
@@ -175,3 +177,32 @@ module _ {ps : List ℕ} where
 
   pub primes-all : {n : ℕ} {primes : List ℕ} {j : ℕ} → Primes ps j primes → n ≤ j → Primes ps n primes
   primes-all h l = record { each = λ g b. h .each g (omega arith); long = h .long }
+
+-- ---- The orders of the levels
+
+module _ {primes : List ℕ} where
+  pub orders-none : LevelOrders primes 0 (replicate (maxGenerators + 1) 1)
+  orders-none = record {
+    long = length-replicate {A = ℕ} (maxGenerators + 1) 1;
+    each = λ j l. let z : 0 ≡ j = omega arith in
+        subst (λ (k : ℕ). getD (replicate (maxGenerators + 1) 1) k 0 ≡ product primes k) z (sym (product-zero primes));
+  }
+
+  pub orders-more : {j : ℕ} {orders : List ℕ} (x : ℕ) → LevelOrders primes j orders → j < maxGenerators → x ≡ product primes (j + 1)
+      → LevelOrders primes (j + 1) (set orders (j + 1) x)
+  orders-more {j} {orders} x h l q =
+      record { long = length-set orders (j + 1) x ∙ h .long; each = λ g b. pick g b (ℕ-discrete g (j + 1)) }
+    where
+      pick : (g : ℕ) → g ≤ j + 1 → Dec (g ≡ j + 1) → getD (set orders (j + 1) x) g 0 ≡ product primes g
+      pick g b (yes w) =
+          ap (λ (k : ℕ). getD (set orders (j + 1) x) k 0) w ∙ getD-set-same orders (j + 1) x 0 (omega (arith, h .long))
+          ∙ q ∙ ap (product primes) (sym w)
+      pick g b (no w) = getD-set-other orders (j + 1) g x 0 w ∙ h .each g (omega arith)
+
+  pub orders-all : {n j : ℕ} {orders : List ℕ} → LevelOrders primes j orders → n ≤ j → LevelOrders primes n orders
+  orders-all h l = record { long = h .long; each = λ g b. h .each g (omega arith) }
+
+  -- they are those of a presentation with these primes
+  pub orders-are : (P : Presentation) {n : ℕ} {orders : List ℕ} → LevelOrders primes n orders → ((j : ℕ) → j < n → getD primes j 0 ≡ P .p j)
+      → (k : ℕ) → k ≤ n → getD orders k 0 ≡ order P k
+  orders-are P {n} h is k l = h .each k l ∙ product-order P primes n is k l

@@ -1,8 +1,10 @@
 -- The walk over the heads finds out whether they are in order, and whether the squares of the degrees are bounded.
 --
+--   head-is, is-head                    what the test of a line says, both ways
 --   Passing l i r                          the lines of a representation, and the square of its degree
 --   heads-kept, kept-heads              what the test of a representation says, both ways
 --   walk-end, walk-step, walk-fails     one step of the walk
+--   begins-yes, begins-no               where a line begins the next level, and where it does not
 --   Bounded                             heads in order, with squares bounded
 --   walk-bounded                        a walk that says yes has met such heads
 --   bounded-walks                       such heads are walked to the end
@@ -41,7 +43,7 @@ and-false false b h = refl
 
 -- ---- The test of a representation
 
-head-is : (T : List ℕ) (l i r d g c : ℕ) → headIs T l i r d g c ≡ true → LineHead T l i r d g c
+pub head-is : (T : List ℕ) (l i r d g c : ℕ) → headIs T l i r d g c ≡ true → LineHead T l i r d g c
 unfolding headIs
 head-is T l i r d g c h =
     let a : Bool = eqb (wordAt T l LEVEL) i in
@@ -59,7 +61,7 @@ head-is T l i r d g c h =
       col = eqb-true (wordAt T l COL) c (and-right (a && b && e && f) (eqb (wordAt T l COL) c) h);
     }
 
-is-head : (T : List ℕ) (l i r d g c : ℕ) → LineHead T l i r d g c → headIs T l i r d g c ≡ true
+pub is-head : (T : List ℕ) (l i r d g c : ℕ) → LineHead T l i r d g c → headIs T l i r d g c ≡ true
 unfolding headIs
 is-head T l i r d g c h =
     and-intro _ _ (and-intro _ _ (and-intro _ _ (and-intro _ _ (eq-eqb _ _ (h .level)) (eq-eqb _ _ (h .rep))) (eq-eqb _ _ (h .deg))) (eq-eqb _ _ (h .gen)))
@@ -128,11 +130,11 @@ module _ (n : ℕ) (T : List ℕ) (ord : ℕ → ℕ) where
   unfolding stepOk
   kept-step l i r a K = and-intro (leb (nextLevel T l i r) n) _ (le-leb (nextLevel T l i r) n a) (kept-heads l (nextLevel T l i r) (nextRep T l i r) K)
 
-  begins-yes : (l i r : ℕ) → begins T l i r ≡ true → (nextLevel T l i r ≡ suc i) × (nextRep T l i r ≡ 0)
+  pub begins-yes : (l i r : ℕ) → begins T l i r ≡ true → (nextLevel T l i r ≡ suc i) × (nextRep T l i r ≡ 0)
   unfolding nextLevel nextRep
   begins-yes l i r e = (cond-true (begins T l i r) (suc i) i e, cond-true (begins T l i r) 0 r e)
 
-  begins-no : (l i r : ℕ) → begins T l i r ≡ false → (nextLevel T l i r ≡ i) × (nextRep T l i r ≡ r)
+  pub begins-no : (l i r : ℕ) → begins T l i r ≡ false → (nextLevel T l i r ≡ i) × (nextRep T l i r ≡ r)
   unfolding nextLevel nextRep
   begins-no l i r e = (cond-false (begins T l i r) (suc i) i e, cond-false (begins T l i r) 0 r e)
 

@@ -11,6 +11,7 @@
 --   act-fixed, plus-fixed      a matrix that fixes a basis index, and the same times a power of the root
 --   walk-zero, walk-next       the clauses of `walk`
 --   stored-fewer               fewer generators stand where more do
+--   matrix-inside              the lines of a generator stand among those of all
 use mathlib.Core.Path.{_≡_, refl, ap, ap₂, sym, _∙_}
 use Prim.Native.Nat.{ℕ, zero, suc, _+_, _-_, _*_, _%_, _<_, _≤_}
 use native.Mathlib.Nat.{mod-eq-of-lt, mod-eq-sub-mod, mod-lt, mod-add-mod, add-mod-mod, mul-le-mul-right}
@@ -26,7 +27,7 @@ use Rattle.numbers.proofs.Lists.{iter-suc, iter-add, iter-zero}
 use Rattle.numbers.proofs.Blocks.{getD-map, getD-table}
 use Rattle.formulas.specs.Formulas.{walk, plus}
 use Rattle.level.specs.declared.Listed.{Listed}
-use Rattle.level.specs.Stored.{entryIn, matrixIn, Stored}
+use Rattle.level.specs.Stored.{entryIn, matrixIn, lineIn, Stored}
 
 -- ---- Sums modulo m
 
@@ -113,3 +114,6 @@ walk-next m M w k x = ap (λ n. walk m M n (toNF n w) x) (add-one k)
 
 pub stored-fewer : {m n : ℕ} {W : List ℕ} {D : Listed} (k : ℕ) → k ≤ n → Stored m n W D → Stored m k W D
 stored-fewer k l S = record { positive = S .positive; degree = S .degree; holds = λ g h. S .holds g (omega arith) }
+
+pub matrix-inside : (D : Listed) (n g words : ℕ) → g < n → 8 * lineIn D n ≤ words → 8 * (lineIn D g + D .deg) ≤ words
+matrix-inside D n g words h k = let e : suc g * D .deg ≤ n * D .deg = mul-le-mul-right {m = suc g} {n = n} (D .deg) h in omega (arith, e)

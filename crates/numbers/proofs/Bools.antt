@@ -5,6 +5,7 @@
 --   or-left, or-right                   a || b is true if one of the two is
 --   or-false-left, or-false-right       a || b is false: both are
 --   same-test                           two tests that pass together are one
+--   refuted                             a test that cannot pass
 --   cond-true, cond-false               a choice by a test that is known
 --   cond-lt, cond-ge, cond-eq, cond-ne  a choice by a comparison of numbers
 use mathlib.Core.Path.{_≡_, refl, sym, ap}
@@ -54,6 +55,10 @@ pub same-test : (a b : Bool) → (a ≡ true → b ≡ true) → (b ≡ true →
 same-test true b f g = sym (f refl)
 same-test false true f g = absurd (false≢true (g refl))
 same-test false false f g = refl
+
+pub refuted : (b : Bool) → ¬ (b ≡ true) → false ≡ b
+refuted true f = absurd (f refl)
+refuted false f = refl
 
 pub cond-true : {A : Type 0} (b : Bool) (x y : A) → b ≡ true → cond b x y ≡ x
 cond-true b x y h = ap (λ t. cond t x y) h

@@ -1,9 +1,11 @@
 -- Searches of the definitions: the least number that passes a test, and tests of some number.
 --
 --   anyBelow-elim, anyBelow-intro      some number below n passes
+--   anyBelow-fails                     none does
+--   anyBelow-below                     two tests that agree below n
 --   least-found, least-least           where one passes, least finds one, and none below it passes
 --   least-is                           it finds the number that passes, if no other does
-use mathlib.Core.Path.{_≡_, refl, sym, _∙_, ap, subst}
+use mathlib.Core.Path.{_≡_, refl, sym, _∙_, ap, ap₂, subst}
 use mathlib.Core.Bool.{Bool, true, false, _||_, false≢true}
 use Prim.Native.Nat.{ℕ, zero, suc, _+_, _≤_, _<_}
 use native.Mathlib.Omega.{arith}
@@ -28,6 +30,16 @@ anyBelow-elim (suc n) q h = go (or-cases (anyBelow n q) (q n) h) (anyBelow-elim 
     go : OneOf (anyBelow n q) (q n) → (anyBelow n q ≡ true → (k : ℕ) × (k < n) × (q k ≡ true)) → (k : ℕ) × (k < suc n) × (q k ≡ true)
     go (first a) r = let (k, b, c) = r a in (k, omega arith, c)
     go (second a) r = (n, omega arith, a)
+
+pub anyBelow-fails : (n : ℕ) (q : ℕ → Bool) → ((k : ℕ) → k < n → q k ≡ false) → anyBelow n q ≡ false
+unfolding anyBelow
+anyBelow-fails zero q h = refl
+anyBelow-fails (suc n) q h = ap₂ (_||_) (anyBelow-fails n q (λ k l. h k (omega arith))) (h n (omega arith))
+
+pub anyBelow-below : (n : ℕ) (q q′ : ℕ → Bool) → ((k : ℕ) → k < n → q k ≡ q′ k) → anyBelow n q ≡ anyBelow n q′
+unfolding anyBelow
+anyBelow-below zero q q′ h = refl
+anyBelow-below (suc n) q q′ h = ap₂ (_||_) (anyBelow-below n q q′ (λ k l. h k (omega arith))) (h n (omega arith))
 
 -- what is known of a search in n trials from k: it ends by k + n, nothing before its end passes, and its end passes
 -- unless it is k + n

@@ -1,0 +1,84 @@
+-- `levels_ok` meets its contract: level after level.
+use mathlib.Core.Path.{sym, _∙_, subst}
+use Prim.Native.Nat.{_-_}
+use native.Mathlib.Omega.{arith}
+use borrow.Author.Tests.{not-true, not-false}
+use denote.Ref.{now}
+use native.Mathlib.Numerals.{add-one}
+use Rattle.conditions.proofs.Conditions.{Tested, tested-none, tested-more, tested-all, tested-fails}
+use Rattle.check_form.specs.Form.{levelOk, Over}
+use Rattle.check_form.proofs.Form.{over-first, over-next}
+use Rattle.check_form.proofs.levels_ok.Statement.{statement}
+use Rattle.check_form.proofs.levels_ok.Tie as tie
+
+abbrev Inv-loop : tie.InvT-loop
+Inv-loop words s low₀ i₀ low i = Over s words i low × Tested (levelOk (s .gens) (s .m) words) i
+
+abbrev μ-loop : tie.MeasureT-loop
+μ-loop words s low₀ i₀ low i = s .gens - i
+
+loop-holds : tie.Need-loop-holds Inv-loop μ-loop
+loop-holds c =
+    let a = c .before in
+    (over-first (a .args .s) (now (a .args .words)) (a .pre), tested-none)
+
+add-count-of : tie.Need-add-count-of Inv-loop μ-loop
+add-count-of c =
+    let a = c .before .before .before .before in
+    omega (arith, c .if1 .taken, a .pre .few)
+
+count-of-requires : tie.Need-count-of-requires Inv-loop μ-loop
+count-of-requires c κs =
+    let a = c .before .before .before .before in
+    (a .pre, omega (arith, c .if1 .taken))
+
+level-ok-requires : tie.Need-level-ok-requires Inv-loop μ-loop
+level-ok-requires c κs =
+    let k = c .before .before .before in
+    let a = k .before .before in
+    let loop = k .loop in
+    let T = now (a .args .words) in
+    (loop .inv .0, over-next (a .args .s) T (a .pre) (loop .i) (c .count-of .result) (c .before .if1 .taken) (c .count-of .ensures))
+
+returns : tie.Need-returns Inv-loop μ-loop
+returns c =
+    let k = c .before .before .before in
+    let level-ok = c .before .level-ok in
+    tested-fails (k .before .before .loop .inv .1) (k .if1 .taken) (sym (level-ok .ensures) ∙ not-true (level-ok .result) (c .if2 .taken))
+
+add-i : tie.Need-add-i Inv-loop μ-loop
+add-i c = omega arith
+
+loop-less : tie.Need-loop-less Inv-loop μ-loop
+loop-less c = omega arith
+
+loop-again : tie.Need-loop-again Inv-loop μ-loop
+loop-again c =
+    let k = c .before .before .before in
+    let a = k .before .before .before .before in
+    let level-ok = c .before .level-ok in
+    let count-of = c .before .before .count-of in
+    let loop = k .before .before .loop in
+    let next = over-next (a .args .s) (now (a .args .words)) (a .pre) (loop .i) (count-of .result) (k .if1 .taken) (count-of .ensures) in (
+      subst (λ k. Over (a .args .s) (now (a .args .words)) k (count-of .result)) (sym (add-one (loop .i))) next,
+      tested-more (loop .inv .1) (sym (level-ok .ensures) ∙ not-false (level-ok .result) (c .if2 .left)),
+    )
+
+returns-2 : tie.Need-returns-2 Inv-loop μ-loop
+returns-2 c = tested-all (c .before .before .loop .inv .1) (omega (arith, c .if1 .left))
+
+pub levels-ok-spec : {M : Type 1} → statement M
+levels-ok-spec =
+    tie.close
+    (tie.spec
+    Inv-loop
+    μ-loop
+    loop-holds
+    add-count-of
+    count-of-requires
+    level-ok-requires
+    returns
+    add-i
+    loop-less
+    loop-again
+    returns-2)

@@ -1,0 +1,2 @@
+-- What a well-formed table is, as code asks it.
+pub mod Form

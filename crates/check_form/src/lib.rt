@@ -1,0 +1,119 @@
+// Refusal 21: whether any words are a well-formed table. The heads of the lines are walked first. In a table that is
+// complete and in order the rest is asked of each representation, level by level, where it stands.
+//
+//   block, blocks_ok       the blocks of a representation, each as long as the degree of what it refers to
+//   rep_ok, level_ok, levels_ok      what is asked of a representation beside its degree, of a level's, of all
+//   well_formed            the whole of 21
+ghost use mathlib.Core.Path.{_≡_};
+ghost use Prim.Native.Nat.{suc, _+_, _*_, _≤_, _<_};
+ghost use lib.ListN.{length};
+ghost use Rattle.definitions.specs.Lists.{allBelow};
+ghost use Rattle.definitions.specs.Table.{levelAt};
+ghost use Rattle.level.specs.Stored.{lineIn};
+ghost use Rattle.seek.specs.Seek.{Whole};
+ghost use Rattle.check_heads.specs.Places.{Counted};
+ghost use Rattle.check_form.specs.Form.{repIn, blocksOk, Width, body, levelOk, Over, Fits, TellsForm};
+use conditions::size::Orders;
+use level::Listed;
+use seek::Scope;
+
+// How long the block from column o is, over a level i of `low` representations, and 0 where it is none.
+fn block(words: &[u32], s: Scope, i: u32, low: usize, d: Listed, o: u32) -> u32
+    requires { ⌜ Over s (now words) i low × (8 * (lineIn d 0 + d .deg) ≤ length (now words)) × (o < d .deg) ⌝ }
+    ensures { λ x. ⌜ Width (levelAt (s .gens) (now (words .entry)) i) (repIn (now (words .entry)) d) o x ⌝ }
+{
+    let at = level::matrix_line(d, 0) + level::up(o);
+    let x = level::word_at(words, at, level::REF);
+    let r = level::up(x);
+    if low <= r {
+        return 0;
+    }
+    let f = seek::degree_of(words, s, i, r);
+    if d.deg - o < f {
+        return 0;
+    }
+    if !check_lines::refs_are(words, at, f, x) {
+        return 0;
+    }
+    f
+}
+
+// The blocks of a representation are whole, from column 0 on.
+fn blocks_ok(words: &[u32], s: Scope, i: u32, low: usize, d: Listed) -> bool
+    requires { ⌜ Over s (now words) i low × (8 * (lineIn d 0 + d .deg) ≤ length (now words)) ⌝ }
+    ensures { λ b. ⌜ b ≡ blocksOk (levelAt (s .gens) (now (words .entry)) i) (repIn (now (words .entry)) d) ⌝ }
+{
+    let mut o: u32 = 0;
+    while o < d.deg {
+        let f = block(words, s, i, low, d, o);
+        if f == 0 {
+            return false;
+        }
+        o += f;
+    }
+    true
+}
+
+// Matrices, blocks and targets of a representation of the level above level i; they have `low` and `many`.
+fn rep_ok(words: &[u32], s: Scope, i: u32, low: usize, many: usize, d: Listed) -> bool
+    requires { ⌜ Over s (now words) i low × Over s (now words) (suc i) many × Fits s (now words) d ⌝ }
+    ensures { λ b. ⌜ b ≡ body (s .gens) (s .m) (now (words .entry)) i (repIn (now (words .entry)) d) ⌝ }
+{
+    if !check_lines::matrices_ok(words, d, s.gens, s.m) {
+        return false;
+    }
+    if !blocks_ok(words, s, i, low, d) {
+        return false;
+    }
+    if !check_lines::refs_equal(words, d, i + 1) {
+        return false;
+    }
+    check_lines::targets_ok(words, d, i + 1, s.gens, many)
+}
+
+// Those of every representation of the level.
+fn level_ok(words: &[u32], s: Scope, i: u32, low: usize, many: usize) -> bool
+    requires { ⌜ Over s (now words) i low × Over s (now words) (suc i) many ⌝ }
+    ensures { λ b. ⌜ b ≡ levelOk (s .gens) (s .m) (now (words .entry)) i ⌝ }
+{
+    let last = many - 1;
+    let mut d = seek::found(words, s, i + 1, 0);
+    let mut r: usize = 0;
+    while r < last {
+        if !rep_ok(words, s, i, low, many, d) {
+            return false;
+        }
+        d = seek::following(words, s, d);
+        r += 1;
+    }
+    rep_ok(words, s, i, low, many, d)
+}
+
+// Those of every level.
+fn levels_ok(words: &[u32], s: Scope) -> bool
+    requires { ⌜ Whole s (now words) ⌝ }
+    ensures { λ b. ⌜ b ≡ allBelow (s .gens) (levelOk (s .gens) (s .m) (now (words .entry))) ⌝ }
+{
+    let mut low: usize = 1;
+    let mut i: u32 = 0;
+    while i < s.gens {
+        let many = seek::count_of(words, s, i + 1);
+        if !level_ok(words, s, i, low, many) {
+            return false;
+        }
+        low = many;
+        i += 1;
+    }
+    true
+}
+
+// The words are a well-formed table of a presentation with these orders of levels: 21 does not apply.
+pub fn well_formed(words: &[u32], orders: &Orders, s: Scope) -> bool
+    requires { ⌜ Counted s (now words) ⌝ }
+    ensures { λ r. ⌜ TellsForm s (now (orders .entry)) (now (words .entry)) r ⌝ }
+{
+    if !check_heads::heads(words, orders, s) {
+        return false;
+    }
+    levels_ok(words, s)
+}

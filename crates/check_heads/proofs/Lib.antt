@@ -1,0 +1,2 @@
+-- Laws of the walk over heads.
+pub mod Places

@@ -1,0 +1,236 @@
+-- What the tests of a walk over heads say, and how it goes on.
+--
+--   head-last                      the head of a line, by its last field
+--   matrix-is                      the lines of a generator
+--   product-fits                   a product of two words
+--   Sizes, size-told, size-last    what is asked of a size, and its last test
+--   place-small, place-heads, place-room      a place by the size of its representation, and then by its heads
+--   first-stays, other-stays, next-turns      the level of a place
+--   Stepped                        a place that the walk has come to
+--   stepped-none, stepped-more, stepped-inside, stepped-forth      the steps of the walk
+--   stepped-fails, stepped-short, stepped-all, uneven      how it ends
+use mathlib.Core.Path.{_≡_, refl, sym, _∙_, ap, ap₂, subst}
+use mathlib.Core.Bool.{Bool, true, false, _&&_, false≢true}
+use mathlib.Core.List.{List}
+use Prim.Native.Nat.{ℕ, suc, _+_, _*_, _-_, _%_, _≤_, _<_}
+use native.Mathlib.Nat.{mul-pos, mul-le-mul}
+use native.Mathlib.Numerals.{add-one}
+use native.Mathlib.Omega.{arith}
+use lib.Dec.{eqb, leb, ltb}
+use lib.ListN.{length}
+use borrow.Author.Tests.{eqb-true, eq-eqb, ne-eqb, lt-ltb, le-ltb, ltb-true, le-leb, leb-true}
+use Rattle.definitions.specs.Lists.{allBelow}
+use Rattle.definitions.specs.Presentation.{lineWords}
+use Rattle.definitions.specs.Table.{LEVEL, REP, DEG, GEN, COL, wordAt, lineCount}
+use Rattle.numbers.proofs.Bools.{and-left, and-right, and-intro, same-test, refuted}
+use Rattle.heads.specs.Walk.{headIs, matrixHeads, begins, nextLevel, nextRep, repHeads, stepOk, walkFrom, headsOk}
+use Rattle.heads.proofs.Walk.{head-is, is-head, Passing, begins-yes, begins-no, step-kept}
+use Rattle.heads.proofs.Going.{Walking, going-none, going-more, going-fails, going-ends}
+use Rattle.level.specs.declared.Listed.{Listed}
+use Rattle.level.specs.Stored.{lineIn, listedIn}
+use Rattle.seek.specs.declared.Scope.{Scope}
+use Rattle.seek.proofs.Halves.{lines-there}
+use Rattle.check_heads.specs.declared.Place.{Place}
+use Rattle.check_heads.specs.Places.{turnedTo, behind, Inside, sizeOk, placeOk}
+
+-- ---- Lines
+
+pub head-last : (T : List ℕ) (l i r d g c : ℕ) → wordAt T l LEVEL ≡ i → wordAt T l REP ≡ r → wordAt T l DEG ≡ d → wordAt T l GEN ≡ g + 1
+    → eqb (wordAt T l COL) c ≡ headIs T l i r d g c
+head-last T l i r d g c a b e f =
+    same-test (eqb (wordAt T l COL) c) (headIs T l i r d g c)
+    (λ h. is-head T l i r d g c (record { level = a; rep = b; deg = e; gen = f ∙ add-one g; col = eqb-true (wordAt T l COL) c h }))
+    (λ h. eq-eqb (wordAt T l COL) c (head-is T l i r d g c h .col))
+
+pub matrix-is : (T : List ℕ) (l i r d g at : ℕ) → at ≡ l + g * d → allBelow d (λ c. headIs T (at + c) i r d g c) ≡ matrixHeads T l i r d g
+unfolding matrixHeads
+matrix-is T l i r d g at e = ap (λ a. allBelow d (λ c. headIs T (a + c) i r d g c)) e
+
+-- ---- The size of a representation
+
+pub product-fits : (a b : ℕ) → a < 4294967296 → b < 4294967296 → a * b < 18446744073709551616
+product-fits a b h k =
+    let e : a * b ≤ 4294967295 * 4294967295 = mul-le-mul {n₁ = a} {m₁ = b} {n₂ = 4294967295} {m₂ = 4294967295} (omega arith) (omega arith) in
+    omega (arith, e)
+
+module _ (s : Scope) (ord : ℕ → ℕ) (p : Place) (d : ℕ) where
+  pub record Sizes : Type 0 where
+    pub level : p .level ≤ s .gens
+    pub positive : 0 < d
+    pub square : d * d ≤ ord (p .level)
+    pub room : p .line + s .gens * d ≤ s .lines
+
+  abbrev a : Bool
+  a = leb (p .level) (s .gens)
+
+  abbrev b : Bool
+  b = ltb 0 d
+
+  abbrev e : Bool
+  e = leb (d * d) (ord (p .level))
+
+  abbrev f : Bool
+  f = leb (p .line + s .gens * d) (s .lines)
+
+  pub size-told : sizeOk s ord p d ≡ true → Sizes
+  unfolding sizeOk
+  size-told h =
+      let h₂ = and-left (a && b && e) f h in
+      let h₁ = and-left (a && b) e h₂ in
+      record {
+        level = leb-true (p .level) (s .gens) (and-left a b h₁);
+        positive = ltb-true 0 d (and-right a b h₁);
+        square = leb-true (d * d) (ord (p .level)) (and-right (a && b) e h₂);
+        room = leb-true (p .line + s .gens * d) (s .lines) (and-right (a && b && e) f h);
+      }
+
+  told-size : Sizes → sizeOk s ord p d ≡ true
+  unfolding sizeOk
+  told-size z =
+      and-intro (a && b && e) f (and-intro (a && b) e (and-intro a b (le-leb _ _ (z .level)) (lt-ltb 0 d (z .positive))) (le-leb _ _ (z .square)))
+      (le-leb _ _ (z .room))
+
+  pub size-last : (x : ℕ) → x ≡ s .gens * d → p .line < s .lines → p .level ≤ s .gens → 0 < d → d * d ≤ ord (p .level)
+      → leb x (s .lines - p .line) ≡ sizeOk s ord p d
+  size-last x q l i j k =
+      same-test (leb x (s .lines - p .line)) (sizeOk s ord p d)
+      (λ h. told-size (record { level = i; positive = j; square = k; room = omega (arith, leb-true x (s .lines - p .line) h) }))
+      (λ h. le-leb x (s .lines - p .line) (omega (arith, size-told h .room)))
+
+-- ---- The representation at a place
+
+module _ (s : Scope) (T : List ℕ) (ord : ℕ → ℕ) (p : Place) (counted : s .lines ≡ lineCount T) where
+  abbrev d : ℕ
+  d = wordAt T (p .line) DEG
+
+  abbrev lines : Bool
+  lines = allBelow (s .gens) (λ g. matrixHeads T (p .line) (p .level) (p .rep) d g)
+
+  and-assoc : (a b c e f : Bool) → (a && (b && c && e && f)) ≡ (a && b && c && e && f)
+  and-assoc true b c e f = refl
+  and-assoc false b c e f = refl
+
+  place-is : (sizeOk s ord p (wordAt T (p .line) DEG) && lines) ≡ placeOk (s .gens) T ord p
+  unfolding sizeOk repHeads
+  place-is =
+      ap (λ n. leb (p .level) (s .gens) && ltb 0 d && leb (d * d) (ord (p .level)) && leb (p .line + s .gens * d) n && lines) counted
+      ∙ sym (and-assoc (leb (p .level) (s .gens)) (ltb 0 d) (leb (d * d) (ord (p .level))) (leb (p .line + s .gens * d) (lineCount T)) lines)
+
+  module _ (D : Listed) (here : D ≡ listedIn T (p .line)) where
+    pub place-small : sizeOk s ord p (D .deg) ≡ false → false ≡ placeOk (s .gens) T ord p
+    place-small h = sym (ap (λ t. t && lines) (subst (λ (D : Listed). sizeOk s ord p (D .deg) ≡ false) here h)) ∙ place-is
+
+    pub place-heads : sizeOk s ord p (D .deg) ≡ true
+        → allBelow (s .gens) (λ g. matrixHeads T (D .line) (p .level) (p .rep) (D .deg) g) ≡ placeOk (s .gens) T ord p
+    place-heads h =
+        ap (λ (D : Listed). allBelow (s .gens) (λ g. matrixHeads T (D .line) (p .level) (p .rep) (D .deg) g)) here
+        ∙ sym (ap (λ t. t && lines) (subst (λ (D : Listed). sizeOk s ord p (D .deg) ≡ true) here h)) ∙ place-is
+
+    pub place-room : sizeOk s ord p (D .deg) ≡ true → 8 * lineIn D (s .gens) ≤ length T
+    place-room h =
+        let room = size-told s ord p (D .deg) h .room in
+        lines-there T (lineIn D (s .gens)) (omega (arith, room, counted, ap (λ (D : Listed). D .line) here))
+
+-- ---- The level of a place
+
+module _ (T : List ℕ) (p : Place) where
+  abbrev starts : Bool
+  starts = begins T (p .line) (p .level) (p .rep)
+
+  stays : begins T (p .line) (p .level) (p .rep) ≡ false → p ≡ turnedTo T p
+  stays h = let (a, b) = begins-no 0 T (λ i. 0) (p .line) (p .level) (p .rep) h in
+      sym (ap₂ (λ i r. record { line = p .line; level = i; rep = r }) a b)
+
+  pub first-stays : p .rep ≡ 0 → p ≡ turnedTo T p
+  unfolding begins
+  first-stays e = stays (ap (λ t. t && eqb (wordAt T (p .line) LEVEL) (suc (p .level))) (le-ltb 0 (p .rep) (omega arith)))
+
+  module _ (some : ¬ (p .rep ≡ 0)) where
+    begins-is : begins T (p .line) (p .level) (p .rep) ≡ eqb (wordAt T (p .line) LEVEL) (p .level + 1)
+    unfolding begins
+    begins-is =
+        ap₂ (λ t i. t && eqb (wordAt T (p .line) LEVEL) i) (lt-ltb 0 (p .rep) (omega arith)) (sym (add-one (p .level)))
+
+    pub other-stays : ¬ (wordAt T (p .line) LEVEL ≡ p .level + 1) → p ≡ turnedTo T p
+    other-stays h = stays (begins-is ∙ ne-eqb (wordAt T (p .line) LEVEL) (p .level + 1) h)
+
+    pub next-turns : wordAt T (p .line) LEVEL ≡ p .level + 1 → record { line = p .line; level = p .level + 1; rep = 0 } ≡ turnedTo T p
+    next-turns h =
+        let (a, b) = begins-yes 0 T (λ i. 0) (p .line) (p .level) (p .rep) (begins-is ∙ eq-eqb (wordAt T (p .line) LEVEL) (p .level + 1) h) in
+        sym (ap₂ (λ i r. record { line = p .line; level = i; rep = r }) (a ∙ sym (add-one (p .level))) b)
+
+-- ---- The walk
+
+module _ (n : ℕ) (T : List ℕ) (ord : ℕ → ℕ) where
+  pub record Stepped (p : Place) : Type 0 where
+    pub inside : p .line ≤ lineCount T
+    pub reps : p .rep ≤ p .line
+    pub levels : p .level ≤ n
+    pub going : Walking n T ord (p .line) (p .level) (p .rep)
+
+  pub stepped-none : 0 < n → Stepped (record { line = 0; level = 1; rep = 0 })
+  stepped-none some = record { inside = omega arith; reps = omega arith; levels = omega arith; going = going-none n T ord }
+
+  abbrev whole : Bool
+  whole = eqb (length T % lineWords) 0
+
+  fewer : (l i r : ℕ) → nextRep T l i r ≤ r
+  fewer l i r = go (begins T l i r) refl
+    where
+      go : (b : Bool) → begins T l i r ≡ b → nextRep T l i r ≤ r
+      go true e = omega (arith, begins-yes n T ord l i r e .1)
+      go false e = omega (arith, begins-no n T ord l i r e .1)
+
+  module _ (p t : Place) (S : Stepped p) (more : p .line < lineCount T) (turns : t ≡ turnedTo T p) where
+    abbrev step : Bool
+    step = stepOk n T ord (p .line) (p .level) (p .rep)
+
+    step-is : step ≡ placeOk n T ord t
+    unfolding stepOk
+    step-is = ap (placeOk n T ord) (sym turns)
+
+    pub stepped-fails : placeOk n T ord t ≡ false → false ≡ headsOk n T ord
+    unfolding headsOk
+    stepped-fails h = refuted _ (λ e.
+        false≢true (sym (going-fails n T ord (p .line) (p .level) (p .rep) (S .going) more (step-is ∙ h)) ∙ and-right whole _ e))
+
+    module _ (ok : placeOk n T ord t ≡ true) where
+      kept : Passing n T ord (p .line) (nextLevel T (p .line) (p .level) (p .rep)) (nextRep T (p .line) (p .level) (p .rep))
+      kept = step-kept n T ord (p .line) (p .level) (p .rep) (step-is ∙ ok)
+
+      pub stepped-inside : Inside n T t
+      stepped-inside = subst (Inside n T) (sym turns) (record {
+        here = more;
+        room = kept .heads .inside;
+        reps = omega (arith, S .reps, fewer (p .line) (p .level) (p .rep));
+      })
+
+      module _ (some : 0 < n) (u : Place) (goes : u ≡ behind n T t) where
+        there : u ≡ behind n T (turnedTo T p)
+        there = goes ∙ ap (behind n T) turns
+
+        pub stepped-forth : p .line < u .line
+        stepped-forth = subst (λ (u : Place). p .line < u .line) (sym there) (omega (arith, mul-pos some (kept .heads .positive)))
+
+        pub stepped-more : Stepped u
+        stepped-more = subst Stepped (sym there) (record {
+          inside = kept .heads .inside;
+          reps = omega (arith, S .reps, fewer (p .line) (p .level) (p .rep), mul-pos some (kept .heads .positive));
+          levels = leb-true _ n (and-left (leb (nextLevel T (p .line) (p .level) (p .rep)) n) _ (ap (placeOk n T ord) (sym turns) ∙ ok));
+          going = going-more n T ord (p .line) (p .level) (p .rep) some (S .going) more (step-is ∙ ok);
+        })
+
+  pub uneven : ¬ (length T % 8 ≡ 0) → false ≡ headsOk n T ord
+  unfolding headsOk lineWords
+  uneven h = sym (ap (λ t. t && walkFrom n T ord (lineCount T) 0 1 0) (ne-eqb (length T % 8) 0 h))
+
+  module _ (p : Place) (S : Stepped p) (done : lineCount T ≤ p .line) (lines : length T % 8 ≡ 0) where
+    ends-is : headsOk n T ord ≡ (eqb (p .level) n && ltb 0 (p .rep))
+    unfolding headsOk lineWords
+    ends-is = ap₂ (_&&_) (eq-eqb (length T % 8) 0 lines) (going-ends n T ord (p .line) (p .level) (p .rep) (S .going) done)
+
+    pub stepped-short : ¬ (p .level ≡ n) → false ≡ headsOk n T ord
+    stepped-short h = sym (ends-is ∙ ap (λ t. t && ltb 0 (p .rep)) (ne-eqb (p .level) n h))
+
+    pub stepped-all : p .level ≡ n → ltb 0 (p .rep) ≡ headsOk n T ord
+    stepped-all h = sym (ends-is ∙ ap (λ t. t && ltb 0 (p .rep)) (eq-eqb (p .level) n h))

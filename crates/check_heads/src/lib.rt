@@ -1,0 +1,173 @@
+// The heads of a table's lines, walked from the first line on: the lines are complete and in order, and the square of a
+// degree is at most the order of its level. Any words are answered, and nothing is kept but the place of the walk.
+//
+//   Place            where a walk is
+//   times            a product of two words
+//   head_is, matrix_heads, rep_heads     the head of a line, of the lines of a generator, of those of a representation
+//   size_ok          whether a level and a degree are possible, and their lines are there
+//   place_ok         whether a representation stands at a place
+//   turned, onward   the level of a place, and the place behind a representation
+//   heads            the whole walk
+ghost use mathlib.Core.Path.{_≡_};
+ghost use Prim.Native.Nat.{ℕ, _+_, _*_, _≤_, _<_};
+ghost use lib.ListN.{length};
+ghost use Rattle.definitions.specs.Lists.{allBelow};
+ghost use Rattle.definitions.specs.Presentation.{maxGenerators};
+ghost use Rattle.heads.specs.Walk.{headIs, matrixHeads, headsOk};
+ghost use Rattle.level.specs.Stored.{lineIn};
+ghost use Rattle.check_heads.specs.Places.{ordersIn, Counted, turnedTo, behind, Inside, sizeOk, placeOk};
+use conditions::size::Orders;
+use level::Listed;
+use seek::Scope;
+
+// The line, its level, and how many representations of the level stand before it.
+pub struct Place {
+    pub line: usize,
+    pub level: u32,
+    pub rep: usize,
+}
+
+fn times(a: u32, b: u32) -> usize
+    ensures { λ r. ⌜ r ≡ a * b ⌝ }
+{
+    level::up(a) * level::up(b)
+}
+
+// The line is that of column c of generator g, of the representation of degree d at a place.
+fn head_is(words: &[u32], at: usize, p: Place, d: u32, g: u32, c: u32) -> bool
+    requires { ⌜ (8 * at + 8 ≤ length (now words)) × (g < maxGenerators) ⌝ }
+    ensures { λ r. ⌜ r ≡ headIs (now (words .entry)) at (p .level) (p .rep) d g c ⌝ }
+{
+    if level::word_at(words, at, level::LEVEL) != p.level {
+        return false;
+    }
+    if level::up(level::word_at(words, at, level::REP)) != p.rep {
+        return false;
+    }
+    if level::word_at(words, at, level::DEG) != d {
+        return false;
+    }
+    if level::word_at(words, at, level::GEN) != g + 1 {
+        return false;
+    }
+    level::word_at(words, at, level::COL) == c
+}
+
+// The lines of generator g.
+fn matrix_heads(words: &[u32], p: Place, d: Listed, g: u32) -> bool
+    requires { ⌜ (8 * (lineIn d g + d .deg) ≤ length (now words)) × (g < maxGenerators) ⌝ }
+    ensures { λ r. ⌜ r ≡ matrixHeads (now (words .entry)) (d .line) (p .level) (p .rep) (d .deg) g ⌝ }
+{
+    let at = level::matrix_line(d, g);
+    let mut c: u32 = 0;
+    while c < d.deg {
+        if !head_is(words, at + level::up(c), p, d.deg, g, c) {
+            return false;
+        }
+        c += 1;
+    }
+    true
+}
+
+// The lines of all n generators.
+fn rep_heads(words: &[u32], p: Place, d: Listed, n: u32) -> bool
+    requires { ⌜ (8 * lineIn d n ≤ length (now words)) × (n ≤ maxGenerators) ⌝ }
+    ensures { λ r. ⌜ r ≡ allBelow n (λ (g : ℕ). matrixHeads (now (words .entry)) (d .line) (p .level) (p .rep) (d .deg) g) ⌝ }
+{
+    let mut g: u32 = 0;
+    while g < n {
+        if !matrix_heads(words, p, d, g) {
+            return false;
+        }
+        g += 1;
+    }
+    true
+}
+
+// The table has the level of a place, the degree d is positive and its square within the order, and its lines are there.
+fn size_ok(orders: &Orders, s: Scope, p: Place, d: u32) -> bool
+    requires { ⌜ (p .line < s .lines) × (s .gens ≤ maxGenerators) ⌝ }
+    ensures { λ r. ⌜ r ≡ sizeOk s (ordersIn (now (orders .entry))) p d ⌝ }
+{
+    if s.gens < p.level {
+        return false;
+    }
+    if d == 0 {
+        return false;
+    }
+    let i = level::up(p.level);
+    if level::up(orders[i]) < times(d, d) {
+        return false;
+    }
+    times(s.gens, d) <= s.lines - p.line
+}
+
+// The lines of a representation stand at a place.
+fn place_ok(words: &[u32], orders: &Orders, s: Scope, p: Place) -> bool
+    requires { ⌜ Counted s (now words) × (p .line < s .lines) ⌝ }
+    ensures { λ r. ⌜ r ≡ placeOk (s .gens) (now (words .entry)) (ordersIn (now (orders .entry))) p ⌝ }
+{
+    let d = level::representation(words, p.line);
+    if !size_ok(orders, s, p, d.deg) {
+        return false;
+    }
+    rep_heads(words, p, d, s.gens)
+}
+
+// Where the line of a place begins the next level, that level.
+fn turned(words: &[u32], p: Place) -> Place
+    requires { ⌜ (8 * p .line + 8 ≤ length (now words)) × (p .level ≤ maxGenerators) ⌝ }
+    ensures { λ t. ⌜ t ≡ turnedTo (now (words .entry)) p ⌝ }
+{
+    if p.rep == 0 {
+        return p;
+    }
+    let i = p.level + 1;
+    if level::word_at(words, p.line, level::LEVEL) != i {
+        return p;
+    }
+    Place {
+        line: p.line,
+        level: i,
+        rep: 0,
+    }
+}
+
+// The place behind the representation at a place.
+fn onward(words: &[u32], s: Scope, p: Place) -> Place
+    requires { ⌜ Inside (s .gens) (now words) p ⌝ }
+    ensures { λ t. ⌜ t ≡ behind (s .gens) (now (words .entry)) p ⌝ }
+{
+    let d = level::representation(words, p.line);
+    Place {
+        line: level::matrix_line(d, s.gens),
+        level: p.level,
+        rep: p.rep + 1,
+    }
+}
+
+// The heads of all lines are those of a complete table with possible degrees.
+pub fn heads(words: &[u32], orders: &Orders, s: Scope) -> bool
+    requires { ⌜ Counted s (now words) ⌝ }
+    ensures { λ r. ⌜ r ≡ headsOk (s .gens) (now (words .entry)) (ordersIn (now (orders .entry))) ⌝ }
+{
+    if words.len() % 8 != 0 {
+        return false;
+    }
+    let mut p = Place {
+        line: 0,
+        level: 1,
+        rep: 0,
+    };
+    while p.line < s.lines {
+        let t = turned(words, p);
+        if !place_ok(words, orders, s, t) {
+            return false;
+        }
+        p = onward(words, s, t);
+    }
+    if p.level != s.gens {
+        return false;
+    }
+    0 < p.rep
+}

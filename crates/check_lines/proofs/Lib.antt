@@ -1,0 +1,2 @@
+-- Laws of the tests of lines.
+pub mod Lines

@@ -1,0 +1,2 @@
+-- What is asked of the lines of one representation.
+pub mod Lines

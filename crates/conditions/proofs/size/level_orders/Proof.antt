@@ -1,0 +1,87 @@
+-- Each order is the one before it times a prime.
+use mathlib.Core.Path.{_≡_, refl}
+use Prim.Native.Nat.{_+_, _*_, _-_, _≤_}
+use native.Mathlib.Omega.{arith}
+use lib.ListN.{getD}
+use Rattle.definitions.specs.Presentation.{maxGenerators, maxOrder}
+use Rattle.conditions.specs.Conditions.{product}
+use Rattle.conditions.specs.Size.{LevelOrders}
+use Rattle.conditions.proofs.Conditions.{product-turn, orders-none, orders-more, orders-all}
+use Rattle.conditions.proofs.size.level_orders.Statement.{statement}
+use Rattle.conditions.proofs.size.level_orders.Tie as tie
+
+abbrev Inv-loop : tie.InvT-loop
+Inv-loop primes n r₀ j₀ r j = LevelOrders primes j r × (j ≤ n) × (n ≤ maxGenerators)
+
+abbrev μ-loop : tie.MeasureT-loop
+μ-loop primes n r₀ j₀ r j = n - j
+
+loop-holds : tie.Need-loop-holds Inv-loop μ-loop
+loop-holds c = (orders-none, omega arith, omega arith)
+
+mul-r : tie.Need-mul-r Inv-loop μ-loop
+mul-r c = omega arith
+
+array-read-r : tie.Need-array-read-r Inv-loop μ-loop
+array-read-r c = omega arith
+
+mul-r-2 : tie.Need-mul-r-2 Inv-loop μ-loop
+mul-r-2 c = omega arith
+
+element-copy-out-r : tie.Need-element-copy-out-r Inv-loop μ-loop
+element-copy-out-r c = omega arith
+
+mul-r-3 : tie.Need-mul-r-3 Inv-loop μ-loop
+mul-r-3 c =
+    let z = c .before .before .before in
+    let l = c .before .before .loop in
+    let e : getD (l .r) (l .j) 0 * getD (z .args .primes .now) (l .j) 0 ≡ product (z .args .primes .now) (l .j + 1) =
+    product-turn (z .args .primes .now) (l .j) _ _ (l .inv .0 .each (l .j) (omega arith)) refl in
+    let b : product (z .args .primes .now) (l .j + 1) ≤ maxOrder = z .pre .1 (l .j + 1) (omega arith) in
+    omega arith
+
+add-r : tie.Need-add-r Inv-loop μ-loop
+add-r c = omega arith
+
+mul-r-4 : tie.Need-mul-r-4 Inv-loop μ-loop
+mul-r-4 c = omega arith
+
+array-write-r : tie.Need-array-write-r Inv-loop μ-loop
+array-write-r c = omega arith
+
+add-j : tie.Need-add-j Inv-loop μ-loop
+add-j c = omega arith
+
+loop-less : tie.Need-loop-less Inv-loop μ-loop
+loop-less c = omega arith
+
+loop-again : tie.Need-loop-again Inv-loop μ-loop
+loop-again c =
+    let z = c .before .before .before in
+    let l = c .before .before .loop in
+    let e : getD (l .r) (l .j) 0 * getD (z .args .primes .now) (l .j) 0 ≡ product (z .args .primes .now) (l .j + 1) =
+    product-turn (z .args .primes .now) (l .j) _ _ (l .inv .0 .each (l .j) (omega arith)) refl in
+    (orders-more _ (l .inv .0) (omega arith) e, omega arith, omega arith)
+
+returns : tie.Need-returns Inv-loop μ-loop
+returns c = orders-all (c .before .loop .inv .0) (omega arith)
+
+pub level-orders-spec : {M : Type 1} → statement M
+level-orders-spec =
+    tie.close
+    (tie.spec
+    Inv-loop
+    μ-loop
+    loop-holds
+    mul-r
+    array-read-r
+    mul-r-2
+    element-copy-out-r
+    mul-r-3
+    add-r
+    mul-r-4
+    array-write-r
+    add-j
+    loop-less
+    loop-again
+    returns)
