@@ -4,7 +4,7 @@
 --   found-at          where the search ends, it begins
 --   found-next        the one behind it
 --   zero-degree, zero-count       level 0
---   last-before, next-splits, next-before       how many representations a level has
+--   whole-some, last-before, next-splits, next-before     how many representations a level has
 use mathlib.Core.Path.{_≡_, refl, sym, _∙_, ap, ap₂, subst}
 use mathlib.Core.List.{List}
 use Prim.Native.Nat.{ℕ, zero, suc, _+_, _*_, _≤_, _<_}
@@ -81,6 +81,10 @@ module _ (s : Scope) (T : List ℕ) (W : Whole s T) where
   zero-count i e = subst (λ i. 1 ≡ length (levelAt n T i)) (sym e) (unfold levelAt levelZero in refl)
 
   -- ---- How many
+
+  pub whole-some : (i : ℕ) → 0 < i → i ≤ s .gens → 0 < length (levelAt (s .gens) T i)
+  whole-some zero p l = absurd (omega arith)
+  whole-some (suc k) p l = complete-some n (W .some) T (W .all) k l
 
   pub last-before : (i : ℕ) → ¬ (i ≡ 0) → i ≡ s .gens → Last T (s .lines) (length (levelAt (s .gens) T i))
   last-before zero h e = absurd (h refl)
