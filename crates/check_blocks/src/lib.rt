@@ -5,16 +5,22 @@
 //   block_at                                     what the block from a column refers to
 //   blocks_act, level_acts                       all blocks of a representation, and of a level
 //   restrictions_hold                            refusal 23
+//   square, level_adds_up                        the squares of the degrees of a level
+//   squares_hold                                 refusal 26
 ghost use mathlib.Core.Path.{_≡_};
 ghost use mathlib.Core.Bool.{true};
-ghost use Prim.Native.Nat.{suc, _≤_, _<_};
+ghost use Prim.Native.Nat.{suc, _*_, _≤_, _<_};
+ghost use lib.Dec.{eqb};
 ghost use Rattle.definitions.specs.Lists.{allBelow};
 ghost use Rattle.definitions.specs.Presentation.{Presentation};
 ghost use Rattle.definitions.specs.Table.{levelAt};
 ghost use Rattle.definitions.specs.Judgement.{wholeBlock, everywhere, restricts};
+ghost use Rattle.seek.specs.Seek.{Whole};
 ghost use Rattle.seek.specs.Formed.{Formed, Tells};
 ghost use Rattle.check_blocks.specs.Blocks.{repIn, Within, columnActs, Refers, Member, onLevel};
+ghost use Rattle.check_blocks.specs.Squares.{squaresIn, AddsUp};
 use level::Listed;
+use rows::GENERATORS;
 use seek::Scope;
 
 // ---- One block
@@ -117,6 +123,52 @@ pub fn restrictions_hold(words: &[u32], s: Scope) -> bool
     let gens = s.gens;
     for i in 1..gens {
         if !level_acts(words, s, i) {
+            return false;
+        }
+    }
+    true
+}
+
+// ---- Squares of degrees
+
+// d times d.
+fn square(d: u32) -> usize
+    ensures { λ r. ⌜ r ≡ d * d ⌝ }
+{
+    level::up(d) * level::up(d)
+}
+
+// Whether the squares of the degrees of level i add up to its order. What is left of the order never wraps.
+fn level_adds_up(words: &[u32], s: Scope, i: u32, order: u32) -> bool
+    requires { ⌜ Whole s (now words) × (0 < i) × (i ≤ s .gens) ⌝ }
+    ensures { λ r. ⌜ r ≡ eqb (squaresIn (s .gens) (now (words .entry)) i) order ⌝ }
+{
+    let reps = seek::count_of(words, s, i);
+    let mut d = seek::found(words, s, i, 0);
+    let mut left = level::up(order);
+    let mut r: usize = 0;
+    loop {
+        let q = square(d.deg);
+        if left < q {
+            return false;
+        }
+        left -= q;
+        r += 1;
+        if r == reps {
+            return left == 0;
+        }
+        d = seek::following(words, s, d);
+    }
+}
+
+// Whether the squares of the degrees of every level add up to its order: refusal 26.
+pub fn squares_hold(words: &[u32], orders: &[u32; GENERATORS + 1], s: Scope) -> bool
+    requires { ⌜ Whole s (now words) ⌝ }
+    ensures { λ r. ⌜ AddsUp s (now (orders .entry)) (now (words .entry)) r ⌝ }
+{
+    let gens = s.gens;
+    for i in 0..gens {
+        if !level_adds_up(words, s, i + 1, orders[level::up(i) + 1]) {
             return false;
         }
     }
