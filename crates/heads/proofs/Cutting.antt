@@ -2,8 +2,9 @@
 --
 --   Cutting q o        what is left to test from column o on says what the whole test says
 --   cutting-none, cutting-more, cutting-fails, cutting-all      the steps of the loop
+--   cutting-passes     a test that every block passes
 use mathlib.Core.Path.{_≡_, refl, sym, _∙_, ap}
-use mathlib.Core.Bool.{Bool, true, false, _&&_}
+use mathlib.Core.Bool.{Bool, true, false, _&&_, false≢true}
 use mathlib.Core.List.{[], _∷_}
 use Prim.Native.Nat.{ℕ, zero, suc, _+_, _≤_, _<_}
 use native.Mathlib.Omega.{arith}
@@ -57,3 +58,10 @@ module _ (low : Level) (D : Rep) (q : ℕ → Bool) where
 
   pub cutting-all : (o : ℕ) → Cutting o → D .deg ≤ o → all q (cuts low D) ≡ true
   cutting-all o C h = sym (C .same) ∙ from-end (C .fuel) o h
+
+  pub cutting-passes : (o : ℕ) → Cutting o → o < D .deg → all q (cuts low D) ≡ true → q o ≡ true
+  cutting-passes o C h e = go (q o) refl
+    where
+      go : (b : Bool) → q o ≡ b → q o ≡ true
+      go true t = t
+      go false t = absurd (false≢true (sym (cutting-fails o C h t) ∙ e))

@@ -1,6 +1,7 @@
 -- What refusal 21 leaves of a representation that is found: its lines hold matrices, and its references are listed.
 --
 --   valid-holds       lines of a valid matrix hold it
+--   wellFormed        what 21 asks of each representation
 --   found-stored      so the lines of a representation are stored, where 21 does not apply
 --   found-target      its intertwiners lead to representations of its level
 use mathlib.Core.Path.{_≡_, sym, _∙_, ap, subst}
@@ -67,7 +68,7 @@ module _ (m : ℕ) (small : m ≤ 2147483648) (T : List ℕ) (at d : ℕ) where
 -- ---- A representation
 
 module _ (P : Presentation) (m : ℕ) (T : List ℕ) (formed : malformed P m T ≡ false) where
-  wellFormed : (i : ℕ) → i < P .n → (r : ℕ) → r < length (levelAt (P .n) T (suc i))
+  pub wellFormed : (i : ℕ) → i < P .n → (r : ℕ) → r < length (levelAt (P .n) T (suc i))
       → matricesValid P m T (suc i) (repOf (levelAt (P .n) T (suc i)) r) && blocksWhole P m T (suc i) (repOf (levelAt (P .n) T (suc i)) r)
       && targetsListed P m T (suc i) (repOf (levelAt (P .n) T (suc i)) r) ≡ true
   unfolding malformed

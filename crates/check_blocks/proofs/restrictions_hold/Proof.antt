@@ -1,0 +1,49 @@
+-- `restrictions_hold` tests the levels one by one.
+use Prim.Native.Nat.{_-_, _<_}
+use native.Mathlib.Omega.{arith}
+use borrow.Author.Tests.{not-true, not-false}
+use denote.Ref.{now}
+use Rattle.numbers.proofs.Passed.{passed-more}
+use Rattle.check_blocks.proofs.Levels.{UpTo, up-none, table-fails, table-holds}
+use Rattle.check_blocks.proofs.restrictions_hold.Statement.{statement}
+use Rattle.check_blocks.proofs.restrictions_hold.Tie as tie
+
+abbrev Inv-loop : tie.InvT-loop
+Inv-loop words s gens i₀ i = UpTo s words i × (0 < i)
+
+abbrev μ-loop : tie.MeasureT-loop
+μ-loop words s gens i₀ i = gens - i
+
+loop-holds : tie.Need-loop-holds Inv-loop μ-loop
+loop-holds c = let a = c .before .args in (up-none (a .s) (now (a .words)), omega arith)
+
+level-acts-requires : tie.Need-level-acts-requires Inv-loop μ-loop
+level-acts-requires c κs = let z = c .before .before .before in (z .pre, c .before .loop .inv .1, omega arith)
+
+returns : tie.Need-returns Inv-loop μ-loop
+returns c =
+    let l = c .before .before .before in
+    let a = l .before .before .args in
+    let t = c .before .level-acts in
+    table-fails (a .s) (now (a .words)) (l .loop .inv .0) (omega arith) (t .ensures) (not-true (t .result) (c .if1 .taken))
+
+add-i : tie.Need-add-i Inv-loop μ-loop
+add-i c = omega arith
+
+loop-less : tie.Need-loop-less Inv-loop μ-loop
+loop-less c = omega arith
+
+loop-again : tie.Need-loop-again Inv-loop μ-loop
+loop-again c =
+    let l = c .before .before .before in
+    let t = c .before .level-acts in
+    (passed-more (l .loop .inv .0) (t .ensures .is) (not-false (t .result) (c .if1 .left)), omega arith)
+
+returns-2 : tie.Need-returns-2 Inv-loop μ-loop
+returns-2 c =
+    let l = c .before in
+    let a = l .before .before .args in
+    table-holds (a .s) (now (a .words)) (l .loop .inv .0) (omega arith)
+
+pub restrictions-hold-spec : {M : Type 1} → statement M
+restrictions-hold-spec = tie.close (tie.spec Inv-loop μ-loop loop-holds level-acts-requires returns add-i loop-less loop-again returns-2)

@@ -1,0 +1,26 @@
+-- `square` fits in 64 bits.
+use mathlib.Core.Path.{_≡_, ap₂}
+use Prim.Native.Nat.{ℕ, _*_, _≤_}
+use native.Mathlib.Nat.{mul-le-mul}
+use native.Mathlib.Omega.{arith}
+use borrow.Author.Needs.{needs}
+use Rattle.check_blocks.proofs.square.Statement.{statement}
+use Rattle.check_blocks.proofs.square.Tie as tie
+
+up-requires : tie.Need-up-requires
+up-requires c κs = search needs
+
+up-requires-2 : tie.Need-up-requires-2
+up-requires-2 c κs = search needs
+
+mul-result : tie.Need-mul-result
+mul-result c =
+    let d = c .before .before .args .d in
+    let e = ap₂ (λ (a b : ℕ). a * b) (c .before .up .ensures) (c .up2 .ensures) in
+    omega (arith, e, mul-le-mul {n₁ = d} {m₁ = d} {n₂ = 4294967295} {m₂ = 4294967295} (omega arith) (omega arith))
+
+returns : tie.Need-returns
+returns c = ap₂ (λ (a b : ℕ). a * b) (c .before .up .ensures) (c .up2 .ensures)
+
+pub square-spec : {M : Type 1} → statement M
+square-spec = tie.close (tie.spec up-requires up-requires-2 mul-result returns)
