@@ -1,5 +1,6 @@
 -- What the tests of a walk over heads say, and how it goes on.
 --
+--   counted                        how many lines there are, by a division
 --   head-last                      the head of a line, by its last field
 --   matrix-is                      the lines of a generator
 --   product-fits                   a product of two words
@@ -12,7 +13,7 @@
 use mathlib.Core.Path.{_≡_, refl, sym, _∙_, ap, ap₂, subst}
 use mathlib.Core.Bool.{Bool, true, false, _&&_, false≢true}
 use mathlib.Core.List.{List}
-use Prim.Native.Nat.{ℕ, suc, _+_, _*_, _-_, _%_, _≤_, _<_}
+use Prim.Native.Nat.{ℕ, suc, _+_, _*_, _-_, _/_, _%_, _≤_, _<_}
 use native.Mathlib.Nat.{mul-pos, mul-le-mul}
 use native.Mathlib.Numerals.{add-one}
 use native.Mathlib.Omega.{arith}
@@ -20,7 +21,7 @@ use lib.Dec.{eqb, leb, ltb}
 use lib.ListN.{length}
 use borrow.Author.Tests.{eqb-true, eq-eqb, ne-eqb, lt-ltb, le-ltb, ltb-true, le-leb, leb-true}
 use Rattle.definitions.specs.Lists.{allBelow}
-use Rattle.definitions.specs.Presentation.{lineWords}
+use Rattle.definitions.specs.Presentation.{maxGenerators, lineWords}
 use Rattle.definitions.specs.Table.{LEVEL, REP, DEG, GEN, COL, wordAt, lineCount}
 use Rattle.numbers.proofs.Bools.{and-left, and-right, and-intro, same-test, refuted}
 use Rattle.heads.specs.Walk.{headIs, matrixHeads, begins, nextLevel, nextRep, repHeads, stepOk, walkFrom, headsOk}
@@ -31,9 +32,13 @@ use Rattle.level.specs.Stored.{lineIn, listedIn}
 use Rattle.seek.specs.declared.Scope.{Scope}
 use Rattle.seek.proofs.Halves.{lines-there}
 use Rattle.check_heads.specs.declared.Place.{Place}
-use Rattle.check_heads.specs.Places.{turnedTo, behind, Inside, sizeOk, placeOk}
+use Rattle.check_heads.specs.Places.{Counted, turnedTo, behind, Inside, sizeOk, placeOk}
 
 -- ---- Lines
+
+pub counted : (s : Scope) (T : List ℕ) → s .lines ≡ length T / 8 → 0 < s .gens → s .gens ≤ maxGenerators → Counted s T
+unfolding lineCount lineWords
+counted s T e a b = record { lines-are = e; some = a; few = b }
 
 pub head-last : (T : List ℕ) (l i r d g c : ℕ) → wordAt T l LEVEL ≡ i → wordAt T l REP ≡ r → wordAt T l DEG ≡ d → wordAt T l GEN ≡ g + 1
     → eqb (wordAt T l COL) c ≡ headIs T l i r d g c
