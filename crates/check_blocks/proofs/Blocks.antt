@@ -1,9 +1,8 @@
 -- The blocks of a representation, column by column and one behind the other.
 --
 --   column-row, column-exp          a column, by its row and by its exponent
---   formed-stored                   where 21 does not apply the lines of a representation hold matrices
---   member-whole                    and every block is whole
---   member-within                   a block that is referred to has room, and its lines hold matrices
+--   among-whole                     where 21 does not apply every block is whole
+--   among-within                    a block that is referred to has room, and its lines hold matrices
 --   column-there                    the lines of the first generator are there
 --   whole-listed, whole-refers      what a whole block refers to is listed, and has room
 --   block-is                        the test of a block
@@ -30,13 +29,15 @@ use Rattle.numbers.proofs.Lists.{allBelow-below}
 use Rattle.monomial.proofs.Frames.{col-table}
 use Rattle.heads.proofs.Cutting.{Cutting, cutting-none, cutting-more, cutting-fails, cutting-all, cutting-passes}
 use Rattle.level.specs.declared.Listed.{Listed}
-use Rattle.level.specs.Stored.{entryIn, lineIn, Stored}
+use Rattle.level.specs.Stored.{entryIn, lineIn}
 use Rattle.seek.specs.declared.Scope.{Scope}
 use Rattle.seek.specs.Seek.{Found}
 use Rattle.seek.specs.Formed.{Formed, Tells}
+use Rattle.seek.specs.Among.{repIn, Among}
 use Rattle.seek.proofs.Halves.{line-there}
-use Rattle.seek.proofs.Stored.{wellFormed, found-stored}
-use Rattle.check_blocks.specs.Blocks.{repIn, Within, columnActs, Refers, Member}
+use Rattle.seek.proofs.Stored.{wellFormed}
+use Rattle.seek.proofs.Among.{formed-stored}
+use Rattle.check_blocks.specs.Blocks.{Within, columnActs, Refers}
 
 -- ---- One column
 
@@ -68,21 +69,15 @@ module _ {s : Scope} {T : List ℕ} {D : Listed} {o : ℕ} {F : Listed} (W : Wit
 
 -- ---- One block
 
-pub formed-stored : {P : Presentation} {s : Scope} {T : List ℕ} (F : Formed P s T) (i r : ℕ) {D : Listed} → Found (s .gens) T i r D
-    → Stored (s .m) (s .gens) T D
-formed-stored {P} {s} {T} F i r {D} G =
-    subst (λ n. Stored (s .m) n T D) (sym (F .gens-are))
-    (found-stored P (s .m) T (F .formed) (omega (arith, F .modulus .1)) i r D (subst (λ n. Found n T i r D) (F .gens-are) G))
-
-module _ {s : Scope} {T : List ℕ} {i : ℕ} {D : Listed} (M : Member s T (suc i) D) where
+module _ {s : Scope} {T : List ℕ} {i : ℕ} {D : Listed} (M : Among s T (suc i) D) where
   abbrev low : Level
   low = levelAt (s .gens) T i
 
   abbrev Rp : Rep
   Rp = repIn T D
 
-  pub member-whole : all (wholeBlock (levelAt (s .gens) T i) (repIn T D)) (cuts (levelAt (s .gens) T i) (repIn T D)) ≡ true
-  member-whole = subst (λ n. all (wholeBlock (levelAt n T i) Rp) (cuts (levelAt n T i) Rp) ≡ true) (sym e) here
+  pub among-whole : all (wholeBlock (levelAt (s .gens) T i) (repIn T D)) (cuts (levelAt (s .gens) T i) (repIn T D)) ≡ true
+  among-whole = subst (λ n. all (wholeBlock (levelAt n T i) Rp) (cuts (levelAt n T i) Rp) ≡ true) (sym e) here
     where
       e : s .gens ≡ M .P .n
       e = M .formed .gens-are
@@ -99,8 +94,8 @@ module _ {s : Scope} {T : List ℕ} {i : ℕ} {D : Listed} (M : Member s T (suc 
           subst (λ (X : Rep). all (wholeBlock (levelAt (Q .n) T i) X) (cuts (levelAt (Q .n) T i) X) ≡ true) (F .rep)
           (and-left (all (wholeBlock (levelAt (Q .n) T i) X) (cuts (levelAt (Q .n) T i) X)) _ b))
 
-  pub member-within : {o : ℕ} {F : Listed} → Refers s T i D o F → Within s T D o F
-  member-within R = record {
+  pub among-within : {o : ℕ} {F : Listed} → Refers s T i D o F → Within s T D o F
+  among-within R = record {
     whole = formed-stored (M .formed) (suc i) (M .r) (M .found);
     block = formed-stored (M .formed) i _ (R .found);
     room = R .room;
@@ -159,10 +154,10 @@ module _ (s : Scope) (T : List ℕ) (i : ℕ) (D : Listed) where
   abbrev pub Acts : Bool → Type 0
   Acts b = Tells s T (λ P. restricts P (s .m) T (suc i) (repIn T D)) b
 
-  module _ (M : Member s T (suc i) D) {o : ℕ} (G : Going s T i D o) where
+  module _ (M : Among s T (suc i) D) {o : ℕ} (G : Going s T i D o) where
     pub going-whole : o < D .deg → wholeBlock (levelAt (s .gens) T i) (repIn T D) o ≡ true
     unfolding repAt
-    going-whole l = cutting-passes _ _ _ o (G .whole) l (member-whole M)
+    going-whole l = cutting-passes _ _ _ o (G .whole) l (among-whole M)
 
     pub going-all : D .deg ≤ o → Acts true
     unfolding restricts repAt
@@ -171,7 +166,7 @@ module _ (s : Scope) (T : List ℕ) (i : ℕ) (D : Listed) where
     module _ {F : Listed} (R : Refers s T i D o F) {b : Bool} (l : o < D .deg)
         (is : b ≡ allBelow i (λ k. allBelow (F .deg) (columnActs T D o F k))) where
       test-is : (P : Presentation) → Formed P s T → b ≡ blockRestricts P (s .m) T i (repIn T D) o
-      test-is P p = is ∙ block-is p R (member-within M R) (R .found .level .1)
+      test-is P p = is ∙ block-is p R (among-within M R) (R .found .level .1)
 
       pub going-fails : b ≡ false → Acts false
       unfolding restricts repAt

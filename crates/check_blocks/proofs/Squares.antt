@@ -3,7 +3,7 @@
 --   Left n T i order left r      the squares of the first r representations leave so much of the order
 --   left-none, left-more, left-fails, left-all      the steps of the loop
 --   AddingUp, adds-told, adds-fails, adds-holds     the levels
-use mathlib.Core.Path.{_≡_, refl, sym, _∙_, ap, ap₂}
+use mathlib.Core.Path.{_≡_, sym, _∙_, ap, ap₂}
 use mathlib.Core.Bool.{Bool, true, false}
 use mathlib.Core.List.{List}
 use Prim.Native.Nat.{ℕ, suc, _+_, _*_, _-_, _≤_, _<_}

@@ -1,5 +1,6 @@
-// Refusals 23 and 26 on a table to which 21 does not apply: whether the generators below the top of each level act on every
-// block as in what the block refers to, and whether the squares of the degrees of each level add up to its order.
+// Refusal 23 on a table to which 21 does not apply: whether the generators below the top of each level act on every block as
+// in what the block refers to. Refusal 26 on a complete table: whether the squares of the degrees of each level add up to its
+// order.
 //
 //   column_acts, generator_acts, block_acts      a block, by columns and generators
 //   block_at                                     what the block from a column refers to
@@ -17,7 +18,8 @@ ghost use Rattle.definitions.specs.Table.{levelAt};
 ghost use Rattle.definitions.specs.Judgement.{wholeBlock, everywhere, restricts};
 ghost use Rattle.seek.specs.Seek.{Whole};
 ghost use Rattle.seek.specs.Formed.{Formed, Tells};
-ghost use Rattle.check_blocks.specs.Blocks.{repIn, Within, columnActs, Refers, Member, onLevel};
+ghost use Rattle.seek.specs.Among.{repIn, Among, onLevel};
+ghost use Rattle.check_blocks.specs.Blocks.{Within, columnActs, Refers};
 ghost use Rattle.check_blocks.specs.Squares.{squaresIn, AddsUp};
 use level::Listed;
 use rows::GENERATORS;
@@ -69,7 +71,7 @@ fn block_acts(words: &[u32], s: Scope, i: u32, d: Listed, o: u32, f: Listed) -> 
 
 // The representation of level i to which the block from column o refers.
 fn block_at(words: &[u32], s: Scope, i: u32, d: Listed, o: u32) -> Listed
-    requires { ⌜ Member s (now words) (suc i) d × (0 < i) × (o < d .deg) × (wholeBlock (levelAt (s .gens) (now words) i) (repIn (now words) d) o ≡ true) ⌝ }
+    requires { ⌜ Among s (now words) (suc i) d × (0 < i) × (o < d .deg) × (wholeBlock (levelAt (s .gens) (now words) i) (repIn (now words) d) o ≡ true) ⌝ }
     ensures { λ f. ⌜ Refers s (now (words .entry)) i d o f ⌝ }
 {
     let r = level::word_at(words, d.line + level::up(o), level::REF);
@@ -78,7 +80,7 @@ fn block_at(words: &[u32], s: Scope, i: u32, d: Listed, o: u32) -> Listed
 
 // Every block of d, of the level above i.
 fn blocks_act(words: &[u32], s: Scope, i: u32, d: Listed) -> bool
-    requires { ⌜ Member s (now words) (suc i) d × (0 < i) ⌝ }
+    requires { ⌜ Among s (now words) (suc i) d × (0 < i) ⌝ }
     ensures { λ r. ⌜ Tells s (now (words .entry)) (λ P. restricts P (s .m) (now (words .entry)) (suc i) (repIn (now (words .entry)) d)) r ⌝ }
 {
     let mut o: u32 = 0;

@@ -2,3 +2,4 @@
 pub mod Halves
 pub mod Seek
 pub mod Stored
+pub mod Among

@@ -3,7 +3,7 @@ use Prim.Native.Nat.{_-_}
 use native.Mathlib.Omega.{arith}
 use borrow.Author.Tests.{not-true, not-false}
 use denote.Ref.{now}
-use Rattle.check_blocks.proofs.Blocks.{member-within, Going, going-none, going-whole, going-all, going-fails, going-more}
+use Rattle.check_blocks.proofs.Blocks.{among-within, Going, going-none, going-whole, going-all, going-fails, going-more}
 use Rattle.check_blocks.proofs.blocks_act.Statement.{statement}
 use Rattle.check_blocks.proofs.blocks_act.Tie as tie
 
@@ -26,7 +26,7 @@ block-at-requires c κs =
 block-acts-requires : tie.Need-block-acts-requires Inv-loop μ-loop
 block-acts-requires c κs =
     let z = c .before .before .before .before .before in
-    (member-within (z .pre .0) (c .block-at .ensures), c .block-at .ensures .found .level .1)
+    (among-within (z .pre .0) (c .block-at .ensures), c .block-at .ensures .found .level .1)
 
 returns : tie.Need-returns Inv-loop μ-loop
 returns c =

@@ -10,14 +10,15 @@ use Rattle.definitions.specs.Table.{levelAt}
 use Rattle.numbers.proofs.Passed.{passed-none, passed-more}
 use Rattle.seek.specs.Seek.{Found}
 use Rattle.seek.proofs.Seek.{whole-some}
-use Rattle.check_blocks.proofs.Levels.{PassingOn, told-found, level-fails, level-holds}
+use Rattle.seek.proofs.Among.{PassingOn, told-found, level-fails, level-holds}
+use Rattle.check_blocks.proofs.Levels.{Holding, asks}
 use Rattle.check_blocks.proofs.level_acts.Statement.{statement}
 use Rattle.check_blocks.proofs.level_acts.Tie as tie
 
 -- the count of the level is known
 abbrev Inv-loop : tie.InvT-loop
 Inv-loop words s i reps d₀ r₀ d r =
-    Found (s .gens) words (suc i) r d × PassingOn s words (suc i) r × (reps ≡ length (levelAt (s .gens) words (suc i)))
+    Found (s .gens) words (suc i) r d × PassingOn s words (Holding s words) (asks s words) (suc i) r × (reps ≡ length (levelAt (s .gens) words (suc i)))
 
 abbrev μ-loop : tie.MeasureT-loop
 μ-loop words s i reps d₀ r₀ d r = reps - r
@@ -60,7 +61,8 @@ returns c =
     let a = l .before .before .before .before .args in
     let t = c .before .blocks-act in
     let (F, passed, n) = l .loop .inv in
-    level-fails (a .s) (now (a .words)) (a .i) passed F (t .ensures) (not-true (t .result) (c .if1 .taken))
+    let T = now (a .words) in
+    record { is = level-fails (a .s) T (Holding (a .s) T) (asks (a .s) T) (suc (a .i)) passed F (t .ensures .is) (not-true (t .result) (c .if1 .taken)) }
 
 add-r : tie.Need-add-r Inv-loop μ-loop
 add-r c = let (F, passed, n) = c .before .before .loop .inv in omega (arith, F .listed, n)
@@ -72,8 +74,10 @@ returns-2 c =
     let a = l .before .before .before .before .args in
     let t = o .before .blocks-act in
     let (F, passed, n) = l .loop .inv in
-    let told = told-found (a .s) (now (a .words)) (a .i) F (t .ensures) in
-    level-holds (a .s) (now (a .words)) (a .i) (passed-more passed told (not-false (t .result) (o .if1 .left))) (omega (arith, c .if2 .taken, n))
+    let T = now (a .words) in
+    let told = told-found (a .s) T (Holding (a .s) T) (asks (a .s) T) (suc (a .i)) F (t .ensures .is) in
+    let more = passed-more passed told (not-false (t .result) (o .if1 .left)) in
+    record { is = level-holds (a .s) T (Holding (a .s) T) (asks (a .s) T) (suc (a .i)) more (omega (arith, c .if2 .taken, n)) }
 
 following-requires : tie.Need-following-requires Inv-loop μ-loop
 following-requires c κs =
@@ -95,7 +99,7 @@ loop-again c =
     let r = l .loop .r in
     let (F, passed, n) = l .loop .inv in
     let next = c .following .ensures (suc (a .i)) r F (omega (arith, F .listed, c .before .if2 .left, n)) in
-    let told = told-found (a .s) T (a .i) F (t .ensures) in (
+    let told = told-found (a .s) T (Holding (a .s) T) (asks (a .s) T) (suc (a .i)) F (t .ensures .is) in (
       subst (λ r. Found (a .s .gens) T (suc (a .i)) r (c .following .result)) (sym (add-one r)) next,
       passed-more passed told (not-false (t .result) (o .if1 .left)),
       n,

@@ -4,12 +4,13 @@ use native.Mathlib.Omega.{arith}
 use borrow.Author.Tests.{not-true, not-false}
 use denote.Ref.{now}
 use Rattle.numbers.proofs.Passed.{passed-more}
-use Rattle.check_blocks.proofs.Levels.{UpTo, up-none, table-fails, table-holds}
+use Rattle.seek.proofs.Among.{UpTo, table-fails, table-holds}
+use Rattle.check_blocks.proofs.Levels.{Holding, asks, up-none}
 use Rattle.check_blocks.proofs.restrictions_hold.Statement.{statement}
 use Rattle.check_blocks.proofs.restrictions_hold.Tie as tie
 
 abbrev Inv-loop : tie.InvT-loop
-Inv-loop words s gens i₀ i = UpTo s words i × (0 < i)
+Inv-loop words s gens i₀ i = UpTo s words (Holding s words) (asks s words) i × (0 < i)
 
 abbrev μ-loop : tie.MeasureT-loop
 μ-loop words s gens i₀ i = gens - i
@@ -25,7 +26,11 @@ returns c =
     let l = c .before .before .before in
     let a = l .before .before .args in
     let t = c .before .level-acts in
-    table-fails (a .s) (now (a .words)) (l .loop .inv .0) (omega arith) (t .ensures) (not-true (t .result) (c .if1 .taken))
+    let T = now (a .words) in
+    record {
+      is = table-fails (a .s) T (Holding (a .s) T) (asks (a .s) T) (a .s .m) (λ P p. p .gens-are) (l .loop .inv .0) (omega arith) (t .ensures .is)
+          (not-true (t .result) (c .if1 .taken));
+    }
 
 add-i : tie.Need-add-i Inv-loop μ-loop
 add-i c = omega arith
@@ -43,7 +48,8 @@ returns-2 : tie.Need-returns-2 Inv-loop μ-loop
 returns-2 c =
     let l = c .before in
     let a = l .before .before .args in
-    table-holds (a .s) (now (a .words)) (l .loop .inv .0) (omega arith)
+    let T = now (a .words) in
+    record { is = table-holds (a .s) T (Holding (a .s) T) (asks (a .s) T) (a .s .m) (λ P p. p .gens-are) (l .loop .inv .0) (omega arith) }
 
 pub restrictions-hold-spec : {M : Type 1} → statement M
 restrictions-hold-spec = tie.close (tie.spec Inv-loop μ-loop loop-holds level-acts-requires returns add-i loop-less loop-again returns-2)

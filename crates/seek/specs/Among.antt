@@ -1,0 +1,29 @@
+-- The representations of a table to which refusal 21 does not apply, and a condition on each.
+--
+--   repIn T D            the representation whose lines D names
+--   Among s T i D        it is one of level i
+--   onLevel n T q i      the condition q on every representation of level i
+use mathlib.Core.Bool.{Bool}
+use mathlib.Core.List.{List}
+use Prim.Native.Nat.{ℕ}
+use lib.ListN.{length}
+use Rattle.definitions.specs.Lists.{allBelow}
+use Rattle.definitions.specs.Presentation.{Presentation}
+use Rattle.definitions.specs.Monomial.{Rep, repOf}
+use Rattle.definitions.specs.Table.{repAt, levelAt}
+use Rattle.level.specs.declared.Listed.{Listed}
+use Rattle.seek.specs.declared.Scope.{Scope}
+use Rattle.seek.specs.Seek.{Found}
+use Rattle.seek.specs.Formed.{Formed}
+
+abbrev pub repIn : List ℕ → Listed → Rep
+repIn T D = repAt T (D .line) (D .deg)
+
+pub record Among (s : Scope) (T : List ℕ) (i : ℕ) (D : Listed) : Type 0 where
+  pub P : Presentation
+  pub formed : Formed P s T
+  pub r : ℕ
+  pub found : Found (s .gens) T i r D
+
+unfoldable pub onLevel : ℕ → List ℕ → (ℕ → Rep → Bool) → ℕ → Bool
+onLevel n T q i = allBelow (length (levelAt n T i)) (λ r. q i (repOf (levelAt n T i) r))
