@@ -5,7 +5,7 @@
 --   own-one, own-inside, own-blocks       what is asked of one representation, case by case
 --   line-none, line-refers, line-fits, line-more, line-fails, line-all      the walk of a representation in its lines
 --   line-one, line-inside, line-blocks      and what is asked of it
-use mathlib.Core.Path.{_≡_, refl, sym, _∙_, ap, ap₂, subst}
+use mathlib.Core.Path.{_≡_, refl, sym, _∙_, ap, subst}
 use mathlib.Core.Bool.{Bool, true, false, _&&_, _||_, and-true}
 use mathlib.Core.List.{List, [], _∷_}
 use Prim.Native.Nat.{ℕ, zero, suc, _+_, _*_, _≤_, _<_}

@@ -25,16 +25,16 @@ use Rattle.level.specs.Stored.{lineIn}
 use Rattle.level.proofs.Laws.{col-matrixIn}
 use Rattle.separation.specs.Apart.{commonFree, fresh, apartAt}
 use Rattle.separation.proofs.Pairs.{eqb-sym}
-use Rattle.check_pairs.specs.Pairs.{repIn, likeIn}
+use Rattle.check_pairs.specs.Pairs.{otherRef, repIn, likeIn}
 
 unfoldable pub freeAt : List ℕ → (line deg at c : ℕ) → Bool
-freeAt T line deg at c = allBelow deg (λ k. not (eqb (wordAt T (at + c) REF) (wordAt T (line + k) REF)))
+freeAt T line deg at c = allBelow deg (otherRef T line (wordAt T (at + c) REF))
 
 -- the test of a reference that was read
 pub free-test : (T : List ℕ) (line deg at c x : ℕ) → x ≡ wordAt T (at + c) REF
-    → freeAt T line deg at c ≡ allBelow deg (λ k. not (eqb x (wordAt T (line + k) REF)))
+    → freeAt T line deg at c ≡ allBelow deg (otherRef T line x)
 unfolding freeAt
-free-test T line deg at c x e = ap (λ y. allBelow deg (λ k. not (eqb y (wordAt T (line + k) REF)))) (sym e)
+free-test T line deg at c x e = ap (λ y. allBelow deg (otherRef T line y)) (sym e)
 
 pub ref-at : (T : List ℕ) (l d c : ℕ) → repAt T l d .ref 0 c ≡ wordAt T (l + c) REF
 unfolding repAt
@@ -52,7 +52,7 @@ free-is T at d line deg = unfold repAt in (allBelow-below d _ _ (λ c l. allBelo
     ap₂ (λ x y. not (eqb x y)) (ref-at T at d c) (ref-at T line deg k))))
 
 pub fresh-is : (T : List ℕ) (D : Listed) (o : ℕ) {x : ℕ} → x ≡ wordAt T (D .line + o) REF
-    → allBelow o (λ c. not (eqb x (wordAt T (D .line + c) REF))) ≡ fresh (repIn T D) o
+    → allBelow o (otherRef T (D .line) x) ≡ fresh (repIn T D) o
 unfolding fresh
 fresh-is T D o {x} e = allBelow-below o _ _ (λ c l. ap not (eqb-sym x (wordAt T (D .line + c) REF)
     ∙ ap₂ eqb (sym (ref-at T (D .line) (D .deg) c)) (e ∙ sym (ref-at T (D .line) (D .deg) o))))

@@ -24,7 +24,7 @@ use Rattle.level.specs.declared.Listed.{Listed}
 use Rattle.seek.specs.declared.Scope.{Scope}
 use Rattle.seek.specs.Seek.{Found}
 use Rattle.seek.specs.Formed.{Formed}
-use Rattle.separation.specs.Decision.{reference, blockCount, outside, own, apart, pairwise}
+use Rattle.separation.specs.Decision.{blockCount, outside, own, apart, pairwise}
 use Rattle.separation.proofs.Own.{own-refs}
 use Rattle.check_pairs.specs.Pairs.{repIn, Placed, Later, ownOf, widthIn, EarlierApart, standsIn, PrimeOf, Stands, LevelSeparated, PrimesOf, Separated}
 use Rattle.check_pairs.proofs.Columns.{first-ref}
@@ -32,7 +32,8 @@ use Rattle.check_pairs.proofs.Pairs.{found-above, at-count, positive-at
 
 -- ---- One representation
 
-pub found-placed : {P : Presentation} {s : Scope} {T : List ℕ} → Formed P s T → {i r : ℕ} {D : Listed} → i < s .gens → Found (s .gens) T (i + 1) r D → Placed s T i r D
+pub found-placed : {P : Presentation} {s : Scope} {T : List ℕ} → Formed P s T → {i r : ℕ} {D : Listed} → i < s .gens
+    → Found (s .gens) T (i + 1) r D → Placed s T i r D
 found-placed {P} F l G = record { P = P; formed = F; level = l; found = found-above G }
 
 module _ {s : Scope} {T : List ℕ} {i r : ℕ} {D : Listed} (l : i < s .gens) (G : Found (s .gens) T (i + 1) r D) where
@@ -58,7 +59,8 @@ module _ {s : Scope} {T : List ℕ} {i r : ℕ} {D : Listed} (l : i < s .gens) (
     stands-rest e t = record { is = λ P F. t .is P (F .formed) ∙ sym (ap (λ x. x && allBelow r (λ r′. apart P T i r′ r)) (sym (own-told h P F) ∙ e)) }
 
 pub placed-later : {s : Scope} {T : List ℕ} {i r : ℕ} {D : Listed} {w : ℕ} → Placed s T i r D → w ≡ widthIn s T i D 0 → Later s T i r (eqb w (D .deg)) D
-placed-later {s} {T} {i} {r} {D} L e = record { placed = L; one-is = ap (λ x. eqb x (D .deg)) (e ∙ ap (λ x. repOf (levelAt (s .gens) T i) x .deg) (first-ref T D)) }
+placed-later {s} {T} {i} {r} {D} L e =
+    record { placed = L; one-is = ap (λ x. eqb x (D .deg)) (e ∙ ap (λ x. repOf (levelAt (s .gens) T i) x .deg) (first-ref T D)) }
 
 -- ---- The representations of a level
 
@@ -85,12 +87,15 @@ module _ (s : Scope) (primes T : List ℕ) where
   prime-at : (i p : ℕ) → i < s .gens → p ≡ getD primes i 0 → (P : Presentation) → PrimesOf s primes T P → PrimeOf s T i p P
   prime-at i p l e P F = record { formed = F .formed; prime = e ∙ F .prime i l }
 
+  all-levels : (P : Presentation) → PrimesOf s primes T P → allBelow (s .gens) (pairwise P T) ≡ allBelow (P .n) (pairwise P T)
+  all-levels P F = ap (λ n. allBelow n (pairwise P T)) (F .formed .gens-are)
+
   module _ {i p : ℕ} {b : Bool} (l : i < s .gens) (is : p ≡ getD primes i 0) (t : LevelSeparated s T i p b) where
     pub table-more : PassingUpTo i → b ≡ true → PassingUpTo (i + 1)
     table-more h e = passed-more h (λ P F. t .is P (prime-at i p l is P F)) e
 
     pub table-fails : PassingUpTo i → b ≡ false → Separated s primes T false
-    table-fails h e = record { is = λ P F. passed-fails h l (λ P F. t .is P (prime-at i p l is P F)) e P F ∙ ap (λ n. allBelow n (pairwise P T)) (F .formed .gens-are) }
+    table-fails h e = record { is = λ P F. passed-fails h l (λ P F. t .is P (prime-at i p l is P F)) e P F ∙ all-levels P F }
 
   pub table-holds : {i : ℕ} → PassingUpTo i → s .gens ≤ i → Separated s primes T true
-  table-holds h l = record { is = λ P F. passed-all h l P F ∙ ap (λ n. allBelow n (pairwise P T)) (F .formed .gens-are) }
+  table-holds h l = record { is = λ P F. passed-all h l P F ∙ all-levels P F }

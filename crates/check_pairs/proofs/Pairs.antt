@@ -21,7 +21,7 @@ use lib.ListN.{length}
 use Rattle.definitions.specs.Lists.{all}
 use Rattle.definitions.specs.Presentation.{Presentation}
 use Rattle.definitions.specs.Monomial.{Rep, repOf}
-use Rattle.definitions.specs.Table.{REF, wordAt, repAt, levelAt}
+use Rattle.definitions.specs.Table.{levelAt}
 use Rattle.definitions.specs.Judgement.{cuts, wholeBlock}
 use Rattle.numbers.proofs.Passed.{Passed}
 use Rattle.heads.proofs.Complete.{complete-degree}

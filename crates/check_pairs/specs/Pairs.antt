@@ -1,5 +1,6 @@
 -- Pairs of representations that stand in lines.
 --
+--   otherRef T line x c    column c of the representation at a line has a reference other than x
 --   repIn T D          the representation whose lines D names
 --   Fits T i D         the lines of D for the generators up to i stand in the words
 --   likeIn T one D E    `one`, and both have one degree and one first reference
@@ -13,7 +14,7 @@
 --   Stands, LevelSeparated     and of r with those before it, and of a level, where p is the prime of generator i (PrimeOf, TellsAt)
 --   PrimesOf, Separated        and of all levels, by the primes of all generators
 use mathlib.Core.Path.{_≡_}
-use mathlib.Core.Bool.{Bool, _&&_, _||_}
+use mathlib.Core.Bool.{Bool, _&&_, _||_, not}
 use mathlib.Core.List.{List}
 use Prim.Native.Nat.{ℕ, suc, _+_, _*_, _≤_, _<_}
 use lib.Dec.{eqb, leb}
@@ -29,6 +30,9 @@ use Rattle.seek.specs.Seek.{Whole, Found}
 use Rattle.seek.specs.Formed.{Formed, Tells}
 use Rattle.separation.specs.Decision.{own, apart, pairwise}
 use Rattle.separation.specs.Apart.{fresh}
+
+abbrev pub otherRef : List ℕ → (line x c : ℕ) → Bool
+otherRef T line x c = not (eqb x (wordAt T (line + c) REF))
 
 abbrev pub repIn : List ℕ → Listed → Rep
 repIn T D = repAt T (D .line) (D .deg)

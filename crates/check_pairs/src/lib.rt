@@ -1,19 +1,21 @@
 // Refusal 25 on a table to which 21 to 23 do not apply: the representations of each level are told apart pair by pair, the
 // later one outside, by references and by exponents in column 0, and no product is formed.
 //
-//   separated          whether all representations of every level are apart
+//   free_of, common_free                  references that a representation has not
+//   alike, apart, earlier_apart           two representations of a level, and all before one
+//   fresh_at, width, blocks_differ, own   the blocks of one representation
+//   stands_apart, level_separated         one with all before it, and all of a level
+//   separated                             whether all representations of every level are apart
 ghost use mathlib.Core.Path.{_≡_};
-ghost use mathlib.Core.Bool.{not};
 ghost use Prim.Native.Nat.{ℕ, _+_, _*_, _≤_, _<_};
-ghost use lib.Dec.{eqb};
 ghost use lib.ListN.{length};
 ghost use Rattle.definitions.specs.Lists.{allBelow};
-ghost use Rattle.definitions.specs.Table.{REF, wordAt, levelAt};
-ghost use Rattle.separation.specs.Apart.{commonFree, fresh, apartAt};
-ghost use Rattle.check_pairs.specs.Pairs.{repIn, Fits, likeIn, Placed, Later, EarlierApart, differ, ownOf, Refers, widthIn};
-ghost use Rattle.check_pairs.specs.Pairs.{Stands, LevelSeparated, Separated};
 ghost use Rattle.definitions.specs.Presentation.{Presentation};
+ghost use Rattle.definitions.specs.Table.{levelAt};
 ghost use Rattle.seek.specs.Formed.{Formed};
+ghost use Rattle.separation.specs.Apart.{commonFree, fresh, apartAt};
+ghost use Rattle.check_pairs.specs.Pairs.{otherRef, repIn, Fits, likeIn, Placed, Later, differ, ownOf, Refers, widthIn};
+ghost use Rattle.check_pairs.specs.Pairs.{EarlierApart, Stands, LevelSeparated, Separated};
 use level::Listed;
 use rows::Row;
 use seek::Scope;
@@ -21,7 +23,7 @@ use seek::Scope;
 // No column of e has the reference x.
 fn free_of(words: &[u32], e: Listed, x: u32) -> bool
     requires { ⌜ 8 * (e .line + e .deg) ≤ length (now words) ⌝ }
-    ensures { λ r. ⌜ r ≡ allBelow (e .deg) (λ (c : ℕ). not (eqb x (wordAt (now (words .entry)) (e .line + c) REF))) ⌝ }
+    ensures { λ r. ⌜ r ≡ allBelow (e .deg) (otherRef (now (words .entry)) (e .line) x) ⌝ }
 {
     let line = e.line;
     let deg = level::up(e.deg);

@@ -10,7 +10,10 @@ returns : tie.Need-returns
 returns c = let a = c .before .before .args in like-blocks (now (a .words)) (a .one) (a .d) (a .e) (not-true (a .one) (c .if1 .taken))
 
 returns-2 : tie.Need-returns-2
-returns-2 c = let a = c .before .before .before .before .before .args in like-degrees (now (a .words)) (a .one) (a .d) (a .e) (c .if2 .taken)
+returns-2 c =
+    let o = c .before .before .before in
+    let a = o .before .before .args in
+    like-degrees (now (a .words)) (a .one) (a .d) (a .e) (c .if2 .taken)
 
 word-at-requires : tie.Need-word-at-requires
 word-at-requires c κs = search needs

@@ -1,8 +1,7 @@
 -- `apart` meets its contract: by exponents where both are alike, and else by references.
-use mathlib.Core.Path.{sym, _∙_, ap}
+use mathlib.Core.Path.{_∙_, ap}
 use native.Mathlib.Omega.{arith}
 use denote.Ref.{now}
-use borrow.Author.Needs.{needs}
 use borrow.Author.Tests.{not-true, not-false}
 use Rattle.definitions.specs.Table.{EXP, wordAt}
 use Rattle.check_pairs.proofs.Columns.{apart-unlike, apart-alike}
@@ -25,15 +24,21 @@ matrix-line-requires : tie.Need-matrix-line-requires
 matrix-line-requires c κs = let z = c .before .before .before in omega (arith, z .pre .0 .top, z .good)
 
 word-at-requires : tie.Need-word-at-requires
-word-at-requires c κs = let z = c .before .before .before .before in let D = z .pre .0 in (omega (arith, D .top, D .positive, c .matrix-line .ensures), omega arith)
+word-at-requires c κs =
+    let D = c .before .before .before .before .pre .0 in
+    (omega (arith, D .top, D .positive, c .matrix-line .ensures), omega arith)
 
 matrix-line-requires-2 : tie.Need-matrix-line-requires-2
-matrix-line-requires-2 c κs = let z = c .before .before .before .before .before in omega (arith, z .pre .1 .top, z .good)
+matrix-line-requires-2 c κs =
+    let x = c .before .before in
+    let z = x .before .before .before in
+    omega (arith, z .pre .1 .top, z .good)
 
 word-at-requires-2 : tie.Need-word-at-requires-2
 word-at-requires-2 c κs =
-    let z = c .before .before .before .before .before .before in
-    let E = z .pre .1 in (omega (arith, E .top, E .positive, c .matrix-line2 .ensures), omega arith)
+    let x = c .before .before .before in
+    let E = x .before .before .before .pre .1 in
+    (omega (arith, E .top, E .positive, c .matrix-line2 .ensures), omega arith)
 
 returns-2 : tie.Need-returns-2
 returns-2 c =

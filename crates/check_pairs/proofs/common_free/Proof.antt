@@ -1,22 +1,19 @@
 -- `common_free` meets its contract: the columns before c have references that e has not.
-use mathlib.Core.Path.{_≡_, refl, sym, _∙_, ap, subst}
-use mathlib.Core.Bool.{not}
-use mathlib.Core.List.{List}
-use Prim.Native.Nat.{ℕ, _+_, _*_, _-_, _≤_, _<_}
+use mathlib.Core.Path.{sym, _∙_}
+use Prim.Native.Nat.{_+_, _*_, _-_, _≤_}
 use native.Mathlib.Omega.{arith}
-use lib.Dec.{eqb}
 use lib.ListN.{length}
 use denote.Ref.{now}
 use borrow.Author.Needs.{needs}
 use borrow.Author.Tests.{not-true, not-false}
-use Rattle.definitions.specs.Table.{REF, wordAt}
 use Rattle.conditions.proofs.Conditions.{Tested, tested-none, tested-more, tested-all, tested-fails}
 use Rattle.check_pairs.proofs.Columns.{freeAt, free-test, free-is}
 use Rattle.check_pairs.proofs.common_free.Statement.{statement}
 use Rattle.check_pairs.proofs.common_free.Tie as tie
 
 abbrev Inv-loop : tie.InvT-loop
-Inv-loop words e line deg c₀ c = (c ≤ deg) × (8 * (line + deg) ≤ length words) × (8 * (e .line + e .deg) ≤ length words) × Tested (freeAt words (e .line) (e .deg) line) c
+Inv-loop words e line deg c₀ c =
+    (c ≤ deg) × (8 * (line + deg) ≤ length words) × (8 * (e .line + e .deg) ≤ length words) × Tested (freeAt words (e .line) (e .deg) line) c
 
 abbrev μ-loop : tie.MeasureT-loop
 μ-loop words e line deg c₀ c = deg - c
@@ -25,7 +22,7 @@ up-requires : tie.Need-up-requires Inv-loop μ-loop
 up-requires c κs = search needs
 
 loop-holds : tie.Need-loop-holds Inv-loop μ-loop
-loop-holds c = let a = c .before .before in (omega arith, subst (λ d. 8 * (a .args .d .line + d) ≤ length (now (a .args .words))) (sym (c .up .ensures)) (a .pre .0), a .pre .1, tested-none)
+loop-holds c = let z = c .before .before in (omega arith, omega (arith, c .up .ensures, z .pre .0), z .pre .1, tested-none)
 
 add-word-at : tie.Need-add-word-at Inv-loop μ-loop
 add-word-at c = search needs

@@ -36,7 +36,7 @@ returns-2 c =
     line-inside (z .pre .1) (z .args .p) (w .width .ensures .0) (x .before .before .if1 .left) row (c .if2 .taken)
 
 blocks-differ-requires : tie.Need-blocks-differ-requires
-blocks-differ-requires c κs = c .before .before .before .before .before .before .pre
+blocks-differ-requires c κs = let o = c .before .before .before in o .before .before .before .pre
 
 returns-3 : tie.Need-returns-3
 returns-3 c =

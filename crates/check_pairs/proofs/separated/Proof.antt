@@ -30,7 +30,7 @@ element-copy-out-level-separated : tie.Need-element-copy-out-level-separated Inv
 element-copy-out-level-separated c = let z = c .before .before .before .before in omega (arith, c .up .ensures, z .pre .1 .whole .few)
 
 level-separated-requires : tie.Need-level-separated-requires Inv-loop μ-loop
-level-separated-requires c κs = (c .before .before .before .before .before .pre, omega arith)
+level-separated-requires c κs = let l = c .before .before .before in (l .before .before .pre, omega arith)
 
 returns : tie.Need-returns Inv-loop μ-loop
 returns c =
@@ -63,4 +63,18 @@ returns-2 c =
     table-holds (a .s) (now (a .primes)) (now (a .words)) (l .loop .inv) (omega arith)
 
 pub separated-spec : {M : Type 1} → statement M
-separated-spec = tie.close (tie.spec Inv-loop μ-loop loop-holds up-requires mul-level-separated element-copy-out-level-separated level-separated-requires returns add-i loop-less loop-again returns-2)
+separated-spec =
+    tie.close
+    (tie.spec
+    Inv-loop
+    μ-loop
+    loop-holds
+    up-requires
+    mul-level-separated
+    element-copy-out-level-separated
+    level-separated-requires
+    returns
+    add-i
+    loop-less
+    loop-again
+    returns-2)

@@ -22,7 +22,10 @@ returns c =
     stands-fails (c .before .before .before .before .pre .1) G (t .ensures) (not-true (t .result) (c .if1 .taken))
 
 width-requires : tie.Need-width-requires
-width-requires c κs = let (F, l, h) = c .before .before .before .before .pre in line-first (found-placed (F .1) l (c .before .before .found .ensures))
+width-requires c κs =
+    let f = c .before .before in
+    let (F, l, h) = f .before .before .pre in
+    line-first (found-placed (F .1) l (f .found .ensures))
 
 earlier-apart-requires : tie.Need-earlier-apart-requires
 earlier-apart-requires c κs =
