@@ -4,8 +4,8 @@ use Prim.Native.Nat.{suc, _-_}
 use native.Mathlib.Omega.{arith}
 use borrow.Author.Tests.{not-true, not-false}
 use Rattle.definitions.specs.Lists.{allBelow}
+use Rattle.numbers.proofs.Tested.{Tested, tested-none, tested-more, tested-all, tested-fails}
 use Rattle.conditions.specs.Conditions.{pairWell}
-use Rattle.conditions.proofs.Conditions.{Tested, tested-none, tested-more, tested-all, tested-fails}
 use Rattle.conditions.proofs.judge.well.Statement.{statement}
 use Rattle.conditions.proofs.judge.well.Tie as tie
 
