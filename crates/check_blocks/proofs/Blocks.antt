@@ -15,9 +15,9 @@ use mathlib.Core.List.{List}
 use Prim.Native.Nat.{ℕ, suc, _+_, _*_, _%_, _≤_, _<_}
 use native.Mathlib.Nat.{mod-eq-of-lt, mul-le-mul-right}
 use native.Mathlib.Omega.{arith}
-use lib.Dec.{eqb, ltb, leb}
+use lib.Dec.{eqb}
 use lib.ListN.{length}
-use borrow.Author.Tests.{eq-eqb, ne-eqb, ltb-true, leb-true}
+use borrow.Author.Tests.{eq-eqb, ne-eqb}
 use Rattle.definitions.specs.declared.Entry.{Entry}
 use Rattle.definitions.specs.Lists.{allBelow, all}
 use Rattle.definitions.specs.Presentation.{Presentation}
@@ -27,7 +27,7 @@ use Rattle.definitions.specs.Judgement.{cuts, wholeBlock, matricesValid, blocks
 use Rattle.numbers.proofs.Bools.{and-left, and-right}
 use Rattle.numbers.proofs.Lists.{allBelow-below}
 use Rattle.monomial.proofs.Frames.{col-table}
-use Rattle.heads.proofs.Cutting.{Cutting, cutting-none, cutting-more, cutting-fails, cutting-all, cutting-passes}
+use Rattle.heads.proofs.Cutting.{Cutting, cutting-none, cutting-more, cutting-fails, cutting-all, cutting-passes, block-listed, block-room}
 use Rattle.level.specs.declared.Listed.{Listed}
 use Rattle.level.specs.Stored.{entryIn, lineIn}
 use Rattle.seek.specs.declared.Scope.{Scope}
@@ -107,14 +107,9 @@ module _ {s : Scope} {T : List ℕ} {i : ℕ} {D : Listed} (M : Among s T (suc i
       line-there T (D .line + o) (omega (arith, M .found .inside, e))
 
   module _ (o : ℕ) (w : wholeBlock (levelAt (s .gens) T i) (repIn T D) o ≡ true) where
-    parts : (repIn T D .ref 0 o < length low) × (o + repOf low (repIn T D .ref 0 o) .deg ≤ D .deg)
-    unfolding wholeBlock repAt
-    parts =
-        let X : Rep = repOf low (Rp .ref 0 o) in
-        let b = and-left (ltb (Rp .ref 0 o) (length low) && leb (o + X .deg) (D .deg)) _ w in (
-          ltb-true (Rp .ref 0 o) (length low) (and-left (ltb (Rp .ref 0 o) (length low)) (leb (o + X .deg) (D .deg)) b),
-          leb-true (o + X .deg) (D .deg) (and-right (ltb (Rp .ref 0 o) (length low)) (leb (o + X .deg) (D .deg)) b),
-        )
+    room : o + repOf low (repIn T D .ref 0 o) .deg ≤ D .deg
+    unfolding repAt
+    room = block-room low Rp o w
 
     module _ (x l : ℕ) (is : x ≡ wordAt T l REF) (line : l ≡ D .line + o) where
       ref-is : x ≡ Rp .ref 0 o
@@ -122,12 +117,12 @@ module _ {s : Scope} {T : List ℕ} {i : ℕ} {D : Listed} (M : Among s T (suc i
       ref-is = let e : l ≡ D .line + 0 * D .deg + o = omega arith in is ∙ ap (λ l. wordAt T l REF) e
 
       pub whole-listed : x < length (levelAt (s .gens) T i)
-      whole-listed = subst (λ x. x < length low) (sym ref-is) (parts .0)
+      whole-listed = subst (λ x. x < length low) (sym ref-is) (block-listed low Rp o w)
 
       pub whole-refers : {F : Listed} → Found (s .gens) T i x F → Refers s T i D o F
       whole-refers {F} G =
           let G′ = subst (λ x. Found (s .gens) T i x F) ref-is G in
-          record { found = G′; room = subst (λ d. o + d ≤ D .deg) (sym (G′ .deg)) (parts .1) }
+          record { found = G′; room = subst (λ d. o + d ≤ D .deg) (sym (G′ .deg)) room }
 
 module _ {s : Scope} {T : List ℕ} {i : ℕ} {D : Listed} {o : ℕ} {F : Listed} {P : Presentation} (formed : Formed P s T) (R : Refers s T i D o F) where
   referred : Found (P .n) T i (repIn T D .ref 0 o) F

@@ -9,14 +9,13 @@ use Prim.Native.Nat.{ℕ, _+_, _-_, _≤_, _<_}
 use native.Mathlib.Omega.{arith}
 use lib.Dec.{eqb, leb, ltb}
 use lib.ListN.{length}
-use borrow.Author.Tests.{lt-ltb, le-ltb, le-leb, lt-leb, leb-true}
+use borrow.Author.Tests.{lt-ltb, le-ltb, le-leb, lt-leb}
 use Rattle.definitions.specs.Lists.{allBelow}
 use Rattle.definitions.specs.Monomial.{Rep, Level, repOf}
 use Rattle.definitions.specs.Table.{REF, wordAt}
 use Rattle.definitions.specs.Judgement.{wholeBlock}
-use Rattle.numbers.proofs.Bools.{and-left, and-right}
 use Rattle.numbers.proofs.Lists.{allBelow-below}
-use Rattle.heads.proofs.Cutting.{Cutting, cutting-more, cutting-fails}
+use Rattle.heads.proofs.Cutting.{Cutting, cutting-more, cutting-fails, block-room}
 use Rattle.level.specs.declared.Listed.{Listed}
 use Rattle.level.specs.Stored.{lineIn}
 use Rattle.check_lines.specs.Lines.{refsAre}
@@ -93,10 +92,4 @@ module _ (low : Level) (D : Rep) (o : ℕ) (h : o < D .deg) (x : ℕ) (W : Width
         subst (λ w. Cutting low D (wholeBlock low D) (o + w)) (sym is) (cutting-more low D (wholeBlock low D) o C h some whole)
 
     pub width-inside : o + x ≤ D .deg
-    unfolding wholeBlock
-    width-inside =
-        let (whole, is) = W .some z in
-        let w : ℕ = repOf low (D .ref 0 o) .deg in
-        let a : Bool = ltb (D .ref 0 o) (length low) in
-        let b : Bool = leb (o + w) (D .deg) in
-        omega (arith, is, leb-true (o + w) (D .deg) (and-right a b (and-left (a && b) _ whole)))
+    width-inside = let (whole, is) = W .some z in omega (arith, is, block-room low D o whole)
