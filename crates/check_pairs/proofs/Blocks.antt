@@ -23,7 +23,8 @@ use Rattle.separation.proofs.Apart.{is-whole, wide, one-block}
 use Rattle.level.specs.declared.Listed.{Listed}
 use Rattle.level.specs.Stored.{lineIn}
 use Rattle.seek.specs.declared.Scope.{Scope}
-use Rattle.check_pairs.specs.Pairs.{repIn, Fits, Placed, differ, ownOf, Refers, widthIn}
+use Rattle.seek.specs.Among.{repIn}
+use Rattle.check_pairs.specs.Pairs.{Fits, Placed, differ, ownOf, Refers, widthIn}
 use Rattle.check_pairs.proofs.Columns.{and-last, row-at}
 use Rattle.check_pairs.proofs.Pairs.{found-fits, placed-positive, placed-whole}
 

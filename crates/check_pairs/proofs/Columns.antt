@@ -25,7 +25,8 @@ use Rattle.level.specs.Stored.{lineIn}
 use Rattle.level.proofs.Laws.{col-matrixIn}
 use Rattle.separation.specs.Apart.{commonFree, fresh, apartAt}
 use Rattle.separation.proofs.Pairs.{eqb-sym}
-use Rattle.check_pairs.specs.Pairs.{otherRef, repIn, likeIn}
+use Rattle.seek.specs.Among.{repIn}
+use Rattle.check_pairs.specs.Pairs.{otherRef, likeIn}
 
 unfoldable pub freeAt : List ℕ → (line deg at c : ℕ) → Bool
 freeAt T line deg at c = allBelow deg (otherRef T line (wordAt T (at + c) REF))

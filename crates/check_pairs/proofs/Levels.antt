@@ -26,7 +26,8 @@ use Rattle.seek.specs.Seek.{Found}
 use Rattle.seek.specs.Formed.{Formed}
 use Rattle.separation.specs.Decision.{blockCount, outside, own, apart, pairwise}
 use Rattle.separation.proofs.Own.{own-refs}
-use Rattle.check_pairs.specs.Pairs.{repIn, Placed, Later, ownOf, widthIn, EarlierApart, standsIn, PrimeOf, Stands, LevelSeparated, PrimesOf, Separated}
+use Rattle.seek.specs.Among.{repIn}
+use Rattle.check_pairs.specs.Pairs.{Placed, Later, ownOf, widthIn, EarlierApart, standsIn, PrimeOf, Stands, LevelSeparated, PrimesOf, Separated}
 use Rattle.check_pairs.proofs.Columns.{first-ref}
 use Rattle.check_pairs.proofs.Pairs.{found-above, at-count, positive-at, whole-at}
 

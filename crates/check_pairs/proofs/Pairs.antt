@@ -35,7 +35,8 @@ use Rattle.seek.proofs.Stored.{blocks-whole}
 use Rattle.separation.specs.Decision.{reference, apart}
 use Rattle.separation.specs.Apart.{apartAt}
 use Rattle.separation.proofs.Apart.{apart-columns}
-use Rattle.check_pairs.specs.Pairs.{repIn, Fits, oneBlock, Placed, Later}
+use Rattle.seek.specs.Among.{repIn}
+use Rattle.check_pairs.specs.Pairs.{Fits, oneBlock, Placed, Later}
 use Rattle.check_pairs.proofs.Columns.{first-ref}
 
 pub found-fits : {n : ℕ} {T : List ℕ} {k r : ℕ} {D : Listed} → Found n T k r D → (i : ℕ) → i < n → Fits T i D

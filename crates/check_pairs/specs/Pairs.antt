@@ -1,7 +1,6 @@
 -- Pairs of representations that stand in lines.
 --
 --   otherRef T line x c    column c of the representation at a line has a reference other than x
---   repIn T D          the representation whose lines D names
 --   Fits T i D         the lines of D for the generators up to i stand in the words
 --   likeIn T one D E    `one`, and both have one degree and one first reference
 --   oneBlock n T i E   E, of the level above level i, is one block
@@ -27,15 +26,13 @@ use Rattle.definitions.specs.Judgement.{cuts}
 use Rattle.level.specs.declared.Listed.{Listed}
 use Rattle.seek.specs.declared.Scope.{Scope}
 use Rattle.seek.specs.Seek.{Whole, Found}
+use Rattle.seek.specs.Among.{repIn}
 use Rattle.seek.specs.Formed.{Formed, Tells}
 use Rattle.separation.specs.Decision.{own, apart, pairwise}
 use Rattle.separation.specs.Apart.{fresh}
 
 abbrev pub otherRef : List ℕ → (line x c : ℕ) → Bool
 otherRef T line x c = not (eqb x (wordAt T (line + c) REF))
-
-abbrev pub repIn : List ℕ → Listed → Rep
-repIn T D = repAt T (D .line) (D .deg)
 
 pub record Fits (T : List ℕ) (i : ℕ) (D : Listed) : Type 0 where
   pub positive : 0 < D .deg

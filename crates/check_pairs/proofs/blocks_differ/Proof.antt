@@ -3,7 +3,7 @@ use Prim.Native.Nat.{_-_}
 use native.Mathlib.Omega.{arith}
 use borrow.Author.Tests.{not-true, not-false}
 use Rattle.definitions.specs.Table.{levelAt}
-use Rattle.check_pairs.specs.Pairs.{repIn}
+use Rattle.seek.specs.Among.{repIn}
 use Rattle.check_pairs.proofs.Blocks.{Walked, line-none, line-there, line-refers, line-fits, line-more, line-fails, line-all}
 use Rattle.check_pairs.proofs.blocks_differ.Statement.{statement}
 use Rattle.check_pairs.proofs.blocks_differ.Tie as tie

@@ -6,7 +6,7 @@ use lib.ListN.{length}
 use denote.Ref.{now}
 use borrow.Author.Needs.{needs}
 use borrow.Author.Tests.{not-true, not-false}
-use Rattle.conditions.proofs.Conditions.{Tested, tested-none, tested-more, tested-all, tested-fails}
+use Rattle.numbers.proofs.Tested.{Tested, tested-none, tested-more, tested-all, tested-fails}
 use Rattle.check_pairs.proofs.Columns.{freeAt, free-test, free-is}
 use Rattle.check_pairs.proofs.common_free.Statement.{statement}
 use Rattle.check_pairs.proofs.common_free.Tie as tie
