@@ -1,5 +1,6 @@
 // Cases of a program's standard input, and sums over buffers.
 //
+//   find, behind               the first position of a byte; the position behind one
 //   Case, case_at              the parts of a case: its line, its text, a form feed
 //   words_lent, bytes_lent     how much of a buffer is lent
 //   mix_words, mix_bytes       a sum over a whole buffer
@@ -9,7 +10,7 @@ ghost use lib.ListN.{length};
 ghost use Rattle.case_input.specs.Mixed.{mixed, mixedTo};
 
 // The first position from `start` on where the byte stands, or the end.
-fn find(s: &[u8], start: usize, byte: u8) -> usize
+pub fn find(s: &[u8], start: usize, byte: u8) -> usize
     requires { ⌜ start ≤ length (now s) ⌝ }
     ensures { λ r. ⌜ (start ≤ r) × (r ≤ length (now (s .entry))) ⌝ }
 {
@@ -24,7 +25,7 @@ fn find(s: &[u8], start: usize, byte: u8) -> usize
 }
 
 // The position behind a position, or the end.
-fn behind(s: &[u8], at: usize) -> usize
+pub fn behind(s: &[u8], at: usize) -> usize
     requires { ⌜ at ≤ length (now s) ⌝ }
     ensures { λ r. ⌜ (at ≤ r) × (r ≤ length (now (s .entry))) ⌝ }
 {

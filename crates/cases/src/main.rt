@@ -7,6 +7,7 @@
 //                 written back into the first B of 4,096 bytes
 //   write W B     the text is at most 512 words, each with a space or a line's end behind it; the first W of them are
 //                 written into the first B of 4,096 bytes
+//   check W       the text is a presentation, a vertical tab, and at most 8,192 words as above; the first W of them are checked
 //
 // For each call its answer is printed, and of a call that fills a buffer its count and a sum over the whole buffer, what
 // is not lent too; words and bytes are sevens before the call. Behind a text that is written back stands whether it is the
@@ -151,6 +152,15 @@ fn write_case(text: &[u8], have: u32, room: u32) {
     write(&words[..n], room, text);
 }
 
+fn check_case(text: &[u8], have: u32) {
+    let end = case_input::find(text, 0, 11);
+    let start = case_input::behind(text, end);
+    let mut words = [0u32; 8192];
+    parse(&text[start..], &mut words);
+    let n = case_input::words_lent(have, &words);
+    print(chieftables::check::check(&text[..end], &words[..n]) as u64);
+}
+
 // The call that the kind of a case names.
 fn call(line: &[u8], text: &[u8], have: u32, room: u32) {
     if text::starts(line, 0, b"accept ") {
@@ -161,6 +171,8 @@ fn call(line: &[u8], text: &[u8], have: u32, room: u32) {
         read_case(text, have, room);
     } else if text::starts(line, 0, b"write ") {
         write_case(text, have, room);
+    } else if text::starts(line, 0, b"check ") {
+        check_case(text, have);
     }
 }
 
