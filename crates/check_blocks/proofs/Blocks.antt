@@ -1,7 +1,6 @@
 -- The blocks of a representation, column by column and one behind the other.
 --
 --   column-row, column-exp          a column, by its row and by its exponent
---   among-whole                     where 21 does not apply every block is whole
 --   among-within                    a block that is referred to has room, and its lines hold matrices
 --   column-there                    the lines of the first generator are there
 --   whole-listed, whole-refers      what a whole block refers to is listed, and has room
@@ -15,19 +14,18 @@ use mathlib.Core.List.{List}
 use Prim.Native.Nat.{ℕ, suc, _+_, _*_, _%_, _≤_, _<_}
 use native.Mathlib.Nat.{mod-eq-of-lt, mul-le-mul-right}
 use native.Mathlib.Omega.{arith}
-use lib.Dec.{eqb, ltb, leb}
+use lib.Dec.{eqb}
 use lib.ListN.{length}
-use borrow.Author.Tests.{eq-eqb, ne-eqb, ltb-true, leb-true}
+use borrow.Author.Tests.{eq-eqb, ne-eqb}
 use Rattle.definitions.specs.declared.Entry.{Entry}
-use Rattle.definitions.specs.Lists.{allBelow, all}
+use Rattle.definitions.specs.Lists.{allBelow}
 use Rattle.definitions.specs.Presentation.{Presentation}
 use Rattle.definitions.specs.Monomial.{entry, col, sameEntry, Rep, Level, repOf}
 use Rattle.definitions.specs.Table.{REF, wordAt, repAt, levelAt}
-use Rattle.definitions.specs.Judgement.{cuts, wholeBlock, matricesValid, blocksWhole, blockRestricts, restricts, targetsListed}
-use Rattle.numbers.proofs.Bools.{and-left, and-right}
+use Rattle.definitions.specs.Judgement.{wholeBlock, blockRestricts, restricts}
 use Rattle.numbers.proofs.Lists.{allBelow-below}
 use Rattle.monomial.proofs.Frames.{col-table}
-use Rattle.heads.proofs.Cutting.{Cutting, cutting-none, cutting-more, cutting-fails, cutting-all, cutting-passes}
+use Rattle.heads.proofs.Cutting.{Cutting, cutting-none, cutting-more, cutting-fails, cutting-all, cutting-passes, block-listed, block-room}
 use Rattle.level.specs.declared.Listed.{Listed}
 use Rattle.level.specs.Stored.{entryIn, lineIn}
 use Rattle.seek.specs.declared.Scope.{Scope}
@@ -35,8 +33,7 @@ use Rattle.seek.specs.Seek.{Found}
 use Rattle.seek.specs.Formed.{Formed, Tells}
 use Rattle.seek.specs.Among.{repIn, Among}
 use Rattle.seek.proofs.Halves.{line-there}
-use Rattle.seek.proofs.Stored.{wellFormed}
-use Rattle.seek.proofs.Among.{formed-stored}
+use Rattle.seek.proofs.Among.{formed-stored, among-whole}
 use Rattle.check_blocks.specs.Blocks.{Within, columnActs, Refers}
 
 -- ---- One column
@@ -76,24 +73,6 @@ module _ {s : Scope} {T : List ℕ} {i : ℕ} {D : Listed} (M : Among s T (suc i
   abbrev Rp : Rep
   Rp = repIn T D
 
-  pub among-whole : all (wholeBlock (levelAt (s .gens) T i) (repIn T D)) (cuts (levelAt (s .gens) T i) (repIn T D)) ≡ true
-  among-whole = subst (λ n. all (wholeBlock (levelAt n T i) Rp) (cuts (levelAt n T i) Rp) ≡ true) (sym e) here
-    where
-      e : s .gens ≡ M .P .n
-      e = M .formed .gens-are
-
-      F : Found (M .P .n) T (suc i) (M .r) D
-      F = subst (λ n. Found n T (suc i) (M .r) D) e (M .found)
-
-      here : all (wholeBlock (levelAt (M .P .n) T i) Rp) (cuts (levelAt (M .P .n) T i) Rp) ≡ true
-      here = unfold blocksWhole in (
-          let Q : Presentation = M .P in
-          let X : Rep = repOf (levelAt (Q .n) T (suc i)) (M .r) in
-          let w = wellFormed Q (s .m) T (M .formed .formed) i (F .level .1) (M .r) (F .listed) in
-          let b = and-right (matricesValid Q (s .m) T (suc i) X) (blocksWhole Q (s .m) T (suc i) X) (and-left _ (targetsListed Q (s .m) T (suc i) X) w) in
-          subst (λ (X : Rep). all (wholeBlock (levelAt (Q .n) T i) X) (cuts (levelAt (Q .n) T i) X) ≡ true) (F .rep)
-          (and-left (all (wholeBlock (levelAt (Q .n) T i) X) (cuts (levelAt (Q .n) T i) X)) _ b))
-
   pub among-within : {o : ℕ} {F : Listed} → Refers s T i D o F → Within s T D o F
   among-within R = record {
     whole = formed-stored (M .formed) (suc i) (M .r) (M .found);
@@ -107,14 +86,9 @@ module _ {s : Scope} {T : List ℕ} {i : ℕ} {D : Listed} (M : Among s T (suc i
       line-there T (D .line + o) (omega (arith, M .found .inside, e))
 
   module _ (o : ℕ) (w : wholeBlock (levelAt (s .gens) T i) (repIn T D) o ≡ true) where
-    parts : (repIn T D .ref 0 o < length low) × (o + repOf low (repIn T D .ref 0 o) .deg ≤ D .deg)
-    unfolding wholeBlock repAt
-    parts =
-        let X : Rep = repOf low (Rp .ref 0 o) in
-        let b = and-left (ltb (Rp .ref 0 o) (length low) && leb (o + X .deg) (D .deg)) _ w in (
-          ltb-true (Rp .ref 0 o) (length low) (and-left (ltb (Rp .ref 0 o) (length low)) (leb (o + X .deg) (D .deg)) b),
-          leb-true (o + X .deg) (D .deg) (and-right (ltb (Rp .ref 0 o) (length low)) (leb (o + X .deg) (D .deg)) b),
-        )
+    room : o + repOf low (repIn T D .ref 0 o) .deg ≤ D .deg
+    unfolding repAt
+    room = block-room low Rp o w
 
     module _ (x l : ℕ) (is : x ≡ wordAt T l REF) (line : l ≡ D .line + o) where
       ref-is : x ≡ Rp .ref 0 o
@@ -122,12 +96,12 @@ module _ {s : Scope} {T : List ℕ} {i : ℕ} {D : Listed} (M : Among s T (suc i
       ref-is = let e : l ≡ D .line + 0 * D .deg + o = omega arith in is ∙ ap (λ l. wordAt T l REF) e
 
       pub whole-listed : x < length (levelAt (s .gens) T i)
-      whole-listed = subst (λ x. x < length low) (sym ref-is) (parts .0)
+      whole-listed = subst (λ x. x < length low) (sym ref-is) (block-listed low Rp o w)
 
       pub whole-refers : {F : Listed} → Found (s .gens) T i x F → Refers s T i D o F
       whole-refers {F} G =
           let G′ = subst (λ x. Found (s .gens) T i x F) ref-is G in
-          record { found = G′; room = subst (λ d. o + d ≤ D .deg) (sym (G′ .deg)) (parts .1) }
+          record { found = G′; room = subst (λ d. o + d ≤ D .deg) (sym (G′ .deg)) room }
 
 module _ {s : Scope} {T : List ℕ} {i : ℕ} {D : Listed} {o : ℕ} {F : Listed} {P : Presentation} (formed : Formed P s T) (R : Refers s T i D o F) where
   referred : Found (P .n) T i (repIn T D .ref 0 o) F

@@ -23,8 +23,9 @@ use Rattle.definitions.specs.Monomial.{valid, repOf}
 use Rattle.definitions.specs.Table.{repAt, levelAt, complete}
 use Rattle.definitions.specs.Judgement.{everywhere, blocksWhole, targetsListed, malformed}
 use Rattle.numbers.proofs.Bools.{and-left, and-right}
+use Rattle.numbers.proofs.Tested.{Tested, tested-none, tested-more, tested-all, tested-fails}
 use Rattle.conditions.specs.Size.{LevelOrders}
-use Rattle.conditions.proofs.Conditions.{Tested, tested-none, tested-more, tested-all, tested-fails, orders-are}
+use Rattle.conditions.proofs.Conditions.{orders-are}
 use Rattle.heads.specs.Walk.{headsOk}
 use Rattle.heads.specs.Form.{bodyOk}
 use Rattle.heads.proofs.Form.{form-decides}
@@ -39,7 +40,7 @@ use Rattle.seek.proofs.Halves.{lines-there}
 use Rattle.seek.proofs.Seek.{zero-count}
 use Rattle.check_heads.specs.Places.{ordersIn, Counted}
 use Rattle.check_lines.specs.Lines.{refsAs, targetOk}
-use Rattle.check_form.specs.Form.{repIn, blocksOk, body, levelOk, Over, Fits, Ordered, TellsForm}
+use Rattle.check_form.specs.Form.{listedRep, blocksOk, body, levelOk, Over, Fits, Ordered, TellsForm}
 
 -- ---- A representation
 
@@ -48,7 +49,7 @@ module _ (n m : ℕ) (T : List ℕ) (i : ℕ) (D : Listed) where
   matrices = allBelow n (λ g. valid m (D .deg) (generatorIn T D g))
 
   abbrev blocks : Bool
-  blocks = blocksOk (levelAt n T i) (repIn T D)
+  blocks = blocksOk (levelAt n T i) (listedRep T D)
 
   abbrev refs : Bool
   refs = allBelow (suc i) (refsAs T D)
@@ -56,33 +57,33 @@ module _ (n m : ℕ) (T : List ℕ) (i : ℕ) (D : Listed) where
   abbrev targets : Bool
   targets = allBelow n (λ j. ltb j (suc i) || targetOk T D (length (levelAt n T (suc i))) j)
 
-  body-is : (matrices && (blocks && refs) && targets) ≡ body n m T i (repIn T D)
+  body-is : (matrices && (blocks && refs) && targets) ≡ body n m T i (listedRep T D)
   unfolding body
   body-is = refl
 
-  pub body-matrices : allBelow n (λ g. valid m (D .deg) (generatorIn T D g)) ≡ false → false ≡ body n m T i (repIn T D)
+  pub body-matrices : allBelow n (λ g. valid m (D .deg) (generatorIn T D g)) ≡ false → false ≡ body n m T i (listedRep T D)
   body-matrices a = sym (ap (λ t. t && (blocks && refs) && targets) a) ∙ body-is
 
   module _ (a : allBelow n (λ g. valid m (D .deg) (generatorIn T D g)) ≡ true) where
-    pub body-blocks : blocksOk (levelAt n T i) (repIn T D) ≡ false → false ≡ body n m T i (repIn T D)
+    pub body-blocks : blocksOk (levelAt n T i) (listedRep T D) ≡ false → false ≡ body n m T i (listedRep T D)
     body-blocks b = sym (ap₂ (λ t u. t && (u && refs) && targets) a b) ∙ body-is
 
-    module _ (b : blocksOk (levelAt n T i) (repIn T D) ≡ true) where
-      some-refs : (t : Bool) → allBelow (i + 1) (refsAs T D) ≡ t → (t && targets) ≡ body n m T i (repIn T D)
+    module _ (b : blocksOk (levelAt n T i) (listedRep T D) ≡ true) where
+      some-refs : (t : Bool) → allBelow (i + 1) (refsAs T D) ≡ t → (t && targets) ≡ body n m T i (listedRep T D)
       some-refs t e =
           sym (ap₂ (λ u v. (u && (v && refs)) && targets) a b
           ∙ ap (λ u. u && targets) (ap (λ k. allBelow k (refsAs T D)) (sym (add-one i)) ∙ e)) ∙ body-is
 
-      pub body-refs : allBelow (i + 1) (refsAs T D) ≡ false → false ≡ body n m T i (repIn T D)
+      pub body-refs : allBelow (i + 1) (refsAs T D) ≡ false → false ≡ body n m T i (listedRep T D)
       body-refs e = some-refs false e
 
       pub body-targets : (many : ℕ) → many ≡ length (levelAt n T (suc i)) → allBelow (i + 1) (refsAs T D) ≡ true
-          → allBelow n (λ j. ltb j (i + 1) || targetOk T D many j) ≡ body n m T i (repIn T D)
+          → allBelow n (λ j. ltb j (i + 1) || targetOk T D many j) ≡ body n m T i (listedRep T D)
       body-targets many q e = ap₂ (λ k c. allBelow n (λ j. ltb j k || targetOk T D c j)) (add-one i) q ∙ some-refs true e
 
 -- ---- A level
 
-rep-is : (T : List ℕ) (D : Listed) → repAt T (D .line) (D .deg) ≡ repIn T D
+rep-is : (T : List ℕ) (D : Listed) → repAt T (D .line) (D .deg) ≡ listedRep T D
 unfolding repAt
 rep-is T D = refl
 
@@ -107,17 +108,17 @@ module _ (s : Scope) (T : List ℕ) (i : ℕ) where
     pub reading-follows : suc r < length (levelAt (s .gens) T (suc i)) → Follows (s .gens) T D
     reading-follows h = record { i = suc i; r = r; here = R .here; more = h }
 
-    test-is : test r ≡ body (s .gens) (s .m) T i (repIn T D)
+    test-is : test r ≡ body (s .gens) (s .m) T i (listedRep T D)
     test-is = ap (body (s .gens) (s .m) T i) (R .here .rep ∙ rep-is T D)
 
-    pub reading-fails : body (s .gens) (s .m) T i (repIn T D) ≡ false → false ≡ levelOk (s .gens) (s .m) T i
+    pub reading-fails : body (s .gens) (s .m) T i (listedRep T D) ≡ false → false ≡ levelOk (s .gens) (s .m) T i
     reading-fails h = tested-fails (R .passed) (R .here .listed) (test-is ∙ h)
 
-    pub reading-next : {E : Listed} → body (s .gens) (s .m) T i (repIn T D) ≡ true → Found (s .gens) T (suc i) (suc r) E → Reading (r + 1) E
+    pub reading-next : {E : Listed} → body (s .gens) (s .m) T i (listedRep T D) ≡ true → Found (s .gens) T (suc i) (suc r) E → Reading (r + 1) E
     reading-next {E} h F =
         record { here = subst (λ k. Found (s .gens) T (suc i) k E) (sym (add-one r)) F; passed = tested-more (R .passed) (test-is ∙ h) }
 
-    pub reading-last : suc r ≡ length (levelAt (s .gens) T (suc i)) → body (s .gens) (s .m) T i (repIn T D) ≡ levelOk (s .gens) (s .m) T i
+    pub reading-last : suc r ≡ length (levelAt (s .gens) T (suc i)) → body (s .gens) (s .m) T i (listedRep T D) ≡ levelOk (s .gens) (s .m) T i
     unfolding allBelow
     reading-last e =
         let all : true ≡ allBelow r test = tested-all (R .passed) {n = r} (omega arith) in

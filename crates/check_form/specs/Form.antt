@@ -1,6 +1,6 @@
 -- What refusal 21 asks of the representations of a complete table, as code asks it.
 --
---   repIn T D                 the representation whose lines are those of D
+--   listedRep T D             the representation whose lines are those of D
 --   blocksOk low D            its blocks are whole, over the level below
 --   Width low D o x           x is the length of the block from column o, and 0 where it is none
 --   body n m T i D            matrices, blocks and targets of a representation of the level above level i
@@ -27,8 +27,8 @@ use Rattle.seek.specs.Seek.{Whole}
 use Rattle.check_lines.specs.Lines.{refIn}
 use Rattle.check_heads.specs.Places.{ordersIn}
 
-abbrev pub repIn : List ℕ → Listed → Rep
-repIn T D = record { deg = D .deg; matrix = generatorIn T D; ref = refIn T D }
+abbrev pub listedRep : List ℕ → Listed → Rep
+listedRep T D = record { deg = D .deg; matrix = generatorIn T D; ref = refIn T D }
 
 abbrev pub blocksOk : Level → Rep → Bool
 blocksOk low D = all (wholeBlock low D) (cuts low D)

@@ -12,7 +12,7 @@ ghost use Rattle.definitions.specs.Table.{levelAt};
 ghost use Rattle.level.specs.Stored.{lineIn};
 ghost use Rattle.seek.specs.Seek.{Whole};
 ghost use Rattle.check_heads.specs.Places.{Counted};
-ghost use Rattle.check_form.specs.Form.{repIn, blocksOk, Width, body, levelOk, Over, Fits, TellsForm};
+ghost use Rattle.check_form.specs.Form.{listedRep, blocksOk, Width, body, levelOk, Over, Fits, TellsForm};
 use conditions::size::Orders;
 use level::Listed;
 use seek::Scope;
@@ -20,7 +20,7 @@ use seek::Scope;
 // How long the block from column o is, over a level i of `low` representations, and 0 where it is none.
 fn block(words: &[u32], s: Scope, i: u32, low: usize, d: Listed, o: u32) -> u32
     requires { ⌜ Over s (now words) i low × (8 * (lineIn d 0 + d .deg) ≤ length (now words)) × (o < d .deg) ⌝ }
-    ensures { λ x. ⌜ Width (levelAt (s .gens) (now (words .entry)) i) (repIn (now (words .entry)) d) o x ⌝ }
+    ensures { λ x. ⌜ Width (levelAt (s .gens) (now (words .entry)) i) (listedRep (now (words .entry)) d) o x ⌝ }
 {
     let at = level::matrix_line(d, 0) + level::up(o);
     let x = level::word_at(words, at, level::REF);
@@ -41,7 +41,7 @@ fn block(words: &[u32], s: Scope, i: u32, low: usize, d: Listed, o: u32) -> u32
 // The blocks of a representation are whole, from column 0 on.
 fn blocks_ok(words: &[u32], s: Scope, i: u32, low: usize, d: Listed) -> bool
     requires { ⌜ Over s (now words) i low × (8 * (lineIn d 0 + d .deg) ≤ length (now words)) ⌝ }
-    ensures { λ b. ⌜ b ≡ blocksOk (levelAt (s .gens) (now (words .entry)) i) (repIn (now (words .entry)) d) ⌝ }
+    ensures { λ b. ⌜ b ≡ blocksOk (levelAt (s .gens) (now (words .entry)) i) (listedRep (now (words .entry)) d) ⌝ }
 {
     let mut o: u32 = 0;
     while o < d.deg {
@@ -57,7 +57,7 @@ fn blocks_ok(words: &[u32], s: Scope, i: u32, low: usize, d: Listed) -> bool
 // Matrices, blocks and targets of a representation of the level above level i; they have `low` and `many`.
 fn rep_ok(words: &[u32], s: Scope, i: u32, low: usize, many: usize, d: Listed) -> bool
     requires { ⌜ Over s (now words) i low × Over s (now words) (suc i) many × Fits s (now words) d ⌝ }
-    ensures { λ b. ⌜ b ≡ body (s .gens) (s .m) (now (words .entry)) i (repIn (now (words .entry)) d) ⌝ }
+    ensures { λ b. ⌜ b ≡ body (s .gens) (s .m) (now (words .entry)) i (listedRep (now (words .entry)) d) ⌝ }
 {
     if !check_lines::matrices_ok(words, d, s.gens, s.m) {
         return false;

@@ -23,7 +23,7 @@ use Rattle.definitions.specs.Table.{REF, wordAt}
 use Rattle.numbers.proofs.Lists.{allBelow-below}
 use Rattle.numbers.proofs.Searches.{anyBelow-below, anyBelow-intro, anyBelow-fails}
 use Rattle.numbers.proofs.Blocks.{length-table}
-use Rattle.conditions.proofs.Conditions.{Tested}
+use Rattle.numbers.proofs.Tested.{Tested}
 use Rattle.level.specs.declared.Listed.{Listed}
 use Rattle.level.specs.Stored.{entryIn, matrixIn, lineIn}
 use Rattle.level.proofs.Laws.{col-matrixIn}

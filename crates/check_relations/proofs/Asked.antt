@@ -9,7 +9,7 @@ use native.Mathlib.Omega.{arith}
 use Rattle.level.specs.declared.Listed.{Listed}
 use Rattle.separation.specs.Relations.{topRelations}
 use Rattle.seek.specs.declared.Scope.{Scope}
-use Rattle.relations.specs.Kept.{repIn}
+use Rattle.seek.specs.Among.{repIn}
 use Rattle.relations.specs.Said.{Decides, ReadsIn, Spells}
 use Rattle.relations.specs.Tests.{topIn, relationsIn, intertwinersIn}
 use Rattle.relations.proofs.Relations.{word-read}

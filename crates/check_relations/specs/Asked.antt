@@ -2,22 +2,18 @@
 --
 --   Test                   a condition on the representations of a level, for a presentation, a modulus and a table
 --   asked q                the condition that q names
---   onLevel n T q i        the condition q on every representation of level i
 --   OfRep, OnLevel, Everywhere      r is the answer for one representation, for all of a level, for all of the table
 use mathlib.Core.Bool.{Bool}
 use mathlib.Core.List.{List}
 use Prim.Native.Nat.{ℕ}
-use lib.ListN.{length}
-use Rattle.definitions.specs.Lists.{allBelow}
 use Rattle.definitions.specs.Presentation.{Presentation}
-use Rattle.definitions.specs.Monomial.{Rep, repOf}
-use Rattle.definitions.specs.Table.{levelAt}
+use Rattle.definitions.specs.Monomial.{Rep}
 use Rattle.definitions.specs.Judgement.{everywhere, relationsHold, intertwinersHold}
 use Rattle.separation.specs.Relations.{topRelations}
 use Rattle.level.specs.declared.Listed.{Listed}
 use Rattle.seek.specs.declared.Scope.{Scope}
 use Rattle.seek.specs.Formed.{TellsOf}
-use Rattle.relations.specs.Kept.{repIn}
+use Rattle.seek.specs.Among.{repIn, onLevel}
 use Rattle.check_relations.specs.declared.Condition.{Condition}
 use Rattle.check_relations.specs.declared.Condition.the-variants.{Top, Every, Intertwine}
 
@@ -28,9 +24,6 @@ unfoldable pub asked : Condition → Test
 asked Top P m T i D = topRelations P m T i D
 asked Every P m T i D = relationsHold P m T i D
 asked Intertwine P m T i D = intertwinersHold P m T i D
-
-unfoldable pub onLevel : ℕ → List ℕ → (ℕ → Rep → Bool) → ℕ → Bool
-onLevel n T q i = allBelow (length (levelAt n T i)) (λ r. q i (repOf (levelAt n T i) r))
 
 module _ (q : Test) (s : Scope) (rows : List (List ℕ)) (primes T : List ℕ) where
   abbrev pub OfRep : ℕ → Listed → Bool → Type 0

@@ -7,7 +7,7 @@ ghost use Rattle.definitions.specs.Presentation.{Presentation};
 ghost use Rattle.definitions.specs.Judgement.{relationsHold, intertwinersHold};
 ghost use Rattle.separation.specs.Relations.{topRelations};
 ghost use Rattle.seek.specs.Formed.{Posed};
-ghost use Rattle.relations.specs.Kept.{Among};
+ghost use Rattle.seek.specs.Among.{Among};
 ghost use Rattle.check_relations.specs.Asked.{asked, OfRep, OnLevel, Everywhere};
 use level::Listed;
 use rows::Row;

@@ -25,7 +25,7 @@ use Rattle.chieftables.specs.Accepted.{Passed, Accepted}
 -- ---- What is known behind the reader
 
 -- the rows of a read presentation, as the consistency test takes them
-reads-held : {R : Relations} {P : Presentation} {words : List (List ℕ)} → words ≡ P .words → Held R P → Reads (presentation R) (P .n) (P .primes) words
+pub reads-held : {R : Relations} {P : Presentation} {words : List (List ℕ)} → words ≡ P .words → Held R P → Reads (presentation R) (P .n) (P .primes) words
 reads-held {R} {P} same h = subst₂ (λ m (w : List (List ℕ)). Reads (presentation R) m (P .primes) w) (sym (h .count)) (sym same) (h .reads)
 
 module _ {t : Bytes} where

@@ -4,6 +4,7 @@
 --   wide, measurable      n of a sound presentation fits a word, and its primes can be measured
 --   size-order, size-words     what is measured is the order, and the words that a build wants
 --   room-of               so many words have room
+--   task-of, judged-said  what judging a table asks, and its number for the relations
 --   given                 what building the levels asks
 --   table-written         the levels are the table
 --   sized-short, sized-done    16, or the table
@@ -18,13 +19,14 @@ use native.Mathlib.Decide.{decLt}
 use lib.ListN.{length, drop}
 use Rattle.definitions.specs.Lists.{sum}
 use Rattle.definitions.specs.Text.{Bytes}
-use Rattle.definitions.specs.Presentation.{Relations, maxGenerators, maxOrder, lineWords, order, buildWords, presentation}
+use Rattle.definitions.specs.Presentation.{Relations, maxGenerators, maxOrder, maxModulus, lineWords, order, buildWords, presentation}
 use Rattle.definitions.specs.Table.{lineCount}
 use Rattle.definitions.specs.Steps.{tableOf}
-use Rattle.definitions.specs.Answers.{says, presentationRefusals, short, over, Accept, Build}
+use Rattle.definitions.specs.Answers.{says, presentationRefusals, short, judgement, over, Accept, Build}
 use Rattle.definitions.proofs.Refusals.{first-refused, first-behind, accept-unrefused}
 use Rattle.definitions.proofs.Rendering.{says-unique}
 use Rattle.numbers.proofs.Sums.{sum-below}
+use Rattle.group.proofs.Order.{order-positive}
 use Rattle.presentation.specs.declared.Presentation.{Presentation}
 use Rattle.presentation.specs.declared.Outcome.{Outcome}
 use Rattle.rows.specs.Rows.{Reads}
@@ -40,8 +42,11 @@ use Rattle.assembly.specs.Built.{upTo, Small}
 use Rattle.assembly.proofs.Room.{order-le}
 use Rattle.assembly.proofs.Stated.{small, reads-accepted, table-of}
 use Rattle.levels.specs.Given.{Given}
+use Rattle.consistency.proofs.Relations.{reads-ready}
+use Rattle.checker.specs.Judged.{Task, Judged}
 use Rattle.chieftables.specs.Accepted.{Sound, Accepted}
 use Rattle.chieftables.specs.Tabled.{Room, Table, Tabled, Sized}
+use Rattle.chieftables.proofs.Accepted.{reads-held}
 
 pub build-refused : {t : Bytes} {o : Outcome} (before : List ℕ) → Accepted t o → ¬ (o .status ≡ 0) → Build t before (o .status) 0 before
 build-refused {t} {o} before a h = record {
@@ -88,6 +93,30 @@ module _ {R : Relations} {P : Presentation} (S : Sound R P) where
 
     pub room-of : (have : ℕ) → s .words ≤ have → Room R P (s .order) have
     room-of have l = record { sound = S; order-is = size-order; enough = subst (λ x. x ≤ have) size-words l }
+
+    -- ---- Judging a table
+
+    pub task-of : {rows : List (List ℕ)} → rows ≡ P .words → Task A (P .n) (s .order) rows (P .primes)
+    task-of {rows} e =
+        let reads = reads-held e (S .passed .held) in
+        record {
+          gens-are = count-of;
+          modulus = (
+            subst (λ x. 0 < x) (sym size-group) (order-positive (A .C) (A .C .P .n)),
+            subst (λ x. x ≤ maxModulus) (sym size-group) (is-small .low),
+          );
+          ready = reads-ready R (S .passed .formed) (S .passed .primes) (S .passed .used) (P .n) (S .passed .held .count) (P .primes) rows reads (S .passed .fits);
+          reads = subst (λ Q. Reads Q (P .n) (P .primes) rows) (sym same) reads;
+          orders-fit = measurable;
+        }
+      where
+        size-group : s .order ≡ order (A .C .P) (A .C .P .n)
+        size-group = M .order-is ∙ product-is (P .n) (omega arith) ∙ ap (λ Q. order Q (P .n)) (sym same) ∙ ap (order (A .C .P)) count-of
+
+    pub judged-said : {rows : List (List ℕ)} {T : List ℕ} {a : ℕ} → rows ≡ P .words → Judged (P .n) (s .order) rows (P .primes) T a
+        → a ≡ judgement (presentation R) (order (presentation R) (presentation R .n)) T
+    unfolding presentation
+    judged-said {rows} {T} e J = J .is A (task-of e) ∙ ap (λ Q. judgement Q (s .order) T) same ∙ ap (λ m. judgement (presentation R) m T) size-order
 
 -- ---- The levels
 

@@ -1,3 +1,4 @@
 -- Laws behind the public calls.
 pub mod Accepted
 pub mod Built
+pub mod Checked

@@ -1,3 +1,4 @@
 -- What the functions behind the public calls leave.
 pub mod Accepted
 pub mod Tabled
+pub mod Checked

@@ -1,6 +1,7 @@
 // The public calls: in which order the refusals are asked, and what is answered.
 pub mod accept; // accept.rt: whether a presentation text is accepted
 pub mod build; // build.rt: a presentation text to words
+pub mod check; // check.rt: a table for a presentation text
 pub mod counted; // counted.rt: an answer and a count
 pub mod read_table; // read_table.rt: table text to words
 pub mod write_table; // write_table.rt: words to table text

@@ -5,7 +5,6 @@
 --   words-fit, order-exceeds, order-within     the ceiling
 --   entry-high, entry-zero, entry-power, entry-commutator     an exponent, case by case
 --   p-power, p-commutator, pair-stray, pair-row     a line, by its p and its word
---   Tested, tested-none, tested-more, tested-all, tested-fails      a loop of tests
 --   primes-none, primes-more, primes-all      the primes of the first generators
 --   orders-none, orders-more, orders-all, orders-are     the orders of the levels
 use mathlib.Core.Path.{_≡_, refl, sym, ap, ap₂, subst, _∙_}
@@ -20,12 +19,10 @@ use native.Mathlib.Omega.{arith}
 use lib.ListN.{getD, set, replicate, length-set, length-replicate}
 use lib.Seq.{getD-set-same, getD-set-other}
 use lib.Dec.{ltb, leb, eqb}
-use borrow.Author.Count.{below-more}
 use borrow.Author.Tests.{lt-ltb, le-ltb, le-leb, lt-leb, eq-eqb, ne-eqb}
-use Rattle.definitions.specs.Lists.{sum, allBelow}
+use Rattle.definitions.specs.Lists.{sum}
 use Rattle.definitions.specs.Presentation.{maxGenerators, maxOrder, Presentation, order, pairNumber, allowed}
 use Rattle.numbers.proofs.Bools.{cond-eq, cond-ne}
-use Rattle.numbers.proofs.Lists.{allBelow-intro, allBelow-fails}
 use Rattle.numbers.proofs.Sums.{sum-suc}
 use Rattle.conditions.specs.Conditions.{product, entryWell, rowWells, pairWell, Primes}
 use Rattle.conditions.specs.Size.{LevelOrders}
@@ -136,26 +133,6 @@ module _ (words : List (List ℕ)) (ps primes : List ℕ) (n j i r : ℕ) (is : 
 
   pub pair-row : (eqb i j || eqb (getD ps r 0) 0) ≡ true → pairWell words ps primes n j i ≡ rowWells (getD words r []) primes n j i
   pair-row h = tests ∙ ap (λ (b : Bool). b && rowWells (getD words r []) primes n j i) h
-
--- ---- Tests
-
--- a test that the numbers below k have passed
-pub record Tested (q : ℕ → Bool) (k : ℕ) : Type 0 where
-  pub each : (m : ℕ) → m < k → q m ≡ true
-
-module _ {q : ℕ → Bool} where
-  pub tested-none : Tested q 0
-  tested-none = record { each = λ m l. absurd (omega arith) }
-
-  module _ {k : ℕ} (h : Tested q k) where
-    pub tested-more : q k ≡ true → Tested q (k + 1)
-    tested-more w = record { each = below-more (λ m. q m ≡ true) k (h .each) w }
-
-    pub tested-all : {n : ℕ} → n ≤ k → true ≡ allBelow n q
-    tested-all {n} l = sym (allBelow-intro n q (λ m b. h .each m (omega arith)))
-
-    pub tested-fails : {n : ℕ} → k < n → q k ≡ false → false ≡ allBelow n q
-    tested-fails {n} l w = sym (allBelow-fails n q k l w)
 
 -- ---- The primes of the first j generators
 

@@ -1,19 +1,21 @@
--- A test of every block of a representation, as a loop takes it.
+-- A test of every block of a representation, as a loop takes it, and what a whole block says.
 --
 --   Cutting q o        what is left to test from column o on says what the whole test says
 --   cutting-none, cutting-more, cutting-fails, cutting-all      the steps of the loop
 --   cutting-passes     a test that every block passes
+--   block-listed, block-room      a whole block refers to a listed representation, which has room
 use mathlib.Core.Path.{_≡_, refl, sym, _∙_, ap}
 use mathlib.Core.Bool.{Bool, true, false, _&&_, false≢true}
 use mathlib.Core.List.{[], _∷_}
 use Prim.Native.Nat.{ℕ, zero, suc, _+_, _≤_, _<_}
 use native.Mathlib.Omega.{arith}
-use lib.Dec.{ltb}
-use borrow.Author.Tests.{lt-ltb, le-ltb}
+use lib.Dec.{ltb, leb}
+use lib.ListN.{length}
+use borrow.Author.Tests.{lt-ltb, le-ltb, ltb-true, leb-true}
 use Rattle.definitions.specs.Lists.{all}
 use Rattle.definitions.specs.Monomial.{Rep, Level, repOf}
-use Rattle.definitions.specs.Judgement.{cutsFrom, cuts}
-use Rattle.numbers.proofs.Bools.{cond-true, cond-false}
+use Rattle.definitions.specs.Judgement.{cutsFrom, cuts, wholeBlock}
+use Rattle.numbers.proofs.Bools.{and-left, and-right, cond-true, cond-false}
 
 module _ (low : Level) (D : Rep) (q : ℕ → Bool) where
   pub record Cutting (o : ℕ) : Type 0 where
@@ -65,3 +67,22 @@ module _ (low : Level) (D : Rep) (q : ℕ → Bool) where
       go : (b : Bool) → q o ≡ b → q o ≡ true
       go true t = t
       go false t = absurd (false≢true (sym (cutting-fails o C h t) ∙ e))
+
+-- ---- A whole block
+
+module _ (low : Level) (D : Rep) (o : ℕ) (h : wholeBlock low D o ≡ true) where
+  abbrev listed : Bool
+  listed = ltb (D .ref 0 o) (length low)
+
+  abbrev ends : Bool
+  ends = leb (o + repOf low (D .ref 0 o) .deg) (D .deg)
+
+  both : listed && ends ≡ true
+  unfolding wholeBlock
+  both = and-left (listed && ends) _ h
+
+  pub block-listed : D .ref 0 o < length low
+  block-listed = ltb-true (D .ref 0 o) (length low) (and-left listed ends both)
+
+  pub block-room : o + repOf low (D .ref 0 o) .deg ≤ D .deg
+  block-room = leb-true (o + repOf low (D .ref 0 o) .deg) (D .deg) (and-right listed ends both)

@@ -9,7 +9,7 @@
 --   walk-bounded                        a walk that says yes has met such heads
 --   bounded-walks                       such heads are walked to the end
 use mathlib.Core.Path.{_≡_, refl, sym, _∙_, ap, ap₂, subst}
-use mathlib.Core.Bool.{Bool, true, false, _&&_, cond}
+use mathlib.Core.Bool.{Bool, true, false, _&&_, and-false, cond}
 use mathlib.Core.List.{List}
 use Prim.Native.Nat.{ℕ, zero, suc, _+_, _*_, _≤_, _<_}
 use native.Mathlib.Nat.{mul-pos}
@@ -36,10 +36,6 @@ put-same f k x j e = cond-true (eqb j k) x (f j) (eq-eqb j k e)
 put-other : (f : ℕ → ℕ) (k x j : ℕ) → j < k → put f k x j ≡ f j
 unfolding put
 put-other f k x j l = cond-false (eqb j k) x (f j) (ne-eqb j k (λ e. omega arith))
-
-and-false : (a b : Bool) → b ≡ false → a && b ≡ false
-and-false true b h = h
-and-false false b h = refl
 
 -- ---- The test of a representation
 
@@ -305,7 +301,8 @@ module _ (n : ℕ) (T : List ℕ) (ord : ℕ → ℕ) where
       stays : (f : ℕ) → walk f (place k (suc r)) (suc k) (suc r) ≡ true → walk (suc f) (place k r) (suc k) r ≡ true
       unfolding begins
       stays f h =
-          let b : begins T (place k r) (suc k) r ≡ false = and-false (ltb 0 r) _ (ne-eqb (wordAt T (place k r) LEVEL) (suc (suc k)) (λ e. omega (arith, level-is, e))) in
+          let other = ne-eqb (wordAt T (place k r) LEVEL) (suc (suc k)) (λ e. omega (arith, level-is, e)) in
+          let b : begins T (place k r) (suc k) r ≡ false = ap (λ t. ltb 0 r && t) other ∙ and-false (ltb 0 r) in
           let (i, q) = begins-no (place k r) (suc k) r b in
           step (suc k) r f i q h
 

@@ -18,23 +18,20 @@ use Rattle.definitions.specs.Monomial.{Rep, repOf}
 use Rattle.definitions.specs.Table.{REF, wordAt, repAt, levelAt}
 use Rattle.definitions.specs.Judgement.{intertwines, intertwinersHold}
 use Rattle.level.specs.declared.Listed.{Listed}
-use Rattle.level.specs.Stored.{targetIn, Stored}
+use Rattle.level.specs.Stored.{targetIn}
 use Rattle.seek.specs.declared.Scope.{Scope}
 use Rattle.seek.specs.Seek.{Found}
 use Rattle.seek.specs.Formed.{Formed}
-use Rattle.seek.proofs.Stored.{found-stored, found-target}
-use Rattle.relations.specs.Kept.{repIn, Kept, Among}
+use Rattle.seek.specs.Among.{repIn, Among}
+use Rattle.seek.proofs.Stored.{found-target}
+use Rattle.seek.proofs.Among.{formed-stored}
+use Rattle.relations.specs.Kept.{Kept}
 use Rattle.relations.specs.Tests.{carries, allCarriedIn, intertwinesIn, targetedIn, intertwinersIn}
 
 -- ---- A representation of a level
 
 pub formed-kept : {P : Presentation} {s : Scope} {T : List ℕ} (F : Formed P s T) (i r : ℕ) {D : Listed} → Found (s .gens) T i r D → Kept s T D
-formed-kept {P} {s} {T} F i r {D} G = record {
-  few = F .whole .few;
-  modulus = F .modulus .0;
-  stored = subst (λ n. Stored (s .m) n T D) (sym (F .gens-are))
-      (found-stored P (s .m) T (F .formed) (omega (arith, F .modulus .1)) i r D (subst (λ n. Found n T i r D) (F .gens-are) G));
-}
+formed-kept F i r G = record { few = F .whole .few; modulus = F .modulus .0; stored = formed-stored F i r G }
 
 module _ {s : Scope} {T : List ℕ} {i : ℕ} {D : Listed} (A : Among s T i D) where
   pub among-kept : Kept s T D

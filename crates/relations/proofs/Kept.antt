@@ -26,7 +26,8 @@ use Rattle.columns.proofs.Conditions.{power-columns, commutator-columns, intert
 use Rattle.level.specs.declared.Listed.{Listed}
 use Rattle.level.specs.Stored.{entryIn, Below, lineIn, generatorIn, Stored}
 use Rattle.seek.specs.declared.Scope.{Scope}
-use Rattle.relations.specs.Kept.{repIn, Kept}
+use Rattle.seek.specs.Among.{repIn}
+use Rattle.relations.specs.Kept.{Kept}
 use Rattle.relations.specs.Said.{PowerOf, WordOf}
 use Rattle.relations.specs.Tests.{Conjugated, carries, powerAtIn, commutatorAtIn, carriesAtIn, powerIn, commutatorIn, carriesIn}
 

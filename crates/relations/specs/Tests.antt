@@ -22,7 +22,7 @@ use Rattle.columns.specs.Columns.{powerAt, conjugateAt, commutatorAt, intertwin
 use Rattle.level.specs.declared.Listed.{Listed}
 use Rattle.level.specs.Stored.{Below}
 use Rattle.seek.specs.declared.Scope.{Scope}
-use Rattle.relations.specs.Kept.{repIn}
+use Rattle.seek.specs.Among.{repIn}
 use Rattle.relations.specs.Said.{WordOf}
 
 -- X D(j⁻¹ k j) = F(k) X

@@ -1,6 +1,7 @@
 -- The representations of a table, one behind the other and level by level.
 --
 --   formed-stored                where 21 does not apply the lines of a representation hold matrices
+--   among-whole                  and its blocks are whole
 --   PassingOn                    the first r representations of level i pass a test, for every presentation with A
 --   told-found, level-fails, level-holds      the steps of a loop over a level
 --   UpTo                         so do all representations of the first i levels
@@ -11,25 +12,48 @@ use mathlib.Core.List.{List}
 use Prim.Native.Nat.{ℕ, suc, _≤_, _<_}
 use native.Mathlib.Omega.{arith}
 use lib.ListN.{length}
-use Rattle.definitions.specs.Lists.{allBelow}
+use Rattle.definitions.specs.Lists.{allBelow, all}
 use Rattle.definitions.specs.Presentation.{Presentation}
 use Rattle.definitions.specs.Monomial.{Rep, repOf}
 use Rattle.definitions.specs.Table.{levelAt}
-use Rattle.definitions.specs.Judgement.{everywhere}
+use Rattle.definitions.specs.Judgement.{cuts, wholeBlock, matricesValid, blocksWhole, targetsListed, everywhere}
+use Rattle.numbers.proofs.Bools.{and-left, and-right}
 use Rattle.numbers.proofs.Passed.{Passed, passed-all, passed-fails}
 use Rattle.level.specs.declared.Listed.{Listed}
 use Rattle.level.specs.Stored.{Stored}
 use Rattle.seek.specs.declared.Scope.{Scope}
 use Rattle.seek.specs.Seek.{Found}
 use Rattle.seek.specs.Formed.{Formed}
-use Rattle.seek.specs.Among.{repIn, onLevel}
-use Rattle.seek.proofs.Stored.{found-stored}
+use Rattle.seek.specs.Among.{repIn, Among, onLevel}
+use Rattle.seek.proofs.Stored.{found-stored, wellFormed}
 
 pub formed-stored : {P : Presentation} {s : Scope} {T : List ℕ} (F : Formed P s T) (i r : ℕ) {D : Listed} → Found (s .gens) T i r D
     → Stored (s .m) (s .gens) T D
 formed-stored {P} {s} {T} F i r {D} G =
     subst (λ n. Stored (s .m) n T D) (sym (F .gens-are))
     (found-stored P (s .m) T (F .formed) (omega (arith, F .modulus .1)) i r D (subst (λ n. Found n T i r D) (F .gens-are) G))
+
+module _ {s : Scope} {T : List ℕ} {i : ℕ} {D : Listed} (M : Among s T (suc i) D) where
+  abbrev Rp : Rep
+  Rp = repIn T D
+
+  pub among-whole : all (wholeBlock (levelAt (s .gens) T i) (repIn T D)) (cuts (levelAt (s .gens) T i) (repIn T D)) ≡ true
+  among-whole = subst (λ n. all (wholeBlock (levelAt n T i) Rp) (cuts (levelAt n T i) Rp) ≡ true) (sym e) here
+    where
+      e : s .gens ≡ M .P .n
+      e = M .formed .gens-are
+
+      F : Found (M .P .n) T (suc i) (M .r) D
+      F = subst (λ n. Found n T (suc i) (M .r) D) e (M .found)
+
+      here : all (wholeBlock (levelAt (M .P .n) T i) Rp) (cuts (levelAt (M .P .n) T i) Rp) ≡ true
+      here = unfold blocksWhole in (
+          let Q : Presentation = M .P in
+          let X : Rep = repOf (levelAt (Q .n) T (suc i)) (M .r) in
+          let w = wellFormed Q (s .m) T (M .formed .formed) i (F .level .1) (M .r) (F .listed) in
+          let b = and-right (matricesValid Q (s .m) T (suc i) X) (blocksWhole Q (s .m) T (suc i) X) (and-left _ (targetsListed Q (s .m) T (suc i) X) w) in
+          subst (λ (X : Rep). all (wholeBlock (levelAt (Q .n) T i) X) (cuts (levelAt (Q .n) T i) X) ≡ true) (F .rep)
+          (and-left (all (wholeBlock (levelAt (Q .n) T i) X) (cuts (levelAt (Q .n) T i) X)) _ b))
 
 module _ (s : Scope) (T : List ℕ) (A : Presentation → Type 0) (q : Presentation → ℕ → Rep → Bool) where
   -- ---- A level

@@ -4,6 +4,7 @@
 --   wellFormed        what 21 asks of each representation
 --   found-stored      so the lines of a representation are stored, where 21 does not apply
 --   found-target      its intertwiners lead to representations of its level
+--   blocks-whole      its references stand in whole blocks
 use mathlib.Core.Path.{_≡_, sym, _∙_, ap, subst}
 use mathlib.Core.Bool.{Bool, true, false, _&&_, _||_}
 use mathlib.Core.List.{List}
@@ -14,11 +15,11 @@ use lib.Dec.{eqb, ltb, leb}
 use lib.ListN.{length}
 use borrow.Author.Tests.{eqb-true, ltb-true, le-ltb, not-false}
 use Rattle.definitions.specs.declared.Entry.{Entry}
-use Rattle.definitions.specs.Lists.{allBelow, anyBelow}
+use Rattle.definitions.specs.Lists.{allBelow, anyBelow, all}
 use Rattle.definitions.specs.Presentation.{Presentation, lineWords, order}
 use Rattle.definitions.specs.Monomial.{col, valid, Rep, repOf}
 use Rattle.definitions.specs.Table.{REF, wordAt, repAt, levelAt, complete}
-use Rattle.definitions.specs.Judgement.{matricesValid, blocksWhole, targetsListed, malformed}
+use Rattle.definitions.specs.Judgement.{cuts, wholeBlock, matricesValid, blocksWhole, targetsListed, malformed}
 use Rattle.numbers.proofs.Bools.{and-left, and-right}
 use Rattle.numbers.proofs.Lists.{allBelow-elim}
 use Rattle.numbers.proofs.Searches.{anyBelow-elim}
@@ -126,3 +127,11 @@ module _ (P : Presentation) (m : ℕ) (T : List ℕ) (formed : malformed P m T �
       here : wordAt T (D .line + j * D .deg + 0) REF < length (levelAt (P .n) T (suc i))
       here = unfold repAt in
           (subst (λ (X : Rep). X .ref j 0 < length (levelAt (P .n) T (suc i))) (F .rep) (targets-listed i (F .level .1) r (F .listed) j a b))
+
+  pub blocks-whole : (i : ℕ) → i < P .n → (r : ℕ) → r < length (levelAt (P .n) T (suc i))
+      → all (wholeBlock (levelAt (P .n) T i) (repOf (levelAt (P .n) T (suc i)) r)) (cuts (levelAt (P .n) T i) (repOf (levelAt (P .n) T (suc i)) r)) ≡ true
+  unfolding blocksWhole
+  blocks-whole i l r h =
+      let R : Rep = repOf (levelAt (P .n) T (suc i)) r in
+      let v = and-left (matricesValid P m T (suc i) R && blocksWhole P m T (suc i) R) (targetsListed P m T (suc i) R) (wellFormed i l r h) in
+      and-left (all (wholeBlock (levelAt (P .n) T i) R) (cuts (levelAt (P .n) T i) R)) _ (and-right (matricesValid P m T (suc i) R) _ v)

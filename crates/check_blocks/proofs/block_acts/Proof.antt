@@ -4,7 +4,7 @@ use Prim.Native.Nat.{_-_}
 use native.Mathlib.Omega.{arith}
 use borrow.Author.Tests.{not-true, not-false}
 use Rattle.definitions.specs.Lists.{allBelow}
-use Rattle.conditions.proofs.Conditions.{Tested, tested-none, tested-more, tested-all, tested-fails}
+use Rattle.numbers.proofs.Tested.{Tested, tested-none, tested-more, tested-all, tested-fails}
 use Rattle.check_blocks.specs.Blocks.{columnActs}
 use Rattle.check_blocks.proofs.block_acts.Statement.{statement}
 use Rattle.check_blocks.proofs.block_acts.Tie as tie

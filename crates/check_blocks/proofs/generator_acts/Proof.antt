@@ -3,7 +3,7 @@ use mathlib.Core.Path.{sym, _∙_}
 use Prim.Native.Nat.{_-_}
 use native.Mathlib.Omega.{arith}
 use borrow.Author.Tests.{not-true, not-false}
-use Rattle.conditions.proofs.Conditions.{Tested, tested-none, tested-more, tested-all, tested-fails}
+use Rattle.numbers.proofs.Tested.{Tested, tested-none, tested-more, tested-all, tested-fails}
 use Rattle.check_blocks.specs.Blocks.{columnActs}
 use Rattle.check_blocks.proofs.generator_acts.Statement.{statement}
 use Rattle.check_blocks.proofs.generator_acts.Tie as tie

@@ -1,23 +1,29 @@
 -- `blocks_ok` meets its contract: what is left to cut says what all cuts say.
+use mathlib.Core.Path.{sym}
 use Prim.Native.Nat.{_-_}
 use native.Mathlib.Omega.{arith}
 use denote.Ref.{now}
 use Rattle.definitions.specs.Table.{levelAt}
-use Rattle.check_form.specs.Form.{repIn}
-use Rattle.check_form.proofs.Blocks.{Cutting, cutting-none, cutting-more, cutting-inside, cutting-fails, cutting-all}
+use Rattle.definitions.specs.Judgement.{wholeBlock}
+use Rattle.heads.proofs.Cutting.{Cutting, cutting-none, cutting-all}
+use Rattle.check_form.specs.Form.{listedRep}
+use Rattle.check_form.proofs.Blocks.{width-none, width-more, width-inside}
 use Rattle.check_form.proofs.blocks_ok.Statement.{statement}
 use Rattle.check_form.proofs.blocks_ok.Tie as tie
 
 abbrev Inv-loop : tie.InvT-loop
-Inv-loop words s i low d o₀ o = Cutting (levelAt (s .gens) words i) (repIn words d) o
+Inv-loop words s i low d o₀ o =
+    Cutting (levelAt (s .gens) words i) (listedRep words d) (wholeBlock (levelAt (s .gens) words i) (listedRep words d)) o
 
 abbrev μ-loop : tie.MeasureT-loop
 μ-loop words s i low d o₀ o = d .deg - o
 
 loop-holds : tie.Need-loop-holds Inv-loop μ-loop
 loop-holds c =
-    let a = c .before in
-    cutting-none (levelAt (a .args .s .gens) (now (a .args .words)) (a .args .i)) (repIn (now (a .args .words)) (a .args .d))
+    let a = c .before .args in
+    let L = levelAt (a .s .gens) (now (a .words)) (a .i) in
+    let R = listedRep (now (a .words)) (a .d) in
+    cutting-none L R (wholeBlock L R)
 
 block-requires : tie.Need-block-requires Inv-loop μ-loop
 block-requires c κs =
@@ -32,8 +38,8 @@ returns c =
     let if1 = c .before .before .if1 in
     let loop = k .loop in
     let T = now (a .args .words) in
-    cutting-fails (levelAt (a .args .s .gens) T (a .args .i)) (repIn T (a .args .d)) (loop .o) (loop .inv)
-    (if1 .taken) (block .result) (block .ensures) (c .if2 .taken)
+    width-none (levelAt (a .args .s .gens) T (a .args .i)) (listedRep T (a .args .d)) (loop .o) (if1 .taken) (block .result) (block .ensures)
+    (loop .inv) (c .if2 .taken)
 
 add-o : tie.Need-add-o Inv-loop μ-loop
 add-o c =
@@ -43,8 +49,8 @@ add-o c =
     let if1 = c .before .before .if1 in
     let loop = k .loop in
     let T = now (a .args .words) in
-    let h = cutting-inside (levelAt (a .args .s .gens) T (a .args .i)) (repIn T (a .args .d)) (loop .o) (loop .inv)
-    (if1 .taken) (block .result) (block .ensures) (c .if2 .left) in
+    let h = width-inside (levelAt (a .args .s .gens) T (a .args .i)) (listedRep T (a .args .d)) (loop .o) (if1 .taken) (block .result) (block .ensures)
+    (c .if2 .left) in
     omega (arith, h, a .fits, a .good)
 
 loop-less : tie.Need-loop-less Inv-loop μ-loop
@@ -58,15 +64,16 @@ loop-again c =
     let if1 = c .before .before .if1 in
     let loop = k .loop in
     let T = now (a .args .words) in
-    cutting-more (levelAt (a .args .s .gens) T (a .args .i)) (repIn T (a .args .d)) (loop .o) (loop .inv)
-    (if1 .taken) (block .result) (block .ensures) (c .if2 .left)
+    width-more (levelAt (a .args .s .gens) T (a .args .i)) (listedRep T (a .args .d)) (loop .o) (if1 .taken) (block .result) (block .ensures)
+    (c .if2 .left) (loop .inv)
 
 returns-2 : tie.Need-returns-2 Inv-loop μ-loop
 returns-2 c =
-    let a = c .before .before .before .before in
+    let a = c .before .before .before .before .args in
     let loop = c .before .before .loop in
-    let T = now (a .args .words) in
-    cutting-all (levelAt (a .args .s .gens) T (a .args .i)) (repIn T (a .args .d)) (loop .o) (loop .inv) (omega (arith, c .if1 .left))
+    let L = levelAt (a .s .gens) (now (a .words)) (a .i) in
+    let R = listedRep (now (a .words)) (a .d) in
+    sym (cutting-all L R (wholeBlock L R) (loop .o) (loop .inv) (omega (arith, c .if1 .left)))
 
 pub blocks-ok-spec : {M : Type 1} → statement M
 blocks-ok-spec =

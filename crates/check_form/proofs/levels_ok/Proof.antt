@@ -5,7 +5,7 @@ use native.Mathlib.Omega.{arith}
 use borrow.Author.Tests.{not-true, not-false}
 use denote.Ref.{now}
 use native.Mathlib.Numerals.{add-one}
-use Rattle.conditions.proofs.Conditions.{Tested, tested-none, tested-more, tested-all, tested-fails}
+use Rattle.numbers.proofs.Tested.{Tested, tested-none, tested-more, tested-all, tested-fails}
 use Rattle.check_form.specs.Form.{levelOk, Over}
 use Rattle.check_form.proofs.Form.{over-first, over-next}
 use Rattle.check_form.proofs.levels_ok.Statement.{statement}

@@ -4,8 +4,8 @@ use Prim.Native.Nat.{ℕ, _+_, _-_}
 use native.Mathlib.Omega.{arith}
 use borrow.Author.Tests.{not-true, not-false}
 use denote.Ref.{now}
+use Rattle.numbers.proofs.Tested.{Tested, tested-none, tested-more, tested-all, tested-fails}
 use Rattle.heads.specs.Walk.{headIs}
-use Rattle.conditions.proofs.Conditions.{Tested, tested-none, tested-more, tested-all, tested-fails}
 use Rattle.check_heads.proofs.Places.{matrix-is}
 use Rattle.check_heads.proofs.matrix_heads.Statement.{statement}
 use Rattle.check_heads.proofs.matrix_heads.Tie as tie

@@ -3,8 +3,8 @@ use mathlib.Core.Path.{sym, _∙_}
 use Prim.Native.Nat.{ℕ, _-_}
 use native.Mathlib.Omega.{arith}
 use borrow.Author.Tests.{not-true, not-false}
+use Rattle.numbers.proofs.Tested.{Tested, tested-none, tested-more, tested-all, tested-fails}
 use Rattle.heads.specs.Walk.{matrixHeads}
-use Rattle.conditions.proofs.Conditions.{Tested, tested-none, tested-more, tested-all, tested-fails}
 use Rattle.level.proofs.Laws.{matrix-inside}
 use Rattle.check_heads.proofs.rep_heads.Statement.{statement}
 use Rattle.check_heads.proofs.rep_heads.Tie as tie

@@ -3,7 +3,7 @@ use mathlib.Core.Path.{sym, _∙_}
 use Prim.Native.Nat.{ℕ, _+_, _-_}
 use native.Mathlib.Omega.{arith}
 use borrow.Author.Tests.{not-true, not-false}
-use Rattle.conditions.proofs.Conditions.{Tested, tested-none, tested-more, tested-all, tested-fails}
+use Rattle.numbers.proofs.Tested.{Tested, tested-none, tested-more, tested-all, tested-fails}
 use Rattle.level.specs.Stored.{entryIn}
 use Rattle.check_lines.specs.Lines.{entryOk}
 use Rattle.check_lines.proofs.entries_ok.Statement.{statement}

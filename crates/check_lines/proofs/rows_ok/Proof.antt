@@ -3,7 +3,7 @@ use mathlib.Core.Path.{sym, _∙_}
 use Prim.Native.Nat.{_-_}
 use native.Mathlib.Omega.{arith}
 use borrow.Author.Tests.{not-true, not-false}
-use Rattle.conditions.proofs.Conditions.{Tested, tested-none, tested-more, tested-all, tested-fails}
+use Rattle.numbers.proofs.Tested.{Tested, tested-none, tested-more, tested-all, tested-fails}
 use Rattle.check_lines.specs.Lines.{hasRow}
 use Rattle.check_lines.proofs.rows_ok.Statement.{statement}
 use Rattle.check_lines.proofs.rows_ok.Tie as tie

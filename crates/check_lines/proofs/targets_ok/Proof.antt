@@ -5,7 +5,7 @@ use native.Mathlib.Omega.{arith}
 use lib.Dec.{ltb}
 use borrow.Author.Tests.{not-true, not-false}
 use denote.Ref.{now}
-use Rattle.conditions.proofs.Conditions.{Tested, tested-more, tested-all, tested-fails}
+use Rattle.numbers.proofs.Tested.{Tested, tested-more, tested-all, tested-fails}
 use mathlib.Core.Bool.{_||_}
 use Rattle.level.proofs.Laws.{matrix-inside}
 use Rattle.check_lines.specs.Lines.{targetOk}

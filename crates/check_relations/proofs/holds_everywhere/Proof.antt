@@ -4,13 +4,14 @@ use native.Mathlib.Omega.{arith}
 use borrow.Author.Tests.{not-true, not-false}
 use denote.Ref.{now}
 use Rattle.numbers.proofs.Passed.{passed-none, passed-more}
+use Rattle.seek.proofs.Among.{UpTo, table-fails, table-holds}
 use Rattle.check_relations.specs.Asked.{asked}
-use Rattle.check_relations.proofs.Everywhere.{PassingUpTo, level-told, table-fails, table-holds}
+use Rattle.check_relations.proofs.Everywhere.{Posing, asks, level-told}
 use Rattle.check_relations.proofs.holds_everywhere.Statement.{statement}
 use Rattle.check_relations.proofs.holds_everywhere.Tie as tie
 
 abbrev Inv-loop : tie.InvT-loop
-Inv-loop words rows primes s q gens i₀ i = PassingUpTo (asked q) s rows primes words i
+Inv-loop words rows primes s q gens i₀ i = UpTo s words (Posing s rows primes words) (asks (asked q) s words) i
 
 abbrev μ-loop : tie.MeasureT-loop
 μ-loop words rows primes s q gens i₀ i = gens - i
@@ -29,8 +30,11 @@ returns c =
     let l = c .before .before .before in
     let a = l .before .before .args in
     let t = c .before .holds-on in
-    table-fails (asked (a .q)) (a .s) (now (a .rows)) (now (a .primes)) (now (a .words)) (l .loop .inv) (omega arith) (t .ensures)
-    (not-true (t .result) (c .if1 .taken))
+    let T = now (a .words) in
+    let A = Posing (a .s) (now (a .rows)) (now (a .primes)) T in
+    let told = level-told (asked (a .q)) (a .s) (now (a .rows)) (now (a .primes)) T (l .loop .i) (t .ensures) in
+    let no = not-true (t .result) (c .if1 .taken) in
+    record { is = table-fails (a .s) T A (asks (asked (a .q)) (a .s) T) (a .s .m) (λ P p. p .formed .gens-are) (l .loop .inv) (omega arith) told no }
 
 add-i : tie.Need-add-i Inv-loop μ-loop
 add-i c = omega arith
@@ -50,7 +54,9 @@ returns-2 : tie.Need-returns-2 Inv-loop μ-loop
 returns-2 c =
     let l = c .before in
     let a = l .before .before .args in
-    table-holds (asked (a .q)) (a .s) (now (a .rows)) (now (a .primes)) (now (a .words)) (l .loop .inv) (omega arith)
+    let T = now (a .words) in
+    let A = Posing (a .s) (now (a .rows)) (now (a .primes)) T in
+    record { is = table-holds (a .s) T A (asks (asked (a .q)) (a .s) T) (a .s .m) (λ P p. p .formed .gens-are) (l .loop .inv) (omega arith) }
 
 pub holds-everywhere-spec : {M : Type 1} → statement M
 holds-everywhere-spec =

@@ -10,13 +10,15 @@ use Rattle.definitions.specs.Table.{levelAt}
 use Rattle.numbers.proofs.Passed.{passed-none, passed-more}
 use Rattle.seek.specs.Seek.{Found}
 use Rattle.seek.proofs.Seek.{whole-some}
+use Rattle.seek.proofs.Among.{PassingOn, told-found, level-fails, level-holds}
 use Rattle.check_relations.specs.Asked.{asked}
-use Rattle.check_relations.proofs.Everywhere.{PassingOn, found-told, level-fails, level-holds}
+use Rattle.check_relations.proofs.Everywhere.{Posing, asks}
 use Rattle.check_relations.proofs.holds_on.Statement.{statement}
 use Rattle.check_relations.proofs.holds_on.Tie as tie
 
 abbrev Inv-loop : tie.InvT-loop
-Inv-loop words rows primes s q i reps d₀ r₀ d r = Found (s .gens) words i r d × PassingOn (asked q) s rows primes words i r
+Inv-loop words rows primes s q i reps d₀ r₀ d r =
+    Found (s .gens) words i r d × PassingOn s words (Posing s rows primes words) (asks (asked q) s words) i r
 
 abbrev μ-loop : tie.MeasureT-loop
 μ-loop words rows primes s q i reps d₀ r₀ d r = length (levelAt (s .gens) words i) - r
@@ -45,7 +47,9 @@ returns c =
     let a = l .before .before .before .before .args in
     let t = c .before .holds in
     let (F, passed) = l .loop .inv in
-    level-fails (asked (a .q)) (a .s) (now (a .rows)) (now (a .primes)) (now (a .words)) (a .i) passed F (t .ensures) (not-true (t .result) (c .if1 .taken))
+    let T = now (a .words) in
+    let A = Posing (a .s) (now (a .rows)) (now (a .primes)) T in
+    record { is = level-fails (a .s) T A (asks (asked (a .q)) (a .s) T) (a .i) passed F (t .ensures .is) (not-true (t .result) (c .if1 .taken)) }
 
 add-r : tie.Need-add-r Inv-loop μ-loop
 add-r c =
@@ -61,9 +65,10 @@ returns-2 c =
     let t = o .before .holds in
     let (F, passed) = l .loop .inv in
     let n = l .before .before .count-of .ensures in
-    let told = found-told (asked (a .q)) (a .s) (now (a .rows)) (now (a .primes)) T (a .i) F (t .ensures) in
-    level-holds (asked (a .q)) (a .s) (now (a .rows)) (now (a .primes)) T (a .i) (passed-more passed told (not-false (t .result) (o .if1 .left)))
-    (omega (arith, c .if2 .taken, n))
+    let A = Posing (a .s) (now (a .rows)) (now (a .primes)) T in
+    let told = told-found (a .s) T A (asks (asked (a .q)) (a .s) T) (a .i) F (t .ensures .is) in
+    let more = passed-more passed told (not-false (t .result) (o .if1 .left)) in
+    record { is = level-holds (a .s) T A (asks (asked (a .q)) (a .s) T) (a .i) more (omega (arith, c .if2 .taken, n)) }
 
 following-requires : tie.Need-following-requires Inv-loop μ-loop
 following-requires c κs =
@@ -87,7 +92,8 @@ loop-again c =
     let (F, passed) = l .loop .inv in
     let n = l .before .before .count-of .ensures in
     let next = c .following .ensures (a .i) r F (omega (arith, F .listed, c .before .if2 .left, n)) in
-    let told = found-told (asked (a .q)) (a .s) (now (a .rows)) (now (a .primes)) T (a .i) F (t .ensures) in (
+    let A = Posing (a .s) (now (a .rows)) (now (a .primes)) T in
+    let told = told-found (a .s) T A (asks (asked (a .q)) (a .s) T) (a .i) F (t .ensures .is) in (
       subst (λ r. Found (a .s .gens) T (a .i) r (c .following .result)) (sym (add-one r)) next,
       passed-more passed told (not-false (t .result) (o .if1 .left)),
     )

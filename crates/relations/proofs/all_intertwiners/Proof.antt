@@ -21,7 +21,7 @@ abbrev μ-loop : tie.MeasureT-loop
 loop-holds : tie.Need-loop-holds Inv-loop μ-loop
 loop-holds c =
     let a = c .before .args in
-    (omega arith, record { each = λ P S. before-level (a .s) (now (a .words)) (a .d) P (a .i) })
+    (omega arith, record { tested = λ P S. record { each = before-level (a .s) (now (a .words)) (a .d) P (a .i) } })
 
 intertwiner-requires : tie.Need-intertwiner-requires Inv-loop μ-loop
 intertwiner-requires c κs = search needs

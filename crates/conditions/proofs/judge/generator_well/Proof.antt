@@ -3,8 +3,8 @@ use mathlib.Core.Path.{sym, _∙_}
 use Prim.Native.Nat.{suc, _-_}
 use native.Mathlib.Omega.{arith}
 use borrow.Author.Tests.{not-true, not-false}
+use Rattle.numbers.proofs.Tested.{Tested, tested-none, tested-more, tested-all, tested-fails}
 use Rattle.conditions.specs.Conditions.{pairWell}
-use Rattle.conditions.proofs.Conditions.{Tested, tested-none, tested-more, tested-all, tested-fails}
 use Rattle.conditions.proofs.judge.generator_well.Statement.{statement}
 use Rattle.conditions.proofs.judge.generator_well.Tie as tie
 
@@ -22,7 +22,8 @@ pair-well-requires c κs = omega arith
 
 returns : tie.Need-returns Inv-loop μ-loop
 returns c =
-    tested-fails (c .before .before .before .loop .inv) (omega arith) (sym (c .before .pair-well .ensures) ∙ not-true (c .before .pair-well .result) (c .if1 .taken))
+    let t = c .before .pair-well in
+    tested-fails (c .before .before .before .loop .inv) (omega arith) (sym (t .ensures) ∙ not-true (t .result) (c .if1 .taken))
 
 add-i : tie.Need-add-i Inv-loop μ-loop
 add-i c = omega arith
@@ -32,7 +33,8 @@ loop-less c = omega arith
 
 loop-again : tie.Need-loop-again Inv-loop μ-loop
 loop-again c =
-    tested-more (c .before .before .before .loop .inv) (sym (c .before .pair-well .ensures) ∙ not-false (c .before .pair-well .result) (c .if1 .left))
+    let t = c .before .pair-well in
+    tested-more (c .before .before .before .loop .inv) (sym (t .ensures) ∙ not-false (t .result) (c .if1 .left))
 
 returns-2 : tie.Need-returns-2 Inv-loop μ-loop
 returns-2 c = tested-all (c .before .loop .inv) (omega arith)

@@ -4,8 +4,8 @@ use Prim.Native.Nat.{_-_}
 use native.Mathlib.Omega.{arith}
 use lib.ListN.{getD}
 use borrow.Author.Tests.{not-true, not-false}
+use Rattle.numbers.proofs.Tested.{Tested, tested-none, tested-more, tested-all, tested-fails}
 use Rattle.conditions.specs.Conditions.{entryWell, rowWells}
-use Rattle.conditions.proofs.Conditions.{Tested, tested-none, tested-more, tested-all, tested-fails}
 use Rattle.conditions.proofs.judge.row_well.Statement.{statement}
 use Rattle.conditions.proofs.judge.row_well.Tie as tie
 
@@ -36,7 +36,8 @@ entry-well-requires c κs = tt
 returns : tie.Need-returns Inv-loop μ-loop
 unfolding rowWells
 returns c =
-    tested-fails (c .before .before .before .before .before .loop .inv) (omega arith) (sym (c .before .entry-well .ensures) ∙ not-true (c .before .entry-well .result) (c .if1 .taken))
+    let t = c .before .entry-well in
+    tested-fails (c .before .before .before .before .before .loop .inv) (omega arith) (sym (t .ensures) ∙ not-true (t .result) (c .if1 .taken))
 
 add-k : tie.Need-add-k Inv-loop μ-loop
 add-k c = omega arith
@@ -46,7 +47,8 @@ loop-less c = omega arith
 
 loop-again : tie.Need-loop-again Inv-loop μ-loop
 loop-again c =
-    tested-more (c .before .before .before .before .before .loop .inv) (sym (c .before .entry-well .ensures) ∙ not-false (c .before .entry-well .result) (c .if1 .left))
+    let t = c .before .entry-well in
+    tested-more (c .before .before .before .before .before .loop .inv) (sym (t .ensures) ∙ not-false (t .result) (c .if1 .left))
 
 returns-2 : tie.Need-returns-2 Inv-loop μ-loop
 unfolding rowWells

@@ -4,8 +4,8 @@ use Prim.Native.Nat.{suc, _-_}
 use native.Mathlib.Omega.{arith}
 use borrow.Author.Tests.{not-true, not-false}
 use Rattle.definitions.specs.Lists.{allBelow}
+use Rattle.numbers.proofs.Tested.{Tested, tested-none, tested-more, tested-all, tested-fails}
 use Rattle.conditions.specs.Conditions.{pairWell}
-use Rattle.conditions.proofs.Conditions.{Tested, tested-none, tested-more, tested-all, tested-fails}
 use Rattle.conditions.proofs.judge.well.Statement.{statement}
 use Rattle.conditions.proofs.judge.well.Tie as tie
 
@@ -23,7 +23,8 @@ generator-well-requires c κs = omega arith
 
 returns : tie.Need-returns Inv-loop μ-loop
 returns c =
-    tested-fails (c .before .before .before .loop .inv) (omega arith) (sym (c .before .generator-well .ensures) ∙ not-true (c .before .generator-well .result) (c .if1 .taken))
+    let t = c .before .generator-well in
+    tested-fails (c .before .before .before .loop .inv) (omega arith) (sym (t .ensures) ∙ not-true (t .result) (c .if1 .taken))
 
 add-j : tie.Need-add-j Inv-loop μ-loop
 add-j c = omega arith
@@ -33,7 +34,8 @@ loop-less c = omega arith
 
 loop-again : tie.Need-loop-again Inv-loop μ-loop
 loop-again c =
-    tested-more (c .before .before .before .loop .inv) (sym (c .before .generator-well .ensures) ∙ not-false (c .before .generator-well .result) (c .if1 .left))
+    let t = c .before .generator-well in
+    tested-more (c .before .before .before .loop .inv) (sym (t .ensures) ∙ not-false (t .result) (c .if1 .left))
 
 returns-2 : tie.Need-returns-2 Inv-loop μ-loop
 returns-2 c = tested-all (c .before .loop .inv) (omega arith)

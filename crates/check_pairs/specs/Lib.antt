@@ -1,0 +1,2 @@
+-- What is asked of pairs of representations in lines.
+pub mod Pairs

@@ -1,0 +1,2 @@
+-- From the answers of the phases to the judgement.
+pub mod Phases

@@ -1,0 +1,2 @@
+-- What judging a table asks and answers.
+pub mod Judged
