@@ -7,6 +7,8 @@
 --   none-front, none-back      none of a list and what stands behind it: none of either
 --   first-refused         a refusal is one of every call whose refusals begin so
 --   first-behind          where none of them applies, such a call answers by what stands behind
+--   first-rest            and its answer is theirs
+--   first-same            conditions that apply alike have the same first
 --   refusal-numbers       the numbers of each list, in the order in which they are tried
 --   first-tests           conditions that are decided by tests: the first is that of the tests
 --   unsaid                a test that no relations said by a text meet
@@ -85,6 +87,17 @@ module _ (more : List (ℕ × Type 0)) (a : ℕ) where
   pub first-behind : (cs : List (ℕ × Type 0)) → None cs → First more a → First (cs ++ more) a
   first-behind [] h g = g
   first-behind (c ∷ cs) h g = inr (h .0, first-behind cs (h .1) g)
+
+  pub first-rest : (cs : List (ℕ × Type 0)) → None cs → First (cs ++ more) a → First more a
+  first-rest [] h f = f
+  first-rest (c ∷ cs) h (inl f) = absurd (h .0 (f .0))
+  first-rest (c ∷ cs) h (inr f) = first-rest cs (h .1) (f .1)
+
+module _ {X : Type 0} (C D : X → Type 0) (to : (x : X) → C x → D x) (from : (x : X) → D x → C x) (a : ℕ) where
+  pub first-same : (qs : List (ℕ × X)) → First (map (λ (q : ℕ × X). (q .0, C (q .1))) qs) a → First (map (λ (q : ℕ × X). (q .0, D (q .1))) qs) a
+  first-same [] f = f
+  first-same (q ∷ qs) (inl f) = inl (to (q .1) (f .0), f .1)
+  first-same (q ∷ qs) (inr f) = inr (λ d. f .0 (from (q .1) d), first-same qs (f .1))
 
 -- ---- Conditions that compute
 

@@ -1,10 +1,11 @@
--- One input has at most one result, for each of the five calls: answer, count and the caller's whole buffer. (That there
+-- One input has at most one result, for each of the five calls and for the program repcheck: answer, count and the caller's whole buffer. (That there
 -- is a result is what the proved functions show.)
 --
 --   leaves-unique, call-unique what a call leaves; its answer and what it leaves
 --   words-of-rows              the words of whole lines are those of their rows
 --   table-says-unique          a table text is that of one table
 --   accept-unique, build-unique, check-unique, read-unique, write-unique      the calls
+--   repcheck-unique            what repcheck answers to the bytes of its files
 use mathlib.Core.Path.{_≡_, refl, sym, _∙_, ap}
 use mathlib.Core.Bool.{true}
 use mathlib.Core.List.{List, [], _∷_, _++_, map, append-nil, append-assoc}
@@ -22,6 +23,7 @@ use Rattle.definitions.specs.Presentation.{lineWords, order, presentatio
 use Rattle.definitions.specs.Table.{lineCount, tableNames, rowsOf, tableText, writable}
 use Rattle.definitions.specs.Steps.{tableOf}
 use Rattle.definitions.specs.Answers.{First, says, presentationRefusals, buildRefusals, checkRefusals, readRefusals, writeRefusals, TableSays, over, Leaves, Accept, Build, Check, ReadTable, WriteTable}
+use Rattle.definitions.specs.Programs.{repcheckRefusals, Repcheck}
 use Rattle.definitions.proofs.Refusals.{first-unique}
 use Rattle.definitions.proofs.Rendering.{Plain, Fields, and-left, render-injective, says-unique}
 
@@ -135,3 +137,8 @@ pub write-unique : (T : List ℕ) (before : Bytes) (a a′ k k′ : ℕ) (w w′
 write-unique T before a a′ k k′ w w′ p q =
     call-unique (λ k k′ w w′ x y. (x .0 ∙ sym (y .0), x .1 ∙ sym (y .1))) (writeRefusals T (length before))
     (p .answered) (q .answered) (p .leaves) (q .leaves)
+
+-- ---- Programs
+
+pub repcheck-unique : (g t : Bytes) (a a′ : ℕ) → Repcheck g t a → Repcheck g t a′ → a ≡ a′
+repcheck-unique g t a a′ = first-unique (repcheckRefusals g t) a a′

@@ -11,8 +11,7 @@ use mathlib.Core.List.{List}
 use Prim.Native.Nat.{ℕ, _*_, _≤_, _<_}
 use native.Mathlib.Nat.{div-add-mod'}
 use native.Mathlib.Omega.{arith}
-use lib.ListN.{length, take, drop, length-append}
-use lib.Seq.{take-append-seam}
+use lib.ListN.{length, take}
 use Rattle.io.specs.Counts.{Counts}
 use Rattle.io.proofs.Counting.{counts}
 use Rattle.definitions.specs.Text.{Bytes}
@@ -21,18 +20,10 @@ use Rattle.definitions.specs.Table.{lineCount, tableText}
 use Rattle.definitions.specs.Steps.{tableOf}
 use Rattle.definitions.specs.Answers.{First, buildRefusals, over, Build, WriteTable}
 use Rattle.clifford.proofs.Calls.{left-behind}
+use Rattle.table.proofs.Calls.{over-within, over-take}
 use Rattle.definitions.specs.Programs.{lentWords, groupBytes, Reptable}
 use Rattle.reptable.specs.Tabulated.{room, Tabulated}
 use Rattle.reptable.proofs.Finished.{accepts, never-refused}
-
--- what is written over a buffer is no longer than the buffer after it
-over-within : (before s : List ℕ) → length s ≤ length (over before s)
-unfolding over
-over-within before s = omega (arith, length-append s (drop (length s) before))
-
-over-take : (before s : List ℕ) → take (length s) (over before s) ≡ s
-unfolding over
-over-take before s = take-append-seam s (drop (length s) before)
 
 pub lines-within : {t : Bytes} {before after : List ℕ} {answer count : ℕ} → answer ≡ 0 → Build t before answer count after → 8 * count ≤ length after
 unfolding lineCount lineWords

@@ -3,6 +3,7 @@
 --   accepts             none of 11 to 15 applies to the text
 --   enough              the build wants no more words than are lent
 --   table-writable      the table can be written
+--   table-lent          its words are no more than are lent
 --   table-room          its text is no longer than the room
 --   never-refused       so writing it is never refused
 use mathlib.Core.Path.{_≡_, refl, sym, ap, _∙_, subst}
@@ -39,7 +40,7 @@ module _ {t : Bytes} (f : First (buildRefusals t lentWords) 0) (R : Relations) (
       subst (λ P. small (tableOf P) ≡ true) (accepted-is R (s .formed) (said.primes t U R s) (said.words-used t U R s) (said.consistent t U R s))
       (table-small _ (stated.small R (s .formed) (said.primes t U R s) (said.words-used t U R s) (said.consistent t U R s) (said.fits t U R s)))
 
-  table-writable : writable (tableOf (presentation R)) ≡ true
+  pub table-writable : writable (tableOf (presentation R)) ≡ true
   unfolding lineWords
   table-writable = let (k, e) = table-words R (s .formed) (said.primes t U R s) (said.words-used t U R s) (said.consistent t U R s) in writable-whole (tableOf (presentation R)) (omega arith) words-small
 
@@ -49,13 +50,18 @@ module _ {t : Bytes} (f : First (buildRefusals t lentWords) 0) (R : Relations) (
       let few : ¬ (lentWords < buildWords (presentation R)) = λ l. none .0 (R, s, l) in
       omega arith
 
+  pub table-lent : length (tableOf (presentation R)) ≤ lentWords
+  table-lent =
+      let words = stated.room-of R (s .formed) (said.primes t U R s) (said.words-used t U R s) (said.consistent t U R s) (accepted R (s .formed) (said.primes t U R s) (said.words-used t U R s) (said.consistent t U R s) .C .P .n) (omega arith) in
+      let all = ap length (stated.table-of R (s .formed) (said.primes t U R s) (said.words-used t U R s) (said.consistent t U R s)) in
+      let most = enough in
+      omega arith
+
   table-room : length (tableText (tableOf (presentation R))) ≤ room
   unfolding lineCount lineWords
   table-room =
       let bytes = text-length (tableOf (presentation R)) table-writable in
-      let words = stated.room-of R (s .formed) (said.primes t U R s) (said.words-used t U R s) (said.consistent t U R s) (accepted R (s .formed) (said.primes t U R s) (said.words-used t U R s) (said.consistent t U R s) .C .P .n) (omega arith) in
-      let all = ap length (stated.table-of R (s .formed) (said.primes t U R s) (said.words-used t U R s) (said.consistent t U R s)) in
-      let most = enough in
+      let words = table-lent in
       omega arith
 
   pub never-refused : {have answer : ℕ} → room ≤ have → First (writeRefusals (tableOf (presentation R)) have) answer → answer ≡ 0

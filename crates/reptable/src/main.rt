@@ -48,41 +48,22 @@ fn tabulate_file(bytes: &[u8], out: &mut [u8]) -> Counted
     tabulate(bytes, out)
 }
 
-fn print_answer(number: u32) {
-    io::write_all(STDOUT_FILENO, b"answer\n");
-    io::print_decimal(STDOUT_FILENO, number as u64);
-    io::write_all(STDOUT_FILENO, b"\n");
-}
-
 // Prints the table that the bytes of a file ask for, or the answer of a refusal.
 fn print_table(bytes: &[u8]) {
     let mut out = [0u8; ROOM];
     let written = tabulate_file(bytes, &mut out);
     let number = written.answer;
     if number != 0 {
-        print_answer(number);
+        program::print_answer(number);
         return;
     }
     let count = written.count;
     io::write_all(STDOUT_FILENO, &out[..count]);
 }
 
-// Reads the start of group.txt, and answers how many bytes came: none from a file that is missing or cannot be read.
-fn read_group(text: &mut [u8]) -> usize
-    ensures { λ r. ⌜ Counts r (now (text .exit)) ⌝ }
-{
-    let fd = os::open_read(b"group.txt");
-    if fd < 0 {
-        return 0;
-    }
-    let count = io::read_full(fd, text);
-    libc::close(fd);
-    count
-}
-
 // One byte more is read than a text may have, so that a longer file is seen.
 fn main() {
     let mut text = [0u8; TEXT + 1];
-    let count = read_group(&mut text);
+    let count = program::read_file(b"group.txt", &mut text);
     print_table(&text[..count]);
 }

@@ -1,28 +1,32 @@
 -- Laws of the two calls.
 --
 --   writable-parts, writable-whole     what `writable` asks
+--   over-within, over-take    what was written over a buffer stands at its start
+--   says-lines                a table text says whole lines
+--   said-first                the tests of the words that a table text says, as tests of the text
 --   says-starts, says-form, form-says  a table text: its names line, and its words to the end
 --   starts-within             a text that starts with the names line is as long as that
 --   Short, Long, short, long  whether the words are room for the lines, by what `enough` answers
 --   read-room, read-short, read-unstarted, read-unformed, read-done     the answers of the reader
 --   write-part, write-large, write-short, write-done     the answers of the writer
 --   written-read, write-then-read, read-then-write       there and back
-use mathlib.Core.Path.{_≡_, refl, sym, ap, ap₂, _∙_}
+use mathlib.Core.Path.{_≡_, refl, sym, ap, ap₂, _∙_, subst}
 use mathlib.Core.Logic.{inl, inr}
 use mathlib.Core.Bool.{Bool, true, false, not, true≢false, not-eq-not}
 use mathlib.Core.List.{List, _++_}
 use Prim.Native.Nat.{ℕ, _+_, _*_, _-_, _/_, _%_, _<_, _≤_}
 use native.Mathlib.Nat.{div-add-mod'}
 use native.Mathlib.Omega.{arith}
-use lib.ListN.{length, take, drop}
+use lib.ListN.{length, take, drop, length-append}
 use lib.Seq.{take-append-seam}
 use lib.Dec.{eqb, ltb, leb}
 use borrow.Author.Tests.{eqb-true, eq-eqb, ltb-true, ltb-false, leb-false, not-true, not-false}
 use Rattle.definitions.specs.Text.{Bytes, small}
-use Rattle.definitions.specs.Presentation.{lineWords}
+use Rattle.definitions.specs.Presentation.{lineWords, Presentation, order, presentation}
 use Rattle.definitions.specs.Table.{lineCount, tableText, writable}
-use Rattle.definitions.specs.Answers.{newlines, over, TableSays, writeRefusals, ReadTable, WriteTable}
-use Rattle.definitions.proofs.Refusals.{first-none}
+use Rattle.definitions.specs.Answers.{First, says, judgements, tableRefusals, newlines, over, TableSays, writeRefusals, ReadTable, WriteTable}
+use Rattle.definitions.specs.Programs.{saidTest, saidRefusals}
+use Rattle.definitions.proofs.Refusals.{first-none, first-same}
 use Rattle.definitions.proofs.Unique.{table-says-unique}
 use Rattle.numbers.proofs.Bools.{and-left, and-right, and-intro}
 use Rattle.text.specs.Reading.{StartsAt}
@@ -30,6 +34,16 @@ use Rattle.text.specs.Writing.{put, Wrote}
 use Rattle.text.proofs.Writing.{wrote-more, wrote-as}
 use Rattle.table.specs.Pieces.{pieces, FormLine, Filled}
 use Rattle.table.proofs.Pieces.{names, tableText-pieces, newlines-table}
+
+-- ---- Buffers that were written over
+
+pub over-within : (before s : List ℕ) → length s ≤ length (over before s)
+unfolding over
+over-within before s = omega (arith, length-append s (drop (length s) before))
+
+pub over-take : (before s : List ℕ) → take (length s) (over before s) ≡ s
+unfolding over
+over-take before s = take-append-seam s (drop (length s) before)
 
 -- ---- Texts in the form
 
@@ -41,6 +55,20 @@ writable-parts T h =
 pub writable-whole : (T : List ℕ) → length T % lineWords ≡ 0 → small T ≡ true → writable T ≡ true
 unfolding writable
 writable-whole T a b = and-intro (eqb (length T % lineWords) 0) (small T) (eq-eqb (length T % lineWords) 0 a) b
+
+pub says-lines : {t : Bytes} {T : List ℕ} → TableSays t T → 8 * lineCount T ≡ length T
+unfolding lineCount lineWords
+says-lines {T = T} h = omega (arith, div-add-mod' (length T) 8, writable-parts T (h .formed) .0)
+
+-- the check of the words asks no other tests than the program repcheck does of the text
+pub said-first : {g t : Bytes} {T : List ℕ} {a : ℕ} → TableSays t T → First (tableRefusals g (λ P. order P (P .n)) T) a → First (saidRefusals g t) a
+said-first {g} {t} {T} {a} h f = first-same (λ q. Tests q T) (saidTest g t) (λ q x. (T, h, x)) from a judgements f
+  where
+    Tests : (Presentation → ℕ → List ℕ → Bool) → List ℕ → Type 0
+    Tests q T = says g (λ R. let P = presentation R in q P (order P (P .n)) T ≡ true)
+
+    from : (q : Presentation → ℕ → List ℕ → Bool) → saidTest g t q → Tests q T
+    from q (T′, h′, x) = subst (Tests q) (table-says-unique t T′ T h′ h) x
 
 -- the text is the names line and the words
 says-text : {t : Bytes} {T : List ℕ} → TableSays t T → t ≡ names ++ pieces 0 T
@@ -165,12 +193,11 @@ module _ (T : List ℕ) (before : Bytes) where
 
 -- what is written of a table says that table
 pub written-read : (T : List ℕ) (before : Bytes) (k : ℕ) (after : Bytes) → WriteTable T before 0 k after → TableSays (take k after) T
-unfolding over
 written-read T before k after h =
     let f = h .leaves .finished refl in
     record {
       formed = not-eq-not .0 (first-none (writeRefusals T (length before)) refl (h .answered) .0);
-      written = ap₂ take (f .0) (f .1) ∙ take-append-seam (tableText T) (drop (length (tableText T)) before);
+      written = ap₂ take (f .0) (f .1) ∙ over-take before (tableText T);
     }
 
 -- the words of a table that was written are read back, whatever buffer they are read into
@@ -184,12 +211,12 @@ write-then-read T out k written before m after w r =
 -- the text of a table that was read is written back from the words that it was read into
 pub read-then-write : (t : Bytes) (before : List ℕ) (m : ℕ) (after : List ℕ) (out : Bytes) (k : ℕ) (written : Bytes)
     → ReadTable t before 0 m after → WriteTable (take (lineWords * m) after) out 0 k written → (k ≡ length t) × (written ≡ over out t)
-unfolding over lineCount lineWords
+unfolding over lineWords
 read-then-write t before m after out k written r w =
     let f = r .leaves .finished refl in
     let T = f .0 in
-    let n : 8 * m ≡ length T = omega (arith, f .2, div-add-mod' (length T) 8, writable-parts T (f .1 .formed) .0) in
-    let q : take (8 * m) after ≡ T = ap₂ take n (f .3) ∙ take-append-seam T (drop (length T) before) in
+    let n : 8 * m ≡ length T = omega (arith, f .2, says-lines (f .1)) in
+    let q : take (8 * m) after ≡ T = ap₂ take n (f .3) ∙ over-take before T in
     let e : tableText (take (8 * m) after) ≡ t = ap tableText q ∙ sym (f .1 .written) in
     let g = w .leaves .finished refl in
     (g .0 ∙ ap length e, g .1 ∙ ap (λ (x : Bytes). x ++ drop (length x) out) e)
