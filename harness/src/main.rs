@@ -1,9 +1,10 @@
-//! Calls the static library: answers presentation texts, builds their tables, writes and reads table texts, and measures
-//! how long that takes.
+//! Calls the static library: answers presentation texts, builds and checks their tables, writes and reads table texts, and
+//! measures how long that takes.
 //!
 //!     harness answers FILE..    the answer to each text
 //!     harness times FILE..      the answer, and the time of a call in microseconds: of the text, and of reading it alone
 //!     harness builds FILE..     the answer, the lines of the table, and the time of a call, beside that of a plain copy
+//!     harness checks FILE..     the answer to the table that is built, and the time of its check beside that of its build
 //!     harness tables LINES..    so many lines written as table text and read back: the bytes, and the median times
 //!
 //! Build: `rustc -O harness/src/main.rs -L native=target/staticlib -l static=chieftables -o target/harness`
@@ -23,6 +24,9 @@ extern "C" {
 
     /// Writes `length` words as table text into `room` bytes from `out` on: the answer, and the count of bytes.
     fn chieftables_write_table(words: *const u32, length: usize, out: *mut u8, room: usize) -> Counted;
+
+    /// The number that a presentation text, or `count` words from `words` on as its table, are refused with, or 0.
+    fn chieftables_check(text: *const u8, length: usize, words: *const u32, count: usize) -> u32;
 }
 
 /// An answer, and a count of lines or bytes.
@@ -50,6 +54,11 @@ fn write_table(words: &[u32], out: &mut [u8]) -> Counted {
 fn accept(text: &[u8]) -> u32 {
     // the library reads no byte outside the slice: that is proved of it
     unsafe { chieftables_accept(text.as_ptr(), text.len()) }
+}
+
+fn check(text: &[u8], words: &[u32]) -> u32 {
+    // likewise
+    unsafe { chieftables_check(text.as_ptr(), text.len(), words.as_ptr(), words.len()) }
 }
 
 /// Samples of which the median is taken, and how long each lasts at least.
@@ -148,6 +157,16 @@ fn built(text: &[u8], path: &str) {
     println!("; {path}");
 }
 
+/// Checks the table that is built of a text, and times that and the build.
+fn checked(text: &[u8], path: &str) {
+    let mut words = vec![7u32; WORDS];
+    let size = LINE * build(text, &mut words).count;
+    let building = median(|| build(black_box(text), &mut words));
+    let answer = check(text, &words[..size]);
+    let checking = median(|| check(black_box(text), black_box(&words[..size])));
+    println!("{answer:2} {size:7} words: built {building:.2} us, checked {checking:.2} us, {:.2} times; {path}", checking / building);
+}
+
 fn main() {
     let mut arguments = std::env::args().skip(1);
     let command = arguments.next().unwrap_or_default();
@@ -166,8 +185,9 @@ fn main() {
                 println!("{answer:2} {:10.2} {reading:10.2} {path}", median(|| accept(black_box(&text))));
             }
             "builds" => built(&text, &path),
+            "checks" => checked(&text, &path),
             _ => {
-                eprintln!("usage: harness answers|times|builds FILE.., or harness tables LINES..");
+                eprintln!("usage: harness answers|times|builds|checks FILE.., or harness tables LINES..");
                 return;
             }
         }
