@@ -1,6 +1,7 @@
 -- Representations of a whole table.
 --
 --   splits            a listed representation is found by the order of the lines
+--   found-first       it begins at its first line
 --   found-at          where the search ends, it begins
 --   found-next        the one behind it
 --   zero-degree, zero-count       level 0
@@ -26,9 +27,10 @@ module _ (s : Scope) (T : List ℕ) (W : Whole s T) where
   abbrev n : ℕ
   n = s .gens
 
-  at-suc : (i r : ℕ) → 0 < i → i ≤ n → r < length (levelAt n T i) → Found n T i r (listedIn T (firstLine n T i r))
-  at-suc zero r p l h = absurd (omega arith)
-  at-suc (suc k) r p l h =
+  pub found-first : (i r : ℕ) → 0 < i → i ≤ s .gens → r < length (levelAt (s .gens) T i)
+      → Found (s .gens) T i r (listedIn T (firstLine (s .gens) T i r))
+  found-first zero r p l h = absurd (omega arith)
+  found-first (suc k) r p l h =
       let d = complete-word n (W .some) T (W .all) k r l h in
       let rep = complete-rep n (W .some) T (W .all) k r h in
       record {
@@ -51,7 +53,7 @@ module _ (s : Scope) (T : List ℕ) (W : Whole s T) where
 
   pub found-at : (i r x : ℕ) → 0 < i → i ≤ s .gens → r < length (levelAt (s .gens) T i) → Split T i r x → Found (s .gens) T i r (listedIn T x)
   found-at i r x p l h S =
-      subst (λ x. Found n T i r (listedIn T x)) (sym (split-one T i r (firstLine n T i r) x (split-first i r p l h) S)) (at-suc i r p l h)
+      subst (λ x. Found n T i r (listedIn T x)) (sym (split-one T i r (firstLine n T i r) x (split-first i r p l h) S)) (found-first i r p l h)
 
   -- ---- The representation behind one
 
@@ -67,7 +69,7 @@ module _ (s : Scope) (T : List ℕ) (W : Whole s T) where
       let (p, l) = F .level in
       let a = complete-next n (W .some) T (W .all) k r l (F .listed) in
       let b : x ≡ firstLine n T (suc k) (suc r) = e ∙ ap₂ (λ l d. l + n * d) (F .line) (F .deg) ∙ sym a in
-      subst (λ x. Found n T (suc k) (suc r) (listedIn T x)) (sym b) (at-suc (suc k) (suc r) p l h)
+      subst (λ x. Found n T (suc k) (suc r) (listedIn T x)) (sym b) (found-first (suc k) (suc r) p l h)
 
   -- ---- Level 0
 

@@ -1,0 +1,4 @@
+-- Laws of comparing.
+pub mod Shifted
+pub mod Staged
+pub mod Blocks

@@ -1,0 +1,131 @@
+-- `block_fits` finds what the block refers to, and goes through all generators.
+use borrow.Author.Needs.{needs}
+use borrow.Author.Tests.{not-false}
+use mathlib.Core.Path.{_≡_, refl, _∙_, ap}
+use Prim.Native.Nat.{_+_}
+use native.Mathlib.Omega.{arith}
+use denote.Ref.{now}
+use Rattle.definitions.specs.Table.{REF, wordAt}
+use Rattle.compare.specs.Blocks.{refAt}
+use Rattle.compare.proofs.Shifted.{never}
+use Rattle.compare.proofs.Staged.{found-inside, low-at, low-place}
+use Rattle.compare.proofs.Blocks.{inside-column, over, fitting-block}
+use Rattle.compare.proofs.block_fits.Statement.{statement}
+use Rattle.compare.proofs.block_fits.Tie as tie
+
+up-requires : tie.Need-up-requires
+up-requires c κs = search needs
+
+add-word-at : tie.Need-add-word-at
+add-word-at c =
+    let at-up = c .before in
+    let z = at-up .before .before .before in
+    let l = inside-column (z .pre .1) (z .args .o) (z .pre .0 .whole .some) (omega (arith, z .pre .2, z .pre .3)) in
+    omega (arith, l, at-up .up .ensures, z .good)
+
+word-at-requires : tie.Need-word-at-requires
+word-at-requires c κs =
+    let at-up = c .before in
+    let z = at-up .before .before .before in
+    let l = inside-column (z .pre .1) (z .args .o) (z .pre .0 .whole .some) (omega (arith, z .pre .2, z .pre .3)) in
+    (omega (arith, l, at-up .up .ensures), omega arith)
+
+up-requires-2 : tie.Need-up-requires-2
+up-requires-2 c κs = search needs
+
+returns : tie.Need-returns
+returns c = never
+
+add-rep-at : tie.Need-add-rep-at
+add-rep-at c =
+    let at-if1 = c .before in
+    let at-up2 = at-if1 .before .before in
+    let z = at-up2 .before .before .before .before .before .before in
+    omega (arith, low-place (z .pre .0) (at-up2 .up2 .result) (omega (arith, at-if1 .if1 .left)), z .good)
+
+rep-at-requires : tie.Need-rep-at-requires
+rep-at-requires c κs =
+    let at-if1 = c .before in
+    let at-up2 = at-if1 .before .before in
+    let z = at-up2 .before .before .before .before .before .before in
+    low-place (z .pre .0) (at-up2 .up2 .result) (omega (arith, at-if1 .if1 .left))
+
+returns-2 : tie.Need-returns-2
+returns-2 c = never
+
+lower-fits-requires : tie.Need-lower-fits-requires
+lower-fits-requires c κs =
+    let at-rep-at = c .before .before in
+    let at-if1 = at-rep-at .before .before in
+    let at-up2 = at-if1 .before .before in
+    let z = at-up2 .before .before .before .before .before .before in
+    let S = z .pre .0 in
+    let F = low-at S (at-up2 .up2 .result) (omega (arith, at-if1 .if1 .left)) (at-rep-at .rep-at .ensures) (at-up2 .up2 .ensures) in
+    (over S (z .pre .1) (z .args .o) F (omega (arith, z .pre .3, c .if2 .left)), omega (arith, S .level .1))
+
+returns-3 : tie.Need-returns-3
+returns-3 c = never
+
+generator-fits-requires : tie.Need-generator-fits-requires
+generator-fits-requires c κs =
+    let at-if2 = c .before .before in
+    let at-rep-at = at-if2 .before .before in
+    let at-if1 = at-rep-at .before .before in
+    let at-up2 = at-if1 .before .before in
+    let z = at-up2 .before .before .before .before .before .before in
+    let S = z .pre .0 in
+    let F = low-at S (at-up2 .up2 .result) (omega (arith, at-if1 .if1 .left)) (at-rep-at .rep-at .ensures) (at-up2 .up2 .ensures) in
+    (over S (z .pre .1) (z .args .o) F (omega (arith, z .pre .3, at-if2 .if2 .left)), z .pre .1, refl, S .level .1)
+
+returns-4 : tie.Need-returns-4
+returns-4 c = never
+
+upper-fits-requires : tie.Need-upper-fits-requires
+upper-fits-requires c κs =
+    let at-if2 = c .before .before .before .before in
+    let at-rep-at = at-if2 .before .before in
+    let at-if1 = at-rep-at .before .before in
+    let at-up2 = at-if1 .before .before in
+    let z = at-up2 .before .before .before .before .before .before in
+    let S = z .pre .0 in
+    let F = low-at S (at-up2 .up2 .result) (omega (arith, at-if1 .if1 .left)) (at-rep-at .rep-at .ensures) (at-up2 .up2 .ensures) in
+    (S, over S (z .pre .1) (z .args .o) F (omega (arith, z .pre .3, at-if2 .if2 .left)))
+
+returns-5 : tie.Need-returns-5
+returns-5 c = λ e.
+    let at-if4 = c .before in
+    let at-generator-fits = at-if4 .before in
+    let at-if3 = at-generator-fits .before in
+    let at-lower-fits = at-if3 .before in
+    let at-if2 = at-lower-fits .before in
+    let at-rep-at = at-if2 .before .before in
+    let at-if1 = at-rep-at .before .before in
+    let at-up2 = at-if1 .before .before in
+    let at-word-at = at-up2 .before in
+    let at-up = at-word-at .before .before in
+    let z = at-up .before .before .before in
+    let a = z .args in
+    let x : at-word-at .word-at .result ≡ refAt (a .s) (now (a .words)) (a .g) (a .d) (a .o)
+    = at-word-at .word-at .ensures ∙ ap (λ k. wordAt (now (a .words)) (a .d .line + k) REF) (at-up .up .ensures) in
+    fitting-block x (low-at (z .pre .0) (at-up2 .up2 .result) (omega (arith, at-if1 .if1 .left)) (at-rep-at .rep-at .ensures) (at-up2 .up2 .ensures)) (at-if2 .if2 .left)
+    (at-lower-fits .lower-fits .ensures (not-false (at-lower-fits .lower-fits .result) (at-if3 .if3 .left)))
+    (at-generator-fits .generator-fits .ensures (not-false (at-generator-fits .generator-fits .result) (at-if4 .if4 .left))) (c .upper-fits .ensures e)
+
+pub block-fits-spec : {M : Type 1} → statement M
+block-fits-spec =
+    tie.close
+    (tie.spec
+    up-requires
+    add-word-at
+    word-at-requires
+    up-requires-2
+    returns
+    add-rep-at
+    rep-at-requires
+    returns-2
+    lower-fits-requires
+    returns-3
+    generator-fits-requires
+    returns-4
+    upper-fits-requires
+    returns-5)

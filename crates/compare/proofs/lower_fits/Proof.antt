@@ -1,0 +1,106 @@
+-- `lower_fits` compares generator by generator.
+use borrow.Author.Needs.{needs}
+use borrow.Author.Tests.{not-false}
+use mathlib.Core.Path.{sym, _∙_, ap, ap₂, subst}
+use Prim.Native.Nat.{_+_, _-_, _<_}
+use native.Mathlib.Omega.{arith}
+use denote.Ref.{now}
+use Rattle.level.specs.Stored.{lineIn, Holds}
+use Rattle.compare.specs.Shifted.{shift, Shifted}
+use Rattle.compare.proofs.Shifted.{never}
+use Rattle.compare.proofs.Blocks.{inside-matrix, block-lines, block-shift, Lowering, lowering-none, lowering-more, lowering-all}
+use Rattle.compare.proofs.lower_fits.Statement.{statement}
+use Rattle.compare.proofs.lower_fits.Tie as tie
+
+abbrev Inv-loop : tie.InvT-loop
+Inv-loop words s top d b f g₀ g = Lowering s words d b g
+
+abbrev μ-loop : tie.MeasureT-loop
+μ-loop words s top d b f g₀ g = top - g
+
+loop-holds : tie.Need-loop-holds Inv-loop μ-loop
+loop-holds c = lowering-none
+
+matrix-line-requires : tie.Need-matrix-line-requires Inv-loop μ-loop
+matrix-line-requires c κs =
+    let at-loop = c .before in
+    let z = at-loop .before .before .before in
+    omega (arith, inside-matrix (z .pre .0 .inside) (at-loop .loop .g) (omega (arith, z .pre .1)), z .good)
+
+up-requires : tie.Need-up-requires Inv-loop μ-loop
+up-requires c κs = search needs
+
+add-at : tie.Need-add-at Inv-loop μ-loop
+add-at c =
+    let at-matrix-line = c .before in
+    let at-loop = at-matrix-line .before .before in
+    let z = at-loop .before .before .before in
+    omega (arith, block-lines (z .pre .0) (at-loop .loop .g) (omega (arith, z .pre .1)), at-matrix-line .matrix-line .ensures, c .up .ensures, z .good)
+
+matrix-line-requires-2 : tie.Need-matrix-line-requires-2 Inv-loop μ-loop
+matrix-line-requires-2 c κs =
+    let at-loop = c .before .before .before in
+    let z = at-loop .before .before .before in
+    omega (arith, z .pre .0 .stored .holds (at-loop .loop .g) (omega (arith, z .pre .1)) .fits, z .good)
+
+lines-shifted-requires : tie.Need-lines-shifted-requires Inv-loop μ-loop
+lines-shifted-requires c κs =
+    let at-up = c .before in
+    let at-matrix-line = at-up .before in
+    let at-loop = at-matrix-line .before .before in
+    let z = at-loop .before .before .before in
+    let a = z .args in
+    let O = z .pre .0 in
+    let l : at-loop .loop .g < a .s .gens = omega (arith, z .pre .1) in (
+      omega (arith, block-lines O (at-loop .loop .g) l, at-matrix-line .matrix-line .ensures, at-up .up .ensures),
+      subst (λ l. Holds (a .s .m) (now (a .words)) l (a .b .part .deg)) (sym (c .matrix-line2 .ensures)) (O .stored .holds (at-loop .loop .g) l),
+      O .modulus,
+      block-shift O (a .b .start) (omega (arith, O .within, O .stored .positive)),
+    )
+
+returns : tie.Need-returns Inv-loop μ-loop
+returns c = never
+
+add-g : tie.Need-add-g Inv-loop μ-loop
+add-g c = search needs
+
+loop-less : tie.Need-loop-less Inv-loop μ-loop
+loop-less c = omega arith
+
+loop-again : tie.Need-loop-again Inv-loop μ-loop
+loop-again c =
+    let at-lines-shifted = c .before in
+    let at-matrix-line2 = at-lines-shifted .before in
+    let at-up = at-matrix-line2 .before in
+    let at-matrix-line = at-up .before in
+    let at-loop = at-matrix-line .before .before in
+    let z = at-loop .before .before .before in
+    let a = z .args in
+    let H = at-lines-shifted .lines-shifted .ensures (not-false (at-lines-shifted .lines-shifted .result) (c .if1 .left)) in
+    lowering-more (at-loop .loop .inv) (
+    subst (λ l. Shifted (a .s .m) (now (a .words)) (lineIn (a .d) (at-loop .loop .g) + a .b .start) l (a .b .part .deg) (shift (a .b .refn) (a .b .start) 0)) (at-matrix-line2 .matrix-line2 .ensures) (
+    subst (λ l. Shifted (a .s .m) (now (a .words)) l (at-matrix-line2 .matrix-line2 .result) (a .b .part .deg) (shift (a .b .refn) (a .b .start) 0))
+    (ap₂ _+_ (at-matrix-line .matrix-line .ensures) (at-up .up .ensures)) H))
+
+returns-2 : tie.Need-returns-2 Inv-loop μ-loop
+returns-2 c = λ e.
+    let at-loop = c .before in
+    lowering-all (at-loop .loop .inv) (omega arith)
+
+pub lower-fits-spec : {M : Type 1} → statement M
+lower-fits-spec =
+    tie.close
+    (tie.spec
+    Inv-loop
+    μ-loop
+    loop-holds
+    matrix-line-requires
+    up-requires
+    add-at
+    matrix-line-requires-2
+    lines-shifted-requires
+    returns
+    add-g
+    loop-less
+    loop-again
+    returns-2)

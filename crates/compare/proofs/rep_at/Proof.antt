@@ -1,0 +1,31 @@
+-- `rep_at` reads where the representation begins.
+use borrow.Author.Needs.{needs}
+use mathlib.Core.Path.{_∙_, ap}
+use native.Mathlib.Omega.{arith}
+use denote.Ref.{now}
+use Rattle.level.specs.Stored.{listedIn}
+use Rattle.compare.proofs.rep_at.Statement.{statement}
+use Rattle.compare.proofs.rep_at.Tie as tie
+
+mul-up : tie.Need-mul-up
+mul-up c = search needs
+
+shared-slice-read-up : tie.Need-shared-slice-read-up
+shared-slice-read-up c = search needs
+
+up-requires : tie.Need-up-requires
+up-requires c κs = search needs
+
+representation-requires : tie.Need-representation-requires
+representation-requires c κs =
+    let z = c .before .before .before .before in
+    omega (arith, c .up .ensures, z .pre .1)
+
+returns : tie.Need-returns
+returns c =
+    let at-up = c .before in
+    let z = at-up .before .before .before .before in
+    c .representation .ensures ∙ ap (λ l. listedIn (now (z .args .words)) l) (at-up .up .ensures)
+
+pub rep-at-spec : {M : Type 1} → statement M
+rep-at-spec = tie.close (tie.spec mul-up shared-slice-read-up up-requires representation-requires returns)

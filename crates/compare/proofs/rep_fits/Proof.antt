@@ -1,0 +1,80 @@
+-- `rep_fits` goes from block to block.
+use borrow.Author.Needs.{needs}
+use borrow.Author.Tests.{not-false}
+use Prim.Native.Nat.{_-_}
+use native.Mathlib.Omega.{arith}
+use Rattle.compare.proofs.Shifted.{never}
+use Rattle.compare.proofs.Blocks.{Blocking, blocking-none, blocking-more, blocking-all, blocking-room}
+use Rattle.compare.proofs.rep_fits.Statement.{statement}
+use Rattle.compare.proofs.rep_fits.Tie as tie
+
+abbrev Inv-loop : tie.InvT-loop
+Inv-loop words firsts s g d w deg o₀ o = Blocking s words g d w o
+
+abbrev μ-loop : tie.MeasureT-loop
+μ-loop words firsts s g d w deg o₀ o = deg - o
+
+width-requires : tie.Need-width-requires Inv-loop μ-loop
+width-requires c κs =
+    let z = c .before .before in
+    z .pre
+
+returns : tie.Need-returns Inv-loop μ-loop
+returns c = never
+
+loop-holds : tie.Need-loop-holds Inv-loop μ-loop
+loop-holds c = blocking-none
+
+block-fits-requires : tie.Need-block-fits-requires Inv-loop μ-loop
+block-fits-requires c κs =
+    let at-loop = c .before in
+    let at-if1 = at-loop .before in
+    let at-width = at-if1 .before in
+    let z = at-width .before .before .before in
+    let W = at-width .width .ensures (at-if1 .if1 .left) in
+    (z .pre .0, z .pre .1, omega (arith, at-if1 .if1 .left), blocking-room (at-loop .loop .inv) W (omega arith))
+
+returns-2 : tie.Need-returns-2 Inv-loop μ-loop
+returns-2 c = never
+
+add-o : tie.Need-add-o Inv-loop μ-loop
+add-o c =
+    let at-loop = c .before .before .before in
+    let at-if1 = at-loop .before in
+    let at-width = at-if1 .before in
+    let z = at-width .before .before .before in
+    omega (arith, blocking-room (at-loop .loop .inv) (at-width .width .ensures (at-if1 .if1 .left)) (omega arith), z .pre .1 .narrow)
+
+loop-less : tie.Need-loop-less Inv-loop μ-loop
+loop-less c =
+    let at-if1 = c .before .before .before .before in
+    omega (arith, at-if1 .if1 .left)
+
+loop-again : tie.Need-loop-again Inv-loop μ-loop
+loop-again c =
+    let at-block-fits = c .before in
+    let at-loop = at-block-fits .before .before in
+    blocking-more (at-loop .loop .inv) (at-block-fits .block-fits .ensures (not-false (at-block-fits .block-fits .result) (c .if2 .left)))
+
+returns-3 : tie.Need-returns-3 Inv-loop μ-loop
+returns-3 c = λ e.
+    let at-loop = c .before in
+    let at-if1 = at-loop .before in
+    let at-width = at-if1 .before in
+    blocking-all (at-loop .loop .inv) (at-width .width .ensures (at-if1 .if1 .left)) (omega arith)
+
+pub rep-fits-spec : {M : Type 1} → statement M
+rep-fits-spec =
+    tie.close
+    (tie.spec
+    Inv-loop
+    μ-loop
+    width-requires
+    returns
+    loop-holds
+    block-fits-requires
+    returns-2
+    add-o
+    loop-less
+    loop-again
+    returns-3)

@@ -1,0 +1,148 @@
+-- `width`: one block, or p blocks of which the first is moved.
+use borrow.Author.Needs.{needs}
+use mathlib.Core.Path.{refl, sym, _∙_, ap, ap₂}
+use mathlib.Core.Logic.{inl, inr}
+use Prim.Native.Nat.{_*_, _≤_}
+use native.Mathlib.Nat.{mul-le-mul-left}
+use native.Mathlib.Omega.{arith}
+use denote.Ref.{now}
+use Rattle.definitions.specs.Table.{REF, wordAt}
+use Rattle.level.specs.Stored.{targetIn}
+use Rattle.compare.proofs.Staged.{found-inside, low-at, low-place}
+use Rattle.compare.proofs.Blocks.{inside-matrix}
+use Rattle.compare.proofs.width.Statement.{statement}
+use Rattle.compare.proofs.width.Tie as tie
+
+word-at-requires : tie.Need-word-at-requires
+word-at-requires c κs =
+    let z = c .before .before in
+    let I = z .pre .1 in
+    (omega (arith, inside-matrix I 0 (z .pre .0 .whole .some), I .positive), omega arith)
+
+up-requires : tie.Need-up-requires
+up-requires c κs = search needs
+
+returns : tie.Need-returns
+returns c = λ n. absurd (n refl)
+
+add-rep-at : tie.Need-add-rep-at
+add-rep-at c =
+    let at-if1 = c .before in
+    let at-up = at-if1 .before .before in
+    let z = at-up .before .before .before .before in
+    omega (arith, low-place (z .pre .0) (at-up .up .result) (omega (arith, at-if1 .if1 .left)), z .good)
+
+rep-at-requires : tie.Need-rep-at-requires
+rep-at-requires c κs =
+    let at-if1 = c .before in
+    let at-up = at-if1 .before .before in
+    let z = at-up .before .before .before .before in
+    low-place (z .pre .0) (at-up .up .result) (omega (arith, at-if1 .if1 .left))
+
+returns-2 : tie.Need-returns-2
+returns-2 c = λ n.
+    let at-rep-at = c .before .before .before in
+    let at-if1 = at-rep-at .before .before in
+    let at-up = at-if1 .before .before in
+    let at-word-at = at-up .before in
+    let z = at-word-at .before .before .before in
+    record {
+      first = at-rep-at .rep-at .result;
+      found = low-at (z .pre .0) (at-up .up .result) (omega (arith, at-if1 .if1 .left)) (at-rep-at .rep-at .ensures) (at-up .up .ensures ∙ at-word-at .word-at .ensures);
+      width = refl;
+      split = inl (sym (c .if2 .taken));
+    }
+
+up-requires-2 : tie.Need-up-requires-2
+up-requires-2 c κs = search needs
+
+up-requires-3 : tie.Need-up-requires-3
+up-requires-3 c κs = search needs
+
+mul-if3 : tie.Need-mul-if3
+mul-if3 c =
+    let at-up2 = c .before in
+    let at-rep-at = at-up2 .before .before .before .before in
+    let at-if1 = at-rep-at .before .before in
+    let at-struct-known = at-if1 .before in
+    let at-up = at-struct-known .before in
+    let z = at-up .before .before .before .before in
+    let S = z .pre .0 in
+    let F = low-at S (at-up .up .result) (omega (arith, at-if1 .if1 .left)) (at-rep-at .rep-at .ensures) (at-up .up .ensures) in
+    let n : c .up3 .result ≤ 16777216 = omega (arith, c .up3 .ensures, found-inside (S .whole) (S .short) F .narrow) in
+    let q : at-up2 .up2 .result * c .up3 .result ≤ at-up2 .up2 .result * 16777216 = mul-le-mul-left (at-up2 .up2 .result) n in
+    omega (arith, q, at-up2 .up2 .ensures, at-struct-known .struct-known .given)
+
+up-requires-4 : tie.Need-up-requires-4
+up-requires-4 c κs = search needs
+
+returns-3 : tie.Need-returns-3
+returns-3 c = λ n. absurd (n refl)
+
+matrix-line-requires : tie.Need-matrix-line-requires
+matrix-line-requires c κs =
+    let at-rep-at = c .before .before .before .before .before .before .before in
+    let at-if1 = at-rep-at .before .before in
+    let at-up = at-if1 .before .before in
+    let z = at-up .before .before .before .before in
+    let S = z .pre .0 in
+    let F = low-at S (at-up .up .result) (omega (arith, at-if1 .if1 .left)) (at-rep-at .rep-at .ensures) (at-up .up .ensures) in
+    omega (arith, inside-matrix (found-inside (S .whole) (S .short) F) (z .args .g .top) (S .level .1), z .good)
+
+word-at-requires-2 : tie.Need-word-at-requires-2
+word-at-requires-2 c κs =
+    let at-rep-at = c .before .before .before .before .before .before .before .before in
+    let at-if1 = at-rep-at .before .before in
+    let at-up = at-if1 .before .before in
+    let z = at-up .before .before .before .before in
+    let S = z .pre .0 in
+    let F = low-at S (at-up .up .result) (omega (arith, at-if1 .if1 .left)) (at-rep-at .rep-at .ensures) (at-up .up .ensures) in
+    (omega (arith, inside-matrix (found-inside (S .whole) (S .short) F) (z .args .g .top) (S .level .1), F .positive, c .matrix-line .ensures), omega arith)
+
+returns-4 : tie.Need-returns-4
+returns-4 c = λ n. absurd (n refl)
+
+returns-5 : tie.Need-returns-5
+returns-5 c = λ n.
+    let at-word-at2 = c .before in
+    let at-matrix-line = at-word-at2 .before in
+    let at-if3 = at-matrix-line .before in
+    let at-up4 = at-if3 .before in
+    let at-up3 = at-up4 .before in
+    let at-up2 = at-up3 .before in
+    let at-rep-at = at-up2 .before .before .before .before in
+    let at-if1 = at-rep-at .before .before in
+    let at-up = at-if1 .before .before in
+    let at-word-at = at-up .before in
+    let z = at-word-at .before .before .before in
+    let a = z .args in
+    let T = now (a .words) in
+    record {
+      first = at-rep-at .rep-at .result;
+      found = low-at (z .pre .0) (at-up .up .result) (omega (arith, at-if1 .if1 .left)) (at-rep-at .rep-at .ensures) (at-up .up .ensures ∙ at-word-at .word-at .ensures);
+      width = refl;
+      split = inr (
+        sym (at-up4 .up4 .ensures) ∙ sym (at-if3 .if3 .left) ∙ ap₂ _*_ (at-up2 .up2 .ensures) (at-up3 .up3 .ensures),
+        λ e. c .if4 .left (at-word-at2 .word-at2 .ensures ∙ ap (λ l. wordAt T l REF) (at-matrix-line .matrix-line .ensures) ∙ e ∙ sym (at-word-at .word-at .ensures)),
+      );
+    }
+
+pub width-spec : {M : Type 1} → statement M
+width-spec =
+    tie.close
+    (tie.spec
+    word-at-requires
+    up-requires
+    returns
+    add-rep-at
+    rep-at-requires
+    returns-2
+    up-requires-2
+    up-requires-3
+    mul-if3
+    up-requires-4
+    returns-3
+    matrix-line-requires
+    word-at-requires-2
+    returns-4
+    returns-5)
