@@ -1,0 +1,1 @@
+-- A level that fits on one that stands, stands.
