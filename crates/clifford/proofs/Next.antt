@@ -206,7 +206,7 @@ module _ (R : Rung) where
   pub step : Step (S R) F (𝓢 R) (ρ R) (base R) (number R) next-d next-X (next-rep R) next-target
   unfolding next-d next-rep
   step = record {
-    c = c (S R) m pos F (ready R);
+    c = λ j ij jn r κ. c (S R) m pos F (ready R) j ij jn r;
     ν = ν (S R) m pos F (ready R);
     decide = Index-discrete R;
     injective = Index-path R;
