@@ -20,6 +20,7 @@ pub mod Separates
 pub mod Everywhere
 pub mod Judged
 pub mod Cuts
+pub mod Passing
 pub mod Theorem
 pub mod Formulas
 pub mod Calls
