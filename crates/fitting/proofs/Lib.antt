@@ -1,1 +1,4 @@
 -- A level that fits on one that stands, stands.
+pub mod Parts
+pub mod Spots
+pub mod Round
