@@ -18,6 +18,7 @@ pub mod Lines
 pub mod Agreement
 pub mod Separates
 pub mod Everywhere
+pub mod Basis
 pub mod Judged
 pub mod Cuts
 pub mod Passing
