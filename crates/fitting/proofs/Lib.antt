@@ -3,3 +3,5 @@ pub mod Parts
 pub mod Spots
 pub mod Round
 pub mod Scales
+pub mod Places
+pub mod Closing
