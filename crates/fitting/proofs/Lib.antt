@@ -5,3 +5,4 @@ pub mod Round
 pub mod Scales
 pub mod Places
 pub mod Closing
+pub mod Raise
