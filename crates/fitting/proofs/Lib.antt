@@ -6,3 +6,5 @@ pub mod Scales
 pub mod Places
 pub mod Closing
 pub mod Raise
+pub mod Shown
+pub mod Passes
