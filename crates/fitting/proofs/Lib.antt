@@ -8,3 +8,4 @@ pub mod Closing
 pub mod Raise
 pub mod Shown
 pub mod Passes
+pub mod First

@@ -127,7 +127,7 @@ module _ (W : Fitted) where
     toward-count u =
         let v : Up W = toward u in
         let e : count W v * width W u ≡ count W u * width W u
-            = ap (λ w. count W v * w) (sym (toward-width u)) ∙ sym (fit W v .cut .degree) ∙ fit W u .same-degree j ij jn ∙ fit W u .cut .degree in
+        = ap (λ w. count W v * w) (sym (toward-width u)) ∙ sym (fit W v .cut .degree) ∙ fit W u .same-degree j ij jn ∙ fit W u .cut .degree in
         sym (mul-div-cancel (count W v) (fit W u .cut .width-pos)) ∙ ap (λ z. z / width W u) e ∙ mul-div-cancel (count W u) (fit W u .cut .width-pos)
 
     pub to-in : (u : Up W) (k : ℕ) → k < count W u → to W u j k < count W (toward u)

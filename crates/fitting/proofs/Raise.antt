@@ -191,7 +191,7 @@ module _ (W : Fitted) where
   injective : (x y : Index W) → base W x ≡ base W y → numberOf x ≡ numberOf y → x ≡ y
   injective x y e n =
       let (a, b) = same-block W (upOf W x) (upOf W y) (block W x) (block W y) (block-below W x) (block-below W y)
-          (sym (base-rep W x) ∙ ap (F .rep) e ∙ base-rep W y) n in
+      (sym (base-rep W x) ∙ ap (F .rep) e ∙ base-rep W y) n in
       let w : width W (upOf W x) ≡ width W (upOf W y) = ap (width W) a in
       let c : inner W x ≡ inner W y = sym (base-column W x) ∙ ap column e ∙ base-column W y in
       basis-path High x y (ap (λ u. u .0) a) (sym (split W x) ∙ ap₂ (_+_) (ap₂ (_*_) b w) c ∙ split W y)
@@ -204,15 +204,20 @@ module _ (W : Fitted) where
   one-orbit x y e =
       let u : Up W = upOf W x in
       let s : u ≡ upOf W y = up-path W u (upOf W y) e in
-      let (k, f) = reach W u (block W x) (block W y) (block-below W x) (subst (λ u. block W y < count W u) (sym s) (block-below W y)) in
-      (ap (number W) s, (k, ap (iter (τ R) k) (base-rep W x) ∙ sym (part-iter W u (block W x) k (block-below W x)) ∙ ap (part W u) f
-      ∙ ap (λ u. part W u (block W y)) s ∙ sym (base-rep W y)))
+      let (k, f) = reach W u (block W x) (block W y) (block-below W x) (subst (λ u. block W y < count W u) (sym s) (block-below W y)) in (
+        ap (number W) s,
+        (
+          k,
+          ap (iter (τ R) k) (base-rep W x) ∙ sym (part-iter W u (block W x) k (block-below W x)) ∙ ap (part W u) f
+              ∙ ap (λ u. part W u (block W y)) s ∙ sym (base-rep W y),
+        ),
+      )
 
   one-rep : (x y : Index W) → numberOf x ≡ numberOf y → (k : ℕ) → iter (τ R) k (F .rep (base W x)) ≡ F .rep (base W y) → x .0 .0 ≡ y .0 .0
   one-rep x y n k e =
       let u : Up W = upOf W x in
       let (a, b) = same-block W u (upOf W y) (iter (turn W u) k (block W x)) (block W y) (turns-below W u (block W x) k (block-below W x)) (block-below W y)
-          (part-iter W u (block W x) k (block-below W x) ∙ ap (iter (τ R) k) (sym (base-rep W x)) ∙ e ∙ base-rep W y) n in
+      (part-iter W u (block W x) k (block-below W x) ∙ ap (iter (τ R) k) (sym (base-rep W x)) ∙ e ∙ base-rep W y) n in
       ap (λ u. u .0) a
 
   pub step : Step (S (W .R)) (W .R .F) (𝓢 W) (ρ W) (base W) (λ x. number W (upOf W x)) high-d high-X (λ (x : Index W). x .0 .0) target

@@ -73,7 +73,7 @@ module _ (W : Fitted) where
       let w : Nf C (suc i) = genNf C (suc i) g in
       let e : exponentNf C i w ≡ 0 = ap (exponentNf C i) (gen-low C i g l) ∙ exponent-low C i (genNf C i g) in
       let z : lifted w x ≡ F .d (genNf C i g) (base W x)
-          = at-column (E R) (gen-below R (numbered (S R) F (𝓢 W) (ρ W) (number W u)) g l) (base W x) in
+      = at-column (E R) (gen-below R (numbered (S R) F (𝓢 W) (ρ W) (number W u)) g l) (base W x) in
       ap (col (repOf High (u .0) .matrix g)) (at-base x) ∙ column-low W u k (block-below W x) (base W x) (base-rep W x) g l
       ∙ sym (d-spot w x ∙ ap₂ (spot W u) (ap (λ e. iter (turn W u) e k) e ∙ iter-zero (turn W u) k) z)
 
@@ -86,8 +86,8 @@ module _ (W : Fitted) where
       let root : Residue m = times (E R) (number W u) (ε W) in
       let e : exponentNf C i w ≡ 1 = ap (exponentNf C i) (gen-top C i) ∙ exponent-top C i in
       let z : lifted w x ≡ (y .0, add (y .1) (add (σ W (F .rep (base W x))) root))
-          = at-column (E R) (gen-last R (numbered (S R) F (𝓢 W) (ρ W) (number W u))) (base W x)
-          ∙ Y-numbered-at (S R) F (𝓢 W) (ρ W) (number W u) (base W x) in
+      = at-column (E R) (gen-last R (numbered (S R) F (𝓢 W) (ρ W) (number W u))) (base W x)
+      ∙ Y-numbered-at (S R) F (𝓢 W) (ρ W) (number W u) (base W x) in
       let s : add (σ W (F .rep (base W x))) root ≡ scalar W u i k = ap (λ f. add (σ W f) root) (base-rep W x) ∙ sym (scalar-is W u k (block-below W x)) in
       ap (col (repOf High (u .0) .matrix i)) (at-base x)
       ∙ column-high W u k (block-below W x) (base W x) (base-rep W x) i (omega arith) (R .in-range)
