@@ -7,6 +7,7 @@ pub mod Scalars
 pub mod Numbering
 pub mod Indices
 pub mod Extensions
+pub mod Between
 pub mod Next
 pub mod Inductions
 pub mod Intertwiners

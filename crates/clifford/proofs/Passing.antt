@@ -8,7 +8,7 @@ use mathlib.Core.List.{List}
 use Prim.Native.Nat.{ℕ, suc, _%_, _<_}
 use lib.Dec.{eqb}
 use lib.ListN.{length}
-use Rattle.definitions.specs.Presentation.{lineWords, Presentation, order}
+use Rattle.definitions.specs.Presentation.{lineWords, Presentation}
 use Rattle.definitions.specs.Monomial.{Rep, Level, repOf}
 use Rattle.definitions.specs.Table.{levelAt, complete}
 use Rattle.definitions.specs.Judgement

@@ -1,13 +1,13 @@
 -- The conjugate of generator i: what the first column of a block says of it, in the scalars of a step.
 --
 --   closes-at       the scalars close at the first basis index of a block
-use mathlib.Core.Path.{_≡_, sym, _∙_, ap, ap₂}
+use mathlib.Core.Path.{_≡_, sym, _∙_, ap}
 use Prim.Native.Nat.{ℕ, suc, _+_, _*_, _<_}
 use native.Mathlib.Omega.{arith}
 use Rattle.definitions.specs.declared.Entry.{Entry}
 use Rattle.definitions.specs.Lists.{iter}
 use Rattle.definitions.specs.Presentation.{power}
-use Rattle.definitions.specs.Monomial.{Matrix, entry, col, act, repOf}
+use Rattle.definitions.specs.Monomial.{Matrix, entry, act, repOf}
 use Rattle.formulas.specs.Formulas as Fm
 use Rattle.numbers.proofs.Iterates.{iter-out}
 use Rattle.group.specs.Context.{Context, Nf}
@@ -193,7 +193,7 @@ module _ (W : Fitted) (j : ℕ) (ij : W .R .i < j) (jn : j < W .R .T .n) (u : Up
   -- ---- Together
 
   one : (c q k s : Residue m) → add c (add q (add k s)) ≡ add (add q c) (add k s)
-  one c q k s = simp (E R .assoc, E R .comm, lcomm (E R))
+  one c q k s = simp (E R .assoc, E R .comm)
 
   two : (x h b y k s : Residue m) → add (add x (add (add h b) y)) (add k s) ≡ add (add x s) (add (add (add h k) b) y)
   two x h b y k s = simp (E R .assoc, E R .comm, lcomm (E R))

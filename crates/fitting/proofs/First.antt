@@ -77,24 +77,25 @@ module _ (P : Presentation) (n m : ℕ) (High : Level) (Q : FirstFits P n m High
     scalar-exp g k a l =
         ap₂ (λ c (x : Entry). less m (col (M g) c .exp) (x .exp)) (first-column k l) (zero-column g) ∙ less-zero m (col (M g) 0 .exp) (Q .exp-below r g h a)
 
-    shifts : (g k c : ℕ) → g < n → k < 1 → c < 1 → let x = col (repOf levelZero 0 .matrix g) c in
-        col (M g) (k * 1 + c)
-        ≡ entry (blockTo P n m 0 levelZero High r one-block g k * 1 + x .row) ((x .exp + scalarOf P n m 0 levelZero High r one-block g k) % m)
+    -- a column of level 0, moved to block t and scaled by s
+    shifted : ℕ → ℕ → Entry → Entry
+    shifted t s x = entry (t * 1 + x .row) ((x .exp + s) % m)
+
+    shifts : (g k c : ℕ) → g < n → k < 1 → c < 1 → col (M g) (k * 1 + c)
+        ≡ shifted (blockTo P n m 0 levelZero High r one-block g k) (scalarOf P n m 0 levelZero High r one-block g k) (col (repOf levelZero 0 .matrix g) c)
+    unfolding shifted
     shifts g k c a l b =
         let z : c ≡ 0 = omega arith in
+        let e : col (repOf levelZero 0 .matrix g) c ≡ entry 0 0 = ap (col (repOf levelZero 0 .matrix g)) z ∙ zero-column g in
         ap (col (M g)) (only k c l b) ∙ entry-path (Q .row r g h a) (sym (mod-eq-of-lt (Q .exp-below r g h a)))
-        ∙ sym (ap (λ c. let x = col (repOf levelZero 0 .matrix g) c in entry (blockTo P n m 0 levelZero High r one-block g k * 1 + x .row)
-        ((x .exp + scalarOf P n m 0 levelZero High r one-block g k) % m)) z
-        ∙ ap (λ (x : Entry). entry (blockTo P n m 0 levelZero High r one-block g k * 1 + x .row)
-        ((x .exp + scalarOf P n m 0 levelZero High r one-block g k) % m)) (zero-column g)
-        ∙ ap₂ (λ t s. entry (t * 1 + 0) ((0 + s) % m)) (lands-zero g k a l) (scalar-exp g k a l)
+        ∙ sym (ap (shifted _ _) e ∙ ap₂ (λ t s. shifted t s (entry 0 0)) (lands-zero g k a l) (scalar-exp g k a l)
         ∙ entry-path (omega arith) (ap (λ z. z % m) (omega arith)))
 
     ref-at : (j c : ℕ) → c < repOf High r .deg → repOf High r .ref j c ≡ repOf High r .ref j 0
     ref-at j c l = let z : c ≡ 0 = omega (arith, Q .degree r h) in ap (repOf High r .ref j) z
 
     abbrev fitting : Fitting P n m 0 levelZero High r
-    unfolding one-block
+    unfolding one-block shifted
     fitting = record {
       cut = one-block;
       one-or-p = inl refl;
@@ -116,7 +117,7 @@ module _ (P : Presentation) (n m : ℕ) (High : Level) (Q : FirstFits P n m High
   -- ---- The level
 
   pub first-fits : Fits P n m 0 levelZero High
-  unfolding fitting one-block
+  unfolding fitting one-block shifted
   first-fits = record {
     fit = fitting;
     degree-pos = λ r h. omega (arith, Q .degree r h);

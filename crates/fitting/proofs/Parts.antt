@@ -21,7 +21,7 @@ use Rattle.definitions.specs.Lists.{iter}
 use Rattle.definitions.specs.Monomial.{Level, repOf}
 use Rattle.numbers.proofs.Lists.{iter-zero}
 use Rattle.numbers.proofs.Iterates.{iter-out}
-use Rattle.numbers.proofs.Pigeonhole.{Injects, injects-onto}
+use Rattle.numbers.proofs.Pigeonhole.{injects-onto}
 use Rattle.numbers.proofs.Orbits.{moved-distinct, iter-moved}
 use Rattle.clifford.specs.Stands.{Rung}
 use Rattle.clifford.proofs.Numbering.{P, p, N, τ, O}

@@ -1,7 +1,7 @@
 -- A table whose levels fit, each on the one below, passes the judgement.
 --
+--   fits-restricts   the representations of a level that fits are cut into blocks of the level below
 --   fits-stands      a level that fits on one that stands, stands
---   fits-restricts   and is cut into blocks of it
 --   fits-passes      a complete table of whole lines whose levels all fit passes
 use mathlib.Core.Path.{_≡_, refl, sym, _∙_, ap, subst}
 use mathlib.Core.Bool.{true}
@@ -10,7 +10,7 @@ use Prim.Native.Nat.{ℕ, zero, suc, _%_, _≤_, _<_}
 use native.Mathlib.Omega.{arith}
 use lib.Dec.{eqb}
 use lib.ListN.{length, getD}
-use Rattle.definitions.specs.Presentation.{lineWords, order}
+use Rattle.definitions.specs.Presentation.{lineWords, Presentation, order}
 use Rattle.definitions.specs.Monomial.{Rep, Level, repOf, noRep}
 use Rattle.definitions.specs.Table.{degrees, firstLine, repAt, levelAt, complete}
 use Rattle.definitions.specs.Steps.{levels}
@@ -28,6 +28,9 @@ use Rattle.fitting.proofs.Shown.{high-stands}
 
 -- ---- One level
 
+pub fits-restricts : {P : Presentation} {n m i : ℕ} {Low High : Level} → Fits P n m i Low High → (r : ℕ) → r < length High → Restricts i Low (repOf High r)
+fits-restricts Q r h = Q .fit r h .cut
+
 module _ (G : Setting) (i : ℕ) (l : i < G .T .n) (Low High : Level) (St : Standing G i Low)
     (size : (r g : ℕ) → r < length High → g < G .T .n → length (repOf High r .matrix g) ≡ repOf High r .deg)
     (Q : Fits (G .T .context .P) (G .T .n) (G .m) i Low High) where
@@ -36,9 +39,6 @@ module _ (G : Setting) (i : ℕ) (l : i < G .T .n) (Low High : Level) (St : Stan
   fits-stands =
       let W : Fitted = record { R = rung G i l Low St; High = High; size = size; fits = Q } in
       record { Ω = Index W; F = family W; stands = high-stands W; literal = λ j r. refl }
-
-  pub fits-restricts : (r : ℕ) → r < length High → Restricts i Low (repOf High r)
-  fits-restricts r h = Q .fit r h .cut
 
 -- ---- All levels
 
@@ -70,8 +70,5 @@ module _ (A : Accepted) (T : List ℕ) (whole : eqb (length T % lineWords) 0 ≡
   founded-at : (i : ℕ) → i < n → Founded (A .C) (G .m) (G .pos) (suc i) (levelAt n T (suc i))
   founded-at i l = let St = stands-at (suc i) l in record { Ω = St .Ω; F = St .F; stands = St .stands }
 
-  restricts-at : (i : ℕ) → i < n → (r : ℕ) → r < length (levelAt n T (suc i)) → Restricts i (levelAt n T i) (repOf (levelAt n T (suc i)) r)
-  restricts-at i l r h = fits i l .fit r h .cut
-
   pub fits-passes : judgement (A .C .P) (order (A .C .P) (A .C .P .n)) T ≡ 0
-  fits-passes = levels-pass (A .C) (A .tests) (G .m) (G .pos) T founded-at restricts-at whole lines
+  fits-passes = levels-pass (A .C) (A .tests) (G .m) (G .pos) T founded-at (λ i l. fits-restricts (fits i l)) whole lines

@@ -6,9 +6,8 @@
 --   step, family             it is a step; its family
 use mathlib.Core.Path.{_≡_, refl, sym, _∙_, ap, ap₂, subst}
 use Prim.Native.Nat.{ℕ, suc, _+_, _*_, _<_}
-use native.Mathlib.Bridge.{le-prop}
 use native.Mathlib.Omega.{arith}
-use native.Mathlib.Decide.{decLt, ℕ-discrete}
+use native.Mathlib.Decide.{ℕ-discrete}
 use Rattle.definitions.specs.Lists.{iter}
 use Rattle.definitions.specs.Monomial.{repOf}
 use Rattle.group.specs.Context.{Context, Nf}
@@ -24,12 +23,14 @@ use Rattle.clifford.proofs.Levels.{exponentNf}
 use Rattle.clifford.proofs.Top.{Normed, raised, raised-maps, q, q-const}
 use Rattle.clifford.proofs.Step as StepOf
 use Rattle.clifford.proofs.Step.{numbered, Step}
+use Rattle.clifford.proofs.Between.{between, between-is}
 use Rattle.clifford.proofs.Extensions.{E, first, first-rep}
 use Rattle.clifford.proofs.Basis.{basis-path, basis-discrete}
 use Rattle.fitting.proofs.Parts.{Fitted, Up, up-path, count, width, part, to, turn, part-below, turns-below, part-iter, one-fixed, reach}
 use Rattle.fitting.proofs.Spots.{scalar}
 use Rattle.fitting.proofs.Scales.{Some, some, 𝓢, ε, ρ, number, number-small, number-many, same-block}
-use Rattle.fitting.proofs.Places.{Index, upOf, block, inner, block-below, split, base, base-rep, base-column, place, place-up, place-rep, base-place, toward, to-in, to-part}
+use Rattle.fitting.proofs.Places.{Index, upOf, block, inner, block-below, split, base, base-rep, base-column}
+use Rattle.fitting.proofs.Places.{place, place-up, place-rep, base-place, toward, to-in, to-part}
 use Rattle.fitting.proofs.Closing.{closes-at}
 
 module _ (W : Fitted) where
@@ -78,22 +79,11 @@ module _ (W : Fitted) where
         let z = F .X j (base W x) in
         (place W (toward W j ij jn u) (to W u j k) (to-in W j ij jn u k (block-below W x)) (z .0) (mapped-rep x), add (z .1) (scalar W u j k))
 
-  unfoldable pub mapped-at : (j : ℕ) → Dec (W .R .i < j) → Dec (j < W .R .T .n) → Map (E (W .R)) (Index W)
-  mapped-at j (yes a) (yes b) = mapped j a b
-  mapped-at j (yes a) (no b) = maps (E R) (Index W) .one
-  mapped-at j (no a) d = maps (E R) (Index W) .one
-
-  unfoldable pub high-X : ℕ → Map (E (W .R)) (Index W)
-  high-X j = mapped-at j (decLt i j) (decLt j (T .n))
+  abbrev pub high-X : ℕ → Map (E (W .R)) (Index W)
+  high-X = between (W .R .i) (W .R .T .n) mapped (maps (E (W .R)) (Index W) .one)
 
   pub high-X-is : (j : ℕ) (ij : W .R .i < j) (jn : j < W .R .T .n) → high-X j ≡ mapped j ij jn
-  unfolding high-X mapped-at
-  high-X-is j ij jn = go (decLt i j) (decLt j (T .n))
-    where
-      go : (d : Dec (i < j)) (d′ : Dec (j < T .n)) → mapped-at j d d′ ≡ mapped j ij jn
-      go (yes a) (yes b) = ap₂ (mapped j) (le-prop a ij) (le-prop b jn)
-      go (yes a) (no b) = absurd (b jn)
-      go (no a) d = absurd (a ij)
+  high-X-is = between-is i (T .n) mapped (maps (E R) (Index W) .one)
 
   abbrev pub target : ℕ → ℕ → ℕ
   target j r = repOf (W .High) r .ref j 0
@@ -115,7 +105,7 @@ module _ (W : Fitted) where
   from f κ (yes b) g z = g (b .u) (b .k)
   from f κ (no b) g z = z
 
-  pub select : {A : Type 0} → (Up W → ℕ → A) → A → ℕ → ℕ → A
+  select : {A : Type 0} → (Up W → ℕ → A) → A → ℕ → ℕ → A
   select g z f κ = from f κ (found f κ) g z
 
   select-at : {A : Type 0} (g : Up W → ℕ → A) (z : A) (u : Up W) (k : ℕ) → k < count W u → select g z (part W u k) (number W u) ≡ g u k
@@ -238,5 +228,5 @@ module _ (W : Fitted) where
     one-rep = one-rep;
   }
 
-  abbrev pub family : Family (E (W .R)) (Index W) (level (W .R .T .context) (suc (W .R .i))) (conjNf (W .R .T .context) (suc (W .R .i))) (suc (W .R .i)) (W .R .T .n)
+  abbrev pub family : let C = W .R .T .context in Family (E (W .R)) (Index W) (level C (suc (W .R .i))) (conjNf C (suc (W .R .i))) (suc (W .R .i)) (W .R .T .n)
   family = StepOf.next (S (W .R)) (W .R .F) (𝓢 W) (ρ W) (base W) (λ x. number W (upOf W x)) high-d high-X (λ (x : Index W). x .0 .0) target step

@@ -2,7 +2,7 @@
 --
 --   scalars-undo      they do, from each block on
 use mathlib.Core.Path.{_≡_, sym, _∙_, ap, ap₂, subst}
-use Prim.Native.Nat.{ℕ, zero, suc, _*_, _<_}
+use Prim.Native.Nat.{ℕ, zero, suc, _<_}
 use native.Mathlib.Nat.{zero-mul}
 use native.Mathlib.Omega.{arith}
 use Rattle.definitions.specs.declared.Entry.{Entry}
@@ -86,7 +86,7 @@ module _ (W : Fitted) (u : Up W) where
     met = Residue-path m _ _ (sym left ∙ same-exp _ _ (fit W u .power) ∙ right)
 
     shift : (g d w : Residue m) → add (add g (add d w)) nil ≡ add w (add g d)
-    shift g d w = idr (E R) _ ∙ simp (E R .assoc, E R .comm, lcomm (E R))
+    shift g d w = idr (E R) _ ∙ simp (E R .comm, lcomm (E R))
 
     undone-zero : Undone 0
     undone-zero a e =

@@ -1,13 +1,12 @@
 -- The scalars of generator i by representation of the level below, and the numbers of the representations of a level that fits.
 --
 --   Some, some                    a block with a property, by search
---   shared                        blocks of one reference are one, or of two representations of one block with other scalars
+--   shared                        blocks of one reference are one, but for two representations of one block with other scalars
 --   σ, norm, 𝓢, ρ                 the scalar of a reference; they undo the defect; the roots of unity by number
 --   number, number-small, number-many      the number of a representation
 --   scalar-is                     the scalar of a block is that of its reference times the root of the number
 --   same-block                    reference and number tell a block
 use mathlib.Core.Path.{_≡_, refl, sym, _∙_, ap, ap₂, subst}
-use mathlib.Core.Logic.{_⊎_, inl, inr}
 use Prim.Native.Nat.{ℕ, _+_, _*_, _-_, _<_}
 use native.Mathlib.Nat.{zero-mul}
 use native.Mathlib.Omega.{arith}
@@ -28,7 +27,8 @@ use Rattle.clifford.proofs.Top.{Normed}
 use Rattle.clifford.proofs.Step.{Roots}
 use Rattle.clifford.proofs.Scalars as Built
 use Rattle.clifford.proofs.Extensions.{E, first, first-rep}
-use Rattle.fitting.proofs.Parts.{search, Fitted, Up, up-path, fit, count, width, part, turn, part-below, turns-below, part-iter, part-one, one-zero, one-fixed, moved-part}
+use Rattle.fitting.proofs.Parts.{search, Fitted, Up, up-path, count, width, part, turn, part-below}
+use Rattle.fitting.proofs.Parts.{turns-below, part-iter, part-one, one-zero, one-fixed, moved-part}
 use Rattle.fitting.proofs.Spots.{scalar, spot-exp, column-high}
 use Rattle.fitting.proofs.Round.{scalars-undo}
 
@@ -75,25 +75,26 @@ module _ (W : Fitted) where
   abbrev Apart : Up W → Up W → Type 0
   Apart u v = (count W u ≡ 1) × (count W v ≡ 1) × ¬ (scalar W u i 0 ≡ scalar W v i 0)
 
-  shared : (u v : Up W) (k k′ : ℕ) → k < count W u → k′ < count W v → part W u k ≡ part W v k′ → ((u ≡ v) × (k ≡ k′)) ⊎ Apart u v
-  shared u v k k′ h h′ e = go (ℕ-discrete (u .0) (v .0))
+  shared : (u v : Up W) (k k′ : ℕ) → k < count W u → k′ < count W v → part W u k ≡ part W v k′ → ¬ Apart u v → (u ≡ v) × (k ≡ k′)
+  shared u v k k′ h h′ e na = go (ℕ-discrete (u .0) (v .0))
     where
-      go : Dec (u .0 ≡ v .0) → ((u ≡ v) × (k ≡ k′)) ⊎ Apart u v
+      go : Dec (u .0 ≡ v .0) → (u ≡ v) × (k ≡ k′)
       go (yes q) =
           let s : u ≡ v = up-path W u v q in
-          inl (s, part-one W u k k′ h (subst (λ u. k′ < count W u) (sym s) h′) (e ∙ ap (λ u. part W u k′) (sym s)))
+          (s, part-one W u k k′ h (subst (λ u. k′ < count W u) (sym s) h′) (e ∙ ap (λ u. part W u k′) (sym s)))
       go (no q) =
           let (a, b, ne) = fits .unshared (u .0) (v .0) (u .1) (v .1) q k k′ h h′ e in
           let f : part W u 0 ≡ part W v 0 = ap (part W u) (sym (one-zero W u k a h)) ∙ e ∙ ap (part W v) (one-zero W v k′ b h′) in
-          inr (a, b, λ s. ne (exp-zero u (omega arith) ∙ ap₂ (λ f (t : Residue m). (add ((F .X i (first R f)) .1) t) .0) f s ∙ sym (exp-zero v (omega arith))))
+          absurd (na (
+            a,
+            b,
+            λ s. ne (exp-zero u (omega arith) ∙ ap₂ (λ f (t : Residue m). (add ((F .X i (first R f)) .1) t) .0) f s
+                ∙ sym (exp-zero v (omega arith))),
+          ))
 
   moved-same : (u v : Up W) (k k′ : ℕ) → k < count W u → k′ < count W v → part W u k ≡ part W v k′
       → ¬ (τ R (part W u k) ≡ part W u k) → (u ≡ v) × (k ≡ k′)
-  moved-same u v k k′ l l′ e mv = go (shared u v k k′ l l′ e)
-    where
-      go : ((u ≡ v) × (k ≡ k′)) ⊎ Apart u v → (u ≡ v) × (k ≡ k′)
-      go (inl a) = a
-      go (inr (a, b, c)) = absurd (mv (one-fixed W u k a l))
+  moved-same u v k k′ l l′ e mv = shared u v k k′ l l′ e (λ (a, b, c). mv (one-fixed W u k a l))
 
   -- ---- Scalars
 
@@ -278,10 +279,6 @@ module _ (W : Fitted) where
       go (no e) = sym (ap₂ add (σ-part u k l (moved-part W u e k l)) (ap (λ k. times (E R) k ε) (number-many u e) ∙ total-zero (E R) (λ k. ε)) ∙ idr (E R) _)
 
   pub same-block : (u v : Up W) (k k′ : ℕ) → k < count W u → k′ < count W v → part W u k ≡ part W v k′ → number u ≡ number v → (u ≡ v) × (k ≡ k′)
-  same-block u v k k′ l l′ e n = go (shared u v k k′ l l′ e)
-    where
-      go : ((u ≡ v) × (k ≡ k′)) ⊎ Apart u v → (u ≡ v) × (k ≡ k′)
-      go (inl a) = a
-      go (inr (a, b, c)) =
-          let one : scalar W u i k ≡ scalar W v i k′ = scalar-is u k l ∙ ap₂ (λ f κ. add (σ f) (times (E R) κ ε)) e n ∙ sym (scalar-is v k′ l′) in
-          absurd (c (ap (scalar W u i) (sym (one-zero W u k a l)) ∙ one ∙ ap (scalar W v i) (one-zero W v k′ b l′)))
+  same-block u v k k′ l l′ e n =
+      let one : scalar W u i k ≡ scalar W v i k′ = scalar-is u k l ∙ ap₂ (λ f κ. add (σ f) (times (E R) κ ε)) e n ∙ sym (scalar-is v k′ l′) in
+      shared u v k k′ l l′ e (λ (a, b, c). c (ap (scalar W u i) (sym (one-zero W u k a l)) ∙ one ∙ ap (scalar W v i) (one-zero W v k′ b l′)))

@@ -23,14 +23,14 @@ use Rattle.monomial.proofs.Maps.{pair, column as at-column}
 use Rattle.clifford.specs.Stands.{Rung, Stands}
 use Rattle.clifford.proofs.Numbering.{S}
 use Rattle.clifford.proofs.Levels.{exponentNf, exponent-low, exponent-top}
-use Rattle.clifford.proofs.Top.{Normed, raised}
+use Rattle.clifford.proofs.Top.{raised}
 use Rattle.clifford.proofs.Step.{numbered, Y-numbered-at}
 use Rattle.clifford.proofs.Extensions.{E, gen-below, gen-last}
 use Rattle.clifford.proofs.Basis.{basis-frame, basis-complete}
 use Rattle.fitting.proofs.Parts.{Fitted, Up, fit, width, to, turn}
 use Rattle.fitting.proofs.Spots.{scalar, spot, column-low, column-high}
 use Rattle.fitting.proofs.Scales.{σ, 𝓢, ε, ρ, number, scalar-is}
-use Rattle.fitting.proofs.Places.{Index, upOf, block, block-below, split, base, base-rep, base-column, place-rep, place-column, toward, toward-width}
+use Rattle.fitting.proofs.Places.{Index, upOf, block, block-below, split, base, base-rep, base-column, place-rep, place-column, toward-width}
 use Rattle.fitting.proofs.Raise.{high-d, high-X, high-X-is, mapped, mapped-to, target, family}
 
 module _ (W : Fitted) where

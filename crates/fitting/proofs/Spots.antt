@@ -96,10 +96,12 @@ module _ (W : Fitted) where
     column-high g ig gn =
         let t : ℕ = scalarOf (P R) (T .n) m i L High (u .0) (fit W u .cut) g k in
         fit W u .shifts g k (column a) ig gn l column-width
-        ∙ ap (λ (y : Entry). entry (to W u g k * width W u + y .row) ((y .exp + t) % m)) (stands .intertwines g ig gn (part W u k) (part-below W u k l) .shown a e)
+        ∙ ap (λ (y : Entry). entry (to W u g k * width W u + y .row) ((y .exp + t) % m))
+        (stands .intertwines g ig gn (part W u k) (part-below W u k l) .shown a e)
         ∙ ap (entry (to W u g k * width W u + column ((F .X g a) .0))) (plus-value ((F .X g a) .1) t)
 
-  pub act-spot : (u : Up W) (M : Matrix) (k k′ : ℕ) (a b : W .R .Ω) (x y : Residue (W .R .m)) → col M (k * width W u + W .R .stands .column a) ≡ spot u k′ (b, y)
+  pub act-spot : (u : Up W) (M : Matrix) (k k′ : ℕ) (a b : W .R .Ω) (x y : Residue (W .R .m))
+      → col M (k * width W u + W .R .stands .column a) ≡ spot u k′ (b, y)
       → act (W .R .m) M (spot u k (a, x)) ≡ spot u k′ (b, E (W .R) .add y x)
   unfolding act spot
   act-spot u M k k′ a b x y e =
