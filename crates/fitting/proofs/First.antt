@@ -77,7 +77,7 @@ module _ (P : Presentation) (n m : ℕ) (High : Level) (Q : FirstFits P n m High
     scalar-exp g k a l =
         ap₂ (λ c (x : Entry). less m (col (M g) c .exp) (x .exp)) (first-column k l) (zero-column g) ∙ less-zero m (col (M g) 0 .exp) (Q .exp-below r g h a)
 
-    -- a column of level 0, moved to block t and scaled by s
+    -- a column below, moved to block t and scaled by s
     shifted : ℕ → ℕ → Entry → Entry
     shifted t s x = entry (t * 1 + x .row) ((x .exp + s) % m)
 

@@ -43,6 +43,7 @@ search (suc n) Q d = go (search n (λ k l. Q k (omega arith)) (λ k l. d k (omeg
             let e : k ≡ n = omega arith in
             b (subst (λ (z : (k : ℕ) × (k < suc n)). Q (z .0) (z .1)) (Σ-prop-path (λ z. le-prop) e) q)
 
+-- a rung, and above it a level that fits
 pub record Fitted : Type 1 where
   pub R : Rung
   pub High : Level
@@ -56,6 +57,7 @@ module _ (W : Fitted) where
 
   -- ---- A representation of the level
 
+  -- its number, and that it is listed
   abbrev pub Up : Type 0
   Up = (r : ℕ) × (r < length (W .High))
 
@@ -65,6 +67,7 @@ module _ (W : Fitted) where
   abbrev pub fit : (u : Up) → Fitting (P (W .R)) (W .R .T .n) (W .R .m) (W .R .i) (W .R .L) (W .High) (u .0)
   fit u = fits .fit (u .0) (u .1)
 
+  -- so many blocks, so wide, and the reference of each
   abbrev pub count : Up → ℕ
   count u = fit u .cut .count
 
@@ -74,6 +77,7 @@ module _ (W : Fitted) where
   abbrev pub part : Up → ℕ → ℕ
   part u = fit u .cut .part
 
+  -- the block to which generator g takes block k
   unfoldable pub to : Up → (g k : ℕ) → ℕ
   to u g k = blockTo (P R) (T .n) m i L High (u .0) (fit u .cut) g k
 

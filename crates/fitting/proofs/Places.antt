@@ -51,6 +51,7 @@ module _ (W : Fitted) where
   inner-below x =
       subst (λ z. inner x < z) (sym (fit W (upOf x) .cut .part-degree (block x) (block-below x))) (mod-lt (x .0 .1) (fit W (upOf x) .cut .width-pos))
 
+  -- the column of its block, in the representation to which the block refers
   pub base : Index → W .R .Ω
   base x = complete .find (part W (upOf x) (block x)) (inner x) (part-in x) (inner-below x)
 
@@ -64,6 +65,7 @@ module _ (W : Fitted) where
 
   -- ---- The basis index above
 
+  -- above a, in block k of u
   unfoldable pub place : (u : Up W) (k : ℕ) → k < count W u → (a : W .R .Ω) → W .R .F .rep a ≡ part W u k → Index
   place u k l a e = (
     (u .0, k * width W u + column a),
@@ -113,6 +115,7 @@ module _ (W : Fitted) where
       ap (repOf High (u .0) .ref 0) z ∙ fit W u .cut .refers 0 (omega arith) k 0 l (fit W u .cut .width-pos)
 
   module _ (j : ℕ) (ij : W .R .i < j) (jn : j < W .R .T .n) where
+    -- its reference in generator j
     abbrev pub toward : Up W → Up W
     toward u = (repOf (W .High) (u .0) .ref j 0, fit W u .listed j ij jn)
 

@@ -45,6 +45,10 @@ module _ (W : Fitted) where
   abbrev numberOf : Index W → ℕ
   numberOf x = number W (upOf W x)
 
+  -- generator i takes blocks where it takes what is below
+  base-iter : (x : Index W) (n : ℕ) → part W (upOf W x) (iter (turn W (upOf W x)) n (block W x)) ≡ iter (τ R) n (F .rep (base W x))
+  base-iter x n = part-iter W (upOf W x) (block W x) n (block-below W x) ∙ ap (iter (τ R) n) (sym (base-rep W x))
+
   -- ---- The maps of normal forms
 
   abbrev 𝓨 : Index W → Normed (S R) F
@@ -52,12 +56,11 @@ module _ (W : Fitted) where
 
   raised-rep : (w : Nf C (suc i)) (x : Index W)
       → F .rep ((raised (S R) F (𝓨 x) w (base W x)) .0) ≡ part W (upOf W x) (iter (turn W (upOf W x)) (exponentNf C i w) (block W x))
-  raised-rep w x =
-      raised-maps (S R) F (𝓨 x) w (base W x) ∙ ap (iter (τ R) (exponentNf C i w)) (base-rep W x)
-      ∙ sym (part-iter W (upOf W x) (block W x) _ (block-below W x))
+  raised-rep w x = raised-maps (S R) F (𝓨 x) w (base W x) ∙ sym (base-iter x (exponentNf C i w))
 
+  -- above what the numbered family below does
   unfoldable pub high-d : Nf (W .R .T .context) (suc (W .R .i)) → Map (E (W .R)) (Index W)
-  unfolding raised-rep
+  unfolding raised-rep base-iter
   high-d w x =
       let u : Up W = upOf W x in
       let z = raised (S R) F (𝓨 x) w (base W x) in
@@ -71,6 +74,7 @@ module _ (W : Fitted) where
     mapped-rep x =
         F .maps-to j (omega arith) jn (base W x) ∙ ap (F .target j) (base-rep W x) ∙ sym (to-part W j ij jn (upOf W x) (block W x) (block-below W x))
 
+    -- above what the intertwiner below does, with the scalar of the block
     unfoldable pub mapped : Map (E (W .R)) (Index W)
     unfolding mapped-rep
     mapped x =
@@ -85,6 +89,7 @@ module _ (W : Fitted) where
   pub high-X-is : (j : ℕ) (ij : W .R .i < j) (jn : j < W .R .T .n) → high-X j ≡ mapped j ij jn
   high-X-is = between-is i (T .n) mapped (maps (E R) (Index W) .one)
 
+  -- where generator j leads representation r
   abbrev pub target : ℕ → ℕ → ℕ
   target j r = repOf (W .High) r .ref j 0
 
@@ -105,6 +110,7 @@ module _ (W : Fitted) where
   from f κ (yes b) g z = g (b .u) (b .k)
   from f κ (no b) g z = z
 
+  -- g of the block with reference f and number κ, and z where there is none
   select : {A : Type 0} → (Up W → ℕ → A) → A → ℕ → ℕ → A
   select g z f κ = from f κ (found f κ) g z
 
@@ -123,12 +129,13 @@ module _ (W : Fitted) where
   select-moved : {A : Type 0} (g : Up W → ℕ → A) (z : A) (x : Index W) (n : ℕ)
       → select g z (iter (τ R) n (F .rep (base W x))) (numberOf x) ≡ g (upOf W x) (iter (turn W (upOf W x)) n (block W x))
   select-moved g z x n =
-      ap (λ f. select g z f (numberOf x)) (ap (iter (τ R) n) (base-rep W x) ∙ sym (part-iter W (upOf W x) (block W x) n (block-below W x)))
+      ap (λ f. select g z f (numberOf x)) (sym (base-iter x n))
       ∙ select-at g z (upOf W x) _ (turns-below W (upOf W x) (block W x) n (block-below W x))
 
   -- ---- The intertwiners
 
   module _ (j : ℕ) (ij : W .R .i < j) (jn : j < W .R .T .n) where
+    -- scalar and number of the intertwiner above a reference and a number
     abbrev c : ℕ → ℕ → Residue (R .m)
     c = select (λ u k. scalar W u j k) nil
 
@@ -158,15 +165,16 @@ module _ (W : Fitted) where
         (select-moved (λ u k. scalar W u j k) nil x A)
         ∙ closes-at W j ij jn u k (block-below W x) ∙ sym (ap₂ (λ y z. add y (times (E R) z (ε W))) (c-at x) (ν-at x))
 
-    abbrev Up-at : Map (E R) (Index W) → Index W → Type 0
-    Up-at f x = At (E R) (base W) numberOf (f x) ((F .X j (base W x)) .0) (ν (F .rep (base W x)) (numberOf x))
+    -- f takes x to what is above its image under the intertwiner below
+    abbrev Above : Map (E R) (Index W) → Index W → Type 0
+    Above f x = At (E R) (base W) numberOf (f x) ((F .X j (base W x)) .0) (ν (F .rep (base W x)) (numberOf x))
         (add ((F .X j (base W x)) .1) (c (F .rep (base W x)) (numberOf x)))
 
-    up : (x : Index W) → Up-at (high-X j) x
-    up x = subst (λ (f : Map (E R) (Index W)). Up-at f x) (sym (high-X-is j ij jn)) there
+    up : (x : Index W) → Above (high-X j) x
+    up x = subst (λ (f : Map (E R) (Index W)). Above f x) (sym (high-X-is j ij jn)) mapped-above
       where
-        there : Up-at (mapped j ij jn) x
-        there = unfold mapped in (record {
+        mapped-above : Above (mapped j ij jn) x
+        mapped-above = unfold mapped in (record {
           is-base = base-place W _ _ _ _ _;
           is-number = ap (number W) (place-up W _ _ _ _ _) ∙ sym (ν-at x);
           is-exponent = ap (add ((F .X j (base W x)) .1)) (sym (c-at x));
@@ -180,8 +188,8 @@ module _ (W : Fitted) where
 
   injective : (x y : Index W) → base W x ≡ base W y → numberOf x ≡ numberOf y → x ≡ y
   injective x y e n =
-      let (a, b) = same-block W (upOf W x) (upOf W y) (block W x) (block W y) (block-below W x) (block-below W y)
-      (sym (base-rep W x) ∙ ap (F .rep) e ∙ base-rep W y) n in
+      let s : part W (upOf W x) (block W x) ≡ part W (upOf W y) (block W y) = sym (base-rep W x) ∙ ap (F .rep) e ∙ base-rep W y in
+      let (a, b) = same-block W (upOf W x) (upOf W y) (block W x) (block W y) (block-below W x) (block-below W y) s n in
       let w : width W (upOf W x) ≡ width W (upOf W y) = ap (width W) a in
       let c : inner W x ≡ inner W y = sym (base-column W x) ∙ ap column e ∙ base-column W y in
       basis-path High x y (ap (λ u. u .0) a) (sym (split W x) ∙ ap₂ (_+_) (ap₂ (_*_) b w) c ∙ split W y)
@@ -194,20 +202,15 @@ module _ (W : Fitted) where
   one-orbit x y e =
       let u : Up W = upOf W x in
       let s : u ≡ upOf W y = up-path W u (upOf W y) e in
-      let (k, f) = reach W u (block W x) (block W y) (block-below W x) (subst (λ u. block W y < count W u) (sym s) (block-below W y)) in (
-        ap (number W) s,
-        (
-          k,
-          ap (iter (τ R) k) (base-rep W x) ∙ sym (part-iter W u (block W x) k (block-below W x)) ∙ ap (part W u) f
-              ∙ ap (λ u. part W u (block W y)) s ∙ sym (base-rep W y),
-        ),
-      )
+      let (k, f) = reach W u (block W x) (block W y) (block-below W x) (subst (λ u. block W y < count W u) (sym s) (block-below W y)) in
+      let g : part W u (iter (turn W u) k (block W x)) ≡ F .rep (base W y) = ap (part W u) f ∙ ap (λ u. part W u (block W y)) s ∙ sym (base-rep W y) in
+      (ap (number W) s, (k, sym (base-iter x k) ∙ g))
 
   one-rep : (x y : Index W) → numberOf x ≡ numberOf y → (k : ℕ) → iter (τ R) k (F .rep (base W x)) ≡ F .rep (base W y) → x .0 .0 ≡ y .0 .0
   one-rep x y n k e =
       let u : Up W = upOf W x in
-      let (a, b) = same-block W u (upOf W y) (iter (turn W u) k (block W x)) (block W y) (turns-below W u (block W x) k (block-below W x)) (block-below W y)
-      (part-iter W u (block W x) k (block-below W x) ∙ ap (iter (τ R) k) (sym (base-rep W x)) ∙ e ∙ base-rep W y) n in
+      let l : iter (turn W u) k (block W x) < count W u = turns-below W u (block W x) k (block-below W x) in
+      let (a, b) = same-block W u (upOf W y) (iter (turn W u) k (block W x)) (block W y) l (block-below W y) (base-iter x k ∙ e ∙ base-rep W y) n in
       ap (λ u. u .0) a
 
   pub step : Step (S (W .R)) (W .R .F) (𝓢 W) (ρ W) (base W) (λ x. number W (upOf W x)) high-d high-X (λ (x : Index W). x .0 .0) target

@@ -40,6 +40,7 @@ module _ (W : Fitted) where
 
   -- ---- Blocks with a property
 
+  -- a block of which Q holds
   pub record Some (Q : (u : Up W) (k : ℕ) → k < count W u → Type 0) : Type 0 where
     pub u : Up W
     pub k : ℕ
@@ -178,6 +179,7 @@ module _ (W : Fitted) where
         go (no mv) (yes b) = ap (λ s. add s δ) (total-ext (E R) _ _ (p R) (λ k l. along mv b k)) ∙ scalars-undo W (b .u) (b .k) (b .l) a (sym (b .holds))
         go (no mv) (no nb) = as-built (λ k l. σ-none (iter (τ R) k f) (λ s. nb (back k l s)))
 
+  -- as a step takes them
   abbrev pub 𝓢 : Normed (S (W .R)) (W .R .F)
   𝓢 = record { σ = σ; norm = norm }
 
@@ -200,6 +202,7 @@ module _ (W : Fitted) where
   numberBy u (yes e) = log m pos parts (excess u)
   numberBy u (no e) = 0
 
+  -- the power of ε that the excess is; with several blocks there is none
   pub number : Up W → ℕ
   number u = numberBy u (ℕ-discrete (count W u) 1)
 

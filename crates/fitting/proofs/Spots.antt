@@ -59,9 +59,11 @@ module _ (W : Fitted) where
   infixl 70 _*′_
   open Mul (level (W .R .T .context) (W .R .i)) using (mul as _*′_)
 
+  -- what generator g adds in block k to the exponents below
   unfoldable pub scalar : Up W → (g k : ℕ) → Residue (W .R .m)
   scalar u g k = residue m pos (scalarOf (P R) (T .n) m i L High (u .0) (fit W u .cut) g k)
 
+  -- the column of block k above a basis index, with an exponent
   unfoldable pub spot : Up W → ℕ → W .R .Ω × Residue (W .R .m) → Entry
   spot u k z = entry (k * width W u + column (z .0)) (z .1 .0)
 
@@ -100,6 +102,7 @@ module _ (W : Fitted) where
         (stands .intertwines g ig gn (part W u k) (part-below W u k l) .shown a e)
         ∙ ap (entry (to W u g k * width W u + column ((F .X g a) .0))) (plus-value ((F .X g a) .1) t)
 
+  -- exponents add up
   pub act-spot : (u : Up W) (M : Matrix) (k k′ : ℕ) (a b : W .R .Ω) (x y : Residue (W .R .m))
       → col M (k * width W u + W .R .stands .column a) ≡ spot u k′ (b, y)
       → act (W .R .m) M (spot u k (a, x)) ≡ spot u k′ (b, E (W .R) .add y x)
