@@ -17,6 +17,7 @@ use Rattle.numbers.proofs.Sums.{sum-below, sum-const}
 use Rattle.monomial.proofs.Frames.{entry-path}
 use Rattle.columns.specs.Columns.{intertwinesAt}
 use Rattle.clifford.specs.Stands.{Restricts}
+use Rattle.clifford.proofs.Standing.{zero-length, zero-degree, zero-ref}
 use Rattle.fitting.specs.Fits.{blockTo, scalarOf, Fitting, Fits}
 use Rattle.fitting.specs.First.{FirstFits}
 
@@ -25,18 +26,6 @@ use Rattle.fitting.specs.First.{FirstFits}
 zero-column : (g : ℕ) → col (repOf levelZero 0 .matrix g) 0 ≡ entry 0 0
 unfolding repOf levelZero identity col upto
 zero-column g = refl
-
-zero-degree : repOf levelZero 0 .deg ≡ 1
-unfolding repOf levelZero
-zero-degree = refl
-
-zero-ref : (g c : ℕ) → repOf levelZero 0 .ref g c ≡ 0
-unfolding repOf levelZero
-zero-ref g c = refl
-
-zero-length : length levelZero ≡ 1
-unfolding levelZero
-zero-length = refl
 
 less-zero : (m x : ℕ) → x < m → less m x 0 ≡ x
 unfolding less
