@@ -7,6 +7,7 @@ pub mod Scalars
 pub mod Numbering
 pub mod Indices
 pub mod Extensions
+pub mod Between
 pub mod Next
 pub mod Inductions
 pub mod Intertwiners
@@ -18,8 +19,10 @@ pub mod Lines
 pub mod Agreement
 pub mod Separates
 pub mod Everywhere
+pub mod Basis
 pub mod Judged
 pub mod Cuts
+pub mod Passing
 pub mod Theorem
 pub mod Formulas
 pub mod Calls

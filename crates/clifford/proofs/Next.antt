@@ -10,9 +10,8 @@ use mathlib.Core.Path.{_≡_, refl, sym, _∙_, ap, ap₂, subst}
 use mathlib.Core.Bool.{cond}
 use Prim.Native.Nat.{ℕ, zero, suc, _+_, _*_, _-_, _%_, _<_, _∣_}
 use native.Mathlib.Nat.{mod-lt}
-use native.Mathlib.Bridge.{le-prop}
 use native.Mathlib.Omega.{arith}
-use native.Mathlib.Decide.{decLt, ℕ-discrete}
+use native.Mathlib.Decide.{ℕ-discrete}
 use lib.Dec.{leb}
 use borrow.Author.Tests.{lt-leb}
 use Rattle.definitions.specs.Lists.{sum, iter}
@@ -36,6 +35,7 @@ use Rattle.clifford.proofs.Top.{Normed, raised, raised-maps, swap, fixe
 use Rattle.clifford.proofs.Step as StepOf
 use Rattle.clifford.proofs.Step.{numbered, Step}
 use Rattle.clifford.proofs.Scalars.{parts, unit-shift, q̂, c, ν, ν-fixed, ν-moved, ν-below, number-stays, closes}
+use Rattle.clifford.proofs.Between.{between, between-is}
 use Rattle.clifford.proofs.Extensions.{E, 𝓢, ρ, first, first-rep, l-is}
 
 module _ (R : Rung) where
@@ -127,22 +127,11 @@ module _ (R : Rung) where
       E R .add ((F .X j (base R x)) .1) (c (S R) m pos F (ready R) j ij jn (rep R (base R x))),
     )
 
-  unfoldable pub mapped-at : (j : ℕ) → Dec (i < j) → Dec (j < T .n) → Map (E R) (Index R)
-  mapped-at j (yes a) (yes b) = mapped j a b
-  mapped-at j (yes a) (no b) = maps (E R) (Index R) .one
-  mapped-at j (no a) d = maps (E R) (Index R) .one
-
-  unfoldable pub next-X : ℕ → Map (E R) (Index R)
-  next-X j = mapped-at j (decLt i j) (decLt j (T .n))
+  abbrev pub next-X : ℕ → Map (E R) (Index R)
+  next-X = between i (T .n) mapped (maps (E R) (Index R) .one)
 
   pub next-X-is : (j : ℕ) (ij : i < j) (jn : j < T .n) → next-X j ≡ mapped j ij jn
-  unfolding next-X mapped-at
-  next-X-is j ij jn = go (decLt i j) (decLt j (T .n))
-    where
-      go : (d : Dec (i < j)) (d′ : Dec (j < T .n)) → mapped-at j d d′ ≡ mapped j ij jn
-      go (yes a) (yes b) = ap₂ (mapped j) (le-prop a ij) (le-prop b jn)
-      go (yes a) (no b) = absurd (b jn)
-      go (no a) d = absurd (a ij)
+  next-X-is = between-is i (T .n) mapped (maps (E R) (Index R) .one)
 
   abbrev pub next-target : ℕ → ℕ → ℕ
   next-target j r = repOf (next R) r .ref j 0
@@ -206,7 +195,7 @@ module _ (R : Rung) where
   pub step : Step (S R) F (𝓢 R) (ρ R) (base R) (number R) next-d next-X (next-rep R) next-target
   unfolding next-d next-rep
   step = record {
-    c = c (S R) m pos F (ready R);
+    c = λ j ij jn r κ. c (S R) m pos F (ready R) j ij jn r;
     ν = ν (S R) m pos F (ready R);
     decide = Index-discrete R;
     injective = Index-path R;

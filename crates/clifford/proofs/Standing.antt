@@ -1,5 +1,6 @@
 -- From level 0 up: every level of the steps stands on a family, and is cut into blocks of the level below.
 --
+--   zero-length, zero-degree, zero-ref     level 0 has one representation, of degree 1
 --   Setting              a tested presentation, a modulus, and what the steps need of both
 --   Standing             a level that stands, with the references of the level as targets
 --   standing             every level of the steps does
@@ -33,6 +34,20 @@ use Rattle.clifford.proofs.Indices.{Index}
 use Rattle.clifford.proofs.Next.{family}
 use Rattle.clifford.proofs.Climb.{next-stands, next-restricts}
 
+-- ---- The one representation of level 0
+
+pub zero-length : length levelZero ≡ 1
+unfolding levelZero
+zero-length = refl
+
+pub zero-degree : repOf levelZero 0 .deg ≡ 1
+unfolding repOf levelZero
+zero-degree = refl
+
+pub zero-ref : (g c : ℕ) → repOf levelZero 0 .ref g c ≡ 0
+unfolding repOf levelZero
+zero-ref g c = refl
+
 pub record Setting : Type 0 where
   pub T : Tested
   pub m : ℕ
@@ -64,21 +79,10 @@ module _ (G : Setting) where
     rep = λ a. 0;
     target = λ j r. repOf levelZero r .ref j 0;
     inside = λ x a. refl;
-    maps-to = λ j a b x. zero-ref j;
+    maps-to = λ j a b x. sym (zero-ref j 0);
     reached = λ a b q. (level (T .context) 0 .one, Unit-prop _ _);
     separated = λ a b ne. absurd (ne (Unit-prop a b));
   }
-    where
-      zero-ref : (j : ℕ) → 0 ≡ repOf levelZero 0 .ref j 0
-      zero-ref j = unfold repOf levelZero in refl
-
-  zero-degree : repOf levelZero 0 .deg ≡ 1
-  unfolding repOf levelZero
-  zero-degree = refl
-
-  zero-length : length levelZero ≡ 1
-  unfolding levelZero
-  zero-length = refl
 
   -- level 0 has one representation
   at-zero : (Q : ℕ → Type 0) → Q 0 → (r : ℕ) → r < length levelZero → Q r

@@ -91,10 +91,10 @@ module _ {G G⁺ : Type 0} {𝓖 : Mul G} {𝓖⁺ : Mul G⁺} {conj : ℕ → G
       abbrev at : Ω′ × E → Ω → ℕ → E → Type 0
       at = At 𝓔 base number
 
-      -- c j r is the scalar of the intertwiner of generator j on representation r, and ν j r κ the number of the
-      -- extension to which it maps the extension of number κ; j is above i
+      -- c j r κ is the scalar of the intertwiner of generator j above representation r with number κ, and ν j r κ the
+      -- number of the extension to which it maps the extension of number κ; j is above i
       pub record Step : Type 0 where
-        pub c : (j : ℕ) → i < j → j < n → ℕ → E
+        pub c : (j : ℕ) → i < j → j < n → ℕ → ℕ → E
         pub ν : (j : ℕ) → i < j → j < n → ℕ → ℕ → ℕ
         pub decide : Discrete Ω′
         pub injective : (x y : Ω′) → base x ≡ base y → number x ≡ number y → x ≡ y
@@ -102,11 +102,11 @@ module _ {G G⁺ : Type 0} {𝓖 : Mul G} {𝓖⁺ : Mul G⁺} {conj : ℕ → G
         pub plain : (x : Ω′) → ¬ (τ (rep (base x)) ≡ rep (base x)) → number x ≡ 0
         pub over : (x : G⁺) → Over 𝓔 base number (λ κ. raised S F (numbered κ) x) (d′ x)
         pub up : (j : ℕ) (ij : i < j) (jn : j < n) (x : Ω′)
-            → At 𝓔 base number (X′ j x) ((X j (base x)) .0) (ν j ij jn (rep (base x)) (number x)) (add ((X j (base x)) .1) (c j ij jn (rep (base x))))
+            → At 𝓔 base number (X′ j x) ((X j (base x)) .0) (ν j ij jn (rep (base x)) (number x)) (add ((X j (base x)) .1) (c j ij jn (rep (base x)) (number x)))
         pub number-stays : (j : ℕ) (ij : i < j) (jn : j < n) (x : Ω′) → ν j ij jn (iter τ (shift j) (rep (base x))) (number x) ≡ ν j ij jn (rep (base x)) (number x)
         pub closes : (j : ℕ) (ij : i < j) (jn : j < n) (x : Ω′)
-            → add (q S F 𝓢 j ij jn (base x)) (add (times 𝓔 (shift j) (times 𝓔 (number x) (R .ε))) (c j ij jn (iter τ (shift j) (rep (base x)))))
-            ≡ add (c j ij jn (rep (base x))) (times 𝓔 (ν j ij jn (rep (base x)) (number x)) (R .ε))
+            → add (q S F 𝓢 j ij jn (base x)) (add (times 𝓔 (shift j) (times 𝓔 (number x) (R .ε))) (c j ij jn (iter τ (shift j) (rep (base x))) (number x)))
+            ≡ add (c j ij jn (rep (base x)) (number x)) (times 𝓔 (ν j ij jn (rep (base x)) (number x)) (R .ε))
         pub maps-to : (j : ℕ) → suc i ≤ j → j < n → (x : Ω′) → rep′ ((X′ j x) .0) ≡ target′ j (rep′ x)
         -- two basis indices are of one representation exactly if their numbers are equal and their bases in one orbit
         pub one-orbit : (x y : Ω′) → rep′ x ≡ rep′ y → (number x ≡ number y) × ((k : ℕ) × (iter τ k (rep (base x)) ≡ rep (base y)))
@@ -164,7 +164,7 @@ module _ {G G⁺ : Type 0} {𝓖 : Mul G} {𝓖⁺ : Mul G⁺} {conj : ℕ → G
                     N .injective ((X′ j ((B′ x) .0)) .0) ((d′ (low h) ((X′ j x) .0)) .0)
                         (y .is-base ∙ ap (λ s. (X j s) .0) (b .is-base) ∙ ap (λ s. s .0) (two a) ∙ sym (v .is-base ∙ ap (λ s. (d h s) .0) (z .is-base)))
                         (y .is-number ∙ ap₂ (ν j ij jn) rb (b .is-number) ∙ sym (v .is-number ∙ z .is-number)) o,
-                    (ap₂ add (y .is-exponent ∙ ap₂ add (ap (λ s. (X j s) .1) (b .is-base)) (ap (c j ij jn) rb)) (b .is-exponent) ∙ rcomm 𝓔 _ _ _ ∙ ap (λ s. add s (c j ij jn (rep a))) (ap (λ s. s .1) (two a)) ∙ 𝓔 .assoc _ _ _
+                    (ap₂ add (y .is-exponent ∙ ap₂ add (ap (λ s. (X j s) .1) (b .is-base)) (ap₂ (c j ij jn) rb (b .is-number))) (b .is-exponent) ∙ rcomm 𝓔 _ _ _ ∙ ap (λ s. add s (c j ij jn (rep a) (number x))) (ap (λ s. s .1) (two a)) ∙ 𝓔 .assoc _ _ _
                         ∙ sym (ap₂ add (v .is-exponent ∙ ap (λ s. (d h s) .1) (z .is-base)) (z .is-exponent))) o,
                   )
 
@@ -208,8 +208,8 @@ module _ {G G⁺ : Type 0} {𝓖 : Mul G} {𝓖⁺ : Mul G⁺} {conj : ℕ → G
                     N .injective ((X′ j ((B′ x) .0)) .0) ((d′ top ((X′ j x) .0)) .0)
                         (y .is-base ∙ ap (λ s. (X j s) .0) (b .is-base) ∙ ap (λ s. s .0) (two a) ∙ sym (v .is-base ∙ ap (λ s. (X i s) .0) (z .is-base)))
                         (y .is-number ∙ ap₂ (ν j ij jn) rb (b .is-number) ∙ N .number-stays j ij jn x ∙ sym (v .is-number ∙ z .is-number)) o,
-                    (ap₂ add (y .is-exponent ∙ ap₂ add (ap (λ s. (X j s) .1) (b .is-base)) (ap (c j ij jn) rb)) (b .is-exponent) ∙ first _ _ _ _
-                        ∙ ap (λ s. add s (add (times 𝓔 (shift j) (ε^ (number x))) (c j ij jn (iter τ (shift j) (rep a))))) (ap (λ s. s .1) (two a))
+                    (ap₂ add (y .is-exponent ∙ ap₂ add (ap (λ s. (X j s) .1) (b .is-base)) (ap₂ (c j ij jn) rb (b .is-number))) (b .is-exponent) ∙ first _ _ _ _
+                        ∙ ap (λ s. add s (add (times 𝓔 (shift j) (ε^ (number x))) (c j ij jn (iter τ (shift j) (rep a)) (number x)))) (ap (λ s. s .1) (two a))
                         ∙ second _ _ _ _ _ ∙ ap (add (add (add ((X i ((X j a) .0)) .1) (σ (rep ((X j a) .0)))) ((X j a) .1))) (N .closes j ij jn x) ∙ third _ _ _ _ _
                         ∙ sym (ap₂ add (v .is-exponent ∙ ap₂ add (ap (λ s. (X i s) .1) (z .is-base)) (ap₂ add (ap (λ s. σ (rep s)) (z .is-base)) (ap ε^ (z .is-number)))) (z .is-exponent))) o,
                   )

@@ -4,7 +4,7 @@
 --   accepted             relations of a text that refusals 11, 12, 14 and 15 let pass are accepted
 --   built-passes         and their table passes
 use mathlib.Core.Path.{_≡_, refl, sym, _∙_, ap, subst}
-use mathlib.Core.Bool.{true, false, _&&_, not}
+use mathlib.Core.Bool.{true, false}
 use mathlib.Core.List.{List, [], _∷_}
 use Prim.Native.Nat.{ℕ, zero, suc, _*_, _%_, _≤_, _<_}
 use native.Mathlib.Nat.{mul-mod-right}
@@ -18,27 +18,21 @@ use Rattle.definitions.specs.Consistency.{Consistent, levelTest, test}
 use Rattle.definitions.specs.Monomial.{identity, Level, repOf}
 use Rattle.definitions.specs.Table.{levelWords, levelZero, levelAt, complete}
 use Rattle.definitions.specs.Steps.{levels, tableWith, tableOf}
-use Rattle.definitions.specs.Judgement
-use Rattle.definitions.specs.Answers.{firstOf, judgement}
-use Rattle.numbers.proofs.Bools.{and-left, and-intro, cond-false}
+use Rattle.definitions.specs.Answers.{judgement}
+use Rattle.numbers.proofs.Bools.{and-left, and-intro}
 use Rattle.numbers.proofs.Lists.{allBelow-elim, allBelow-intro}
 use Rattle.numbers.proofs.Prime.{Units, prime-units}
 use Rattle.numbers.proofs.Blocks.{blocks-below, length-table}
-use Rattle.group.proofs.Level.{level, conjNf}
 use Rattle.group.proofs.Group.{Test}
 use Rattle.group.proofs.Tests.{test-holds}
 use Rattle.group.proofs.Order.{order-positive}
 use Rattle.group.proofs.Context.{context, accept}
-use Rattle.monomial.specs.Families.{Family}
-use Rattle.monomial.proofs.Residues.{residues}
-use Rattle.clifford.specs.Stands.{Stands, Restricts}
+use Rattle.clifford.specs.Stands.{Restricts}
 use Rattle.clifford.specs.Accepted.{Accepted}
 use Rattle.clifford.proofs.Standing.{Setting, standing, restricts, setting}
 use Rattle.clifford.proofs.Lines.{Written, Agrees, table, table-length, read-back}
 use Rattle.clifford.proofs.Agreement.{agree-stands, agree-restricts, agree-words}
-use Rattle.clifford.proofs.Judged.{relations-hold, intertwiners-hold, separates-hold, squares-hold, valid-holds, listed-holds}
-use Rattle.clifford.proofs.Cuts.{blocks-whole, blocks-restrict}
-use Rattle.clifford.proofs.Everywhere.{everywhere-intro}
+use Rattle.clifford.proofs.Passing.{Founded, levels-pass}
 
 pub same-self : (xs : List ℕ) → same xs xs ≡ true
 unfolding same
@@ -102,9 +96,10 @@ module _ (A : Accepted) where
   agrees-at zero l = zero-agrees n
   agrees-at (suc i) l = read-back W i l
 
-  -- what holds of every family on which a level of the table stands
-  at-level : (i : ℕ) → i ≤ n → (Q : Type 0) → ((Ω : Type 0) (F : Family (residues m pos) Ω (level C i) (conjNf C i) i n) → Stands C n m pos i (Lv i) F → Q) → Q
-  at-level i l Q h = let St = standing G i l in h (St .Ω) (St .F) (agree-stands C n m pos i l (levels P m i) (Lv i) (agrees-at i l) (St .F) (St .stands))
+  founded-at : (i : ℕ) → i ≤ n → Founded C m pos i (Lv i)
+  founded-at i l =
+      let St = standing G i l in
+      record { Ω = St .Ω; F = St .F; stands = agree-stands C n m pos i l (levels P m i) (Lv i) (agrees-at i l) (St .F) (St .stands) }
 
   restricts-at : (i : ℕ) → i < n → (r : ℕ) → r < length (Lv (suc i)) → Restricts i (Lv i) (repOf (Lv (suc i)) r)
   restricts-at i l r h =
@@ -114,7 +109,7 @@ module _ (A : Accepted) where
   pub whole-words : (k : ℕ) × (length (tableOf (A .C .P)) ≡ lineWords * k)
   whole-words = (_, ap length table-is ∙ table-length W)
 
-  -- ---- 21
+  -- ---- Its lines
 
   whole-lines : eqb (length T % lineWords) 0 ≡ true
   whole-lines = eq-eqb _ _ (ap (λ z. z % lineWords) (table-length W) ∙ mul-mod-right lineWords _)
@@ -122,49 +117,16 @@ module _ (A : Accepted) where
   complete-holds : complete n T ≡ true
   unfolding complete
   complete-holds =
-      and-intro _ _ (allBelow-intro n _ (λ i l. lt-ltb _ _ (at-level (suc i) l (0 < length (Lv (suc i))) (λ Ω F St. St .nonempty))))
+      and-intro _ _ (allBelow-intro n _ (λ i l. lt-ltb _ _ (founded-at (suc i) l .stands .nonempty)))
       (ap (same T) (sym lines) ∙ same-self T)
     where
       lines : T ≡ blocks n (λ i. levelWords n (suc i) (Lv (suc i)))
       lines = unfold table in (blocks-below n (λ k. levelWords n (suc k) (levels P m (suc k))) (λ i. levelWords n (suc i) (Lv (suc i))) (λ i l. agree-words n (suc i) (levels P m (suc i)) (Lv (suc i)) (agrees-at (suc i) l)))
 
-  not-malformed : Judgement.malformed P m T ≡ false
-  unfolding Judgement.malformed
-  not-malformed = ap not (and-intro _ _ (and-intro _ _ whole-lines complete-holds) (everywhere-intro P m T (λ i D. Judgement.matricesValid P m T i D && Judgement.blocksWhole P m T i D && Judgement.targetsListed P m T i D) (λ i l r h.
-      at-level (suc i) l (Judgement.matricesValid P m T (suc i) (repOf (Lv (suc i)) r) && Judgement.blocksWhole P m T (suc i) (repOf (Lv (suc i)) r) && Judgement.targetsListed P m T (suc i) (repOf (Lv (suc i)) r) ≡ true) (λ Ω F St.
-      and-intro _ _ (and-intro _ _ (valid-holds C tests m pos T (suc i) l F St r h) (blocks-whole P m T i (repOf (Lv (suc i)) r) (restricts-at i l r h))) (listed-holds C tests m pos T (suc i) l F St r h)))))
-
-  -- ---- 22 to 26
-
-  relations-pass : Judgement.relationFails P m T ≡ false
-  unfolding Judgement.relationFails
-  relations-pass = ap not (everywhere-intro P m T (Judgement.relationsHold P m T) (λ i l r h. at-level (suc i) l (Judgement.relationsHold P m T (suc i) (repOf (Lv (suc i)) r) ≡ true) (λ Ω F St. relations-hold C tests m pos T (suc i) l F St r h)))
-
-  restrictions-pass : Judgement.restrictionFails P m T ≡ false
-  unfolding Judgement.restrictionFails
-  restrictions-pass = ap not (everywhere-intro P m T (Judgement.restricts P m T) (λ i l r h. blocks-restrict P m T i (repOf (Lv (suc i)) r) (restricts-at i l r h)))
-
-  intertwiners-pass : Judgement.intertwinerFails P m T ≡ false
-  unfolding Judgement.intertwinerFails
-  intertwiners-pass = ap not (everywhere-intro P m T (Judgement.intertwinersHold P m T) (λ i l r h. at-level (suc i) l (Judgement.intertwinersHold P m T (suc i) (repOf (Lv (suc i)) r) ≡ true) (λ Ω F St. intertwiners-hold C tests m pos T (suc i) l F St r h)))
-
-  separation-passes : Judgement.notSeparated P m T ≡ false
-  unfolding Judgement.notSeparated Judgement.everyLevel
-  separation-passes = ap not (allBelow-intro n _ (λ i l. allBelow-intro (length (Lv (suc i))) _ (λ r h. at-level (suc i) l (Judgement.separates P m T (suc i) r ≡ true) (λ Ω F St. separates-hold C tests m pos T (suc i) l F St r h))))
-
-  squares-pass : Judgement.squaresFail P m T ≡ false
-  unfolding Judgement.squaresFail Judgement.everyLevel
-  squares-pass = ap not (allBelow-intro n _ (λ i l. at-level (suc i) l (eqb (Judgement.squares P m T (suc i)) (order P (suc i)) ≡ true) (λ Ω F St. squares-hold C tests m pos T (suc i) l F St)))
-
   -- ---- The judgement
 
   pub table-passes : judgement (A .C .P) (order (A .C .P) (A .C .P .n)) (tableOf (A .C .P)) ≡ 0
-  unfolding judgement firstOf
-  table-passes =
-      ap (judgement P m) table-is
-      ∙ cond-false (Judgement.malformed P m T) _ _ not-malformed ∙ cond-false (Judgement.relationFails P m T) _ _ relations-pass
-      ∙ cond-false (Judgement.restrictionFails P m T) _ _ restrictions-pass ∙ cond-false (Judgement.intertwinerFails P m T) _ _ intertwiners-pass
-      ∙ cond-false (Judgement.notSeparated P m T) _ _ separation-passes ∙ cond-false (Judgement.squaresFail P m T) _ _ squares-pass
+  table-passes = ap (judgement P m) table-is ∙ levels-pass C tests m pos T (λ i l. founded-at (suc i) l) restricts-at whole-lines complete-holds
 
 -- ---- For what a text says
 

@@ -26,7 +26,8 @@ use Rattle.monomial.specs.Families.{Separated}
 use Rattle.monomial.proofs.Exponents.{cancel}
 use Rattle.monomial.proofs.Residues.{residues, Residue-path}
 use Rattle.separation.specs.Decision.{blockStarts, outside, unshared, differs, parted, quick}
-use Rattle.separation.proofs.Foreign.{Index-path, foreign-complete, d, form-shows, reached, separated}
+use Rattle.separation.proofs.Foreign.{d, form-shows, reached, separated}
+use Rattle.clifford.proofs.Basis.{basis-path, basis-complete}
 use Rattle.clifford.proofs.Separates.{separates-from}
 use Rattle.separation.proofs.Cutting.{all-both, cut, cut-zero, cut-one, cuts-each, cuts-all}
 use Rattle.separation.proofs.Restricted.{Two, P, Low, High, Rp, S, Ω⁺, F, passing, all-pass, wide, locate, base, blocked, block-known}
@@ -59,7 +60,7 @@ module _ (W : Two) where
   base-column x = refl
 
   base-path : (x y : Ω⁺ W) → base W x .0 .0 ≡ base W y .0 .0 → base W x .0 .1 ≡ base W y .0 .1 → base W x ≡ base W y
-  base-path x y p q = Index-path (P W) m pos i (Low W) (W .low-fair) (base W x) (base W y) p q
+  base-path x y p q = basis-path (Low W) (base W x) (base W y) p q
 
   -- basis indices of different blocks differ
   same-cut : (r b b′ : ℕ) → r < lenH → b < count W r → b′ < count W r → cut (Low W) (Rp W r) b ≡ cut (Low W) (Rp W r) b′ → b ≡ b′
@@ -212,7 +213,7 @@ module _ (W : Two) where
 
     pub quick-separates : (r : ℕ) → r < length (High W) → Judgement.separates (W .C .P) (W .m) (W .table) (suc (W .i)) r ≡ true
     quick-separates r h =
-        separates-from C m pos table (suc i) (λ (x : Ω⁺ W). x .1 .1) (foreign-complete (P W) m pos (suc i) (High W) fair) act (form-shows C m pos (suc i) (High W) fair) r h (fair .degree-pos r h) (λ k a. all-reached r k h a) all-separated
+        separates-from C m pos table (suc i) (λ (x : Ω⁺ W). x .1 .1) (basis-complete (High W)) act (form-shows C m pos (suc i) (High W) fair) r h (fair .degree-pos r h) (λ k a. all-reached r k h a) all-separated
 
   -- ---- 25 gives the quick test
 

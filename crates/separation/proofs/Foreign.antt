@@ -2,20 +2,16 @@
 -- basis indices are reached and separated.
 --
 --   forms-any                 some normal form passes a test: there is a valid one that does
---   Index, Index-path         the basis indices of a level
---   foreign-frame, foreign-complete      with their numbers
 --   D, D-shows                the maps of the generators
 --   satisfies, d, d-hom       they satisfy the relations, so normal forms act
 --   form-shows                the image of a normal form shows its map
 --   foreign-family            a family, where separation holds
 use mathlib.Core.Path.{_≡_, refl, sym, _∙_, ap, fun-ext}
-use mathlib.Core.HLevel.{Σ-prop-path, ×-prop}
 use mathlib.Core.Bool.{Bool, true, false, _&&_, _||_, not, false≢true}
 use mathlib.Core.List.{List, [], _∷_, _++_, map}
 use Prim.Native.Nat.{ℕ, zero, suc, _%_, _≤_, _<_}
-use native.Mathlib.Bridge.{le-prop}
 use native.Mathlib.Omega.{arith}
-use native.Mathlib.Decide.{decLt, ℕ-discrete}
+use native.Mathlib.Decide.{decLt}
 use lib.Dec.{eqb}
 use lib.ListN.{length}
 use borrow.Author.Tests.{eqb-true, eqb-false, not-true}
@@ -36,11 +32,11 @@ use Rattle.group.proofs.Group.{Test, Tested}
 use Rattle.group.proofs.Order.{inverse, inverse-left}
 use Rattle.monomial.specs.Maps.{Map, maps}
 use Rattle.monomial.specs.Families.{Separated, Family}
-use Rattle.monomial.specs.Frames.{Frame, Complete, Shows}
+use Rattle.monomial.specs.Frames.{Shows}
 use Rattle.monomial.proofs.Maps.{column, at-mul, at-one, maps-laws}
 use Rattle.monomial.proofs.Residues.{residues}
 use Rattle.monomial.proofs.Frames.{shows-mul, shows-power, shows-value, shown-same}
-use Rattle.clifford.specs.Stands.{frame}
+use Rattle.clifford.proofs.Basis.{Basis, basis-path, basis-discrete, basis-frame, basis-complete}
 use Rattle.separation.specs.Fair.{Fair}
 
 -- ---- Some normal form
@@ -91,85 +87,59 @@ forms-any P (suc i) q h =
 -- ---- The maps of a level
 
 module _ (P : Presentation) (m : ℕ) (pos : 0 < m) (i : ℕ) (L : Level) (A : Fair P m i L) where
-  abbrev pub Index : Type 0
-  Index = (x : ℕ × ℕ) × ((x .0 < length L) × (x .1 < repOf L (x .0) .deg))
-
-  pub Index-path : (x y : Index) → x .0 .0 ≡ y .0 .0 → x .0 .1 ≡ y .0 .1 → x ≡ y
-  Index-path x y p q = Σ-prop-path (λ z. ×-prop le-prop le-prop) (λ j. (p j, q j))
-
-  pub Index-discrete : Discrete Index
-  Index-discrete x y = go (ℕ-discrete (x .0 .0) (y .0 .0)) (ℕ-discrete (x .0 .1) (y .0 .1))
-    where
-      go : Dec (x .0 .0 ≡ y .0 .0) → Dec (x .0 .1 ≡ y .0 .1) → Dec (x ≡ y)
-      go (yes a) (yes b) = yes (Index-path x y a b)
-      go (yes a) (no b) = no (λ q. b (ap (λ z. z .0 .1) q))
-      go (no a) d = no (λ q. a (ap (λ z. z .0 .0) q))
-
-  abbrev pub foreign-frame : Frame Index
-  foreign-frame = frame L (λ (x : Index). x .0 .0) (λ (x : Index). x .0 .1) (λ (x : Index). x .1 .1)
-
-  abbrev pub foreign-complete : Complete foreign-frame (length L)
-  foreign-complete = record {
-    rep-below = λ x. x .1 .0;
-    find = λ r c h l. ((r, c), (h, l));
-    find-rep = λ r c h l. refl;
-    find-column = λ r c h l. refl;
-    known = Index-path;
-  }
-
   -- the map of generator k, and the identity beyond the level
-  step : (k : ℕ) → Dec (k < i) → Map (residues m pos) Index
+  step : (k : ℕ) → Dec (k < i) → Map (residues m pos) (Basis L)
   step k (yes l) x =
       let y = col (repOf L (x .0 .0) .matrix k) (x .0 .1) in
       (((x .0 .0, y .row), (x .1 .0, A .row-below (x .0 .0) k (x .0 .1) (x .1 .0) l (x .1 .1))), (y .exp, A .exp-below (x .0 .0) k (x .0 .1) (x .1 .0) l (x .1 .1)))
-  step k (no l) x = maps (residues m pos) Index .one x
+  step k (no l) x = maps (residues m pos) (Basis L) .one x
 
-  pub D : ℕ → Map (residues m pos) Index
+  pub D : ℕ → Map (residues m pos) (Basis L)
   D k = step k (decLt k i)
 
-  pub D-shows : (r k : ℕ) → r < length L → k < i → Shows m foreign-frame r r (repOf L r .matrix k) (D k)
+  pub D-shows : (r k : ℕ) → r < length L → k < i → Shows m (basis-frame L) r r (repOf L r .matrix k) (D k)
   unfolding D step
   D-shows r k h l = go (decLt k i)
     where
-      go : (d : Dec (k < i)) → Shows m foreign-frame r r (repOf L r .matrix k) (step k d)
+      go : (d : Dec (k < i)) → Shows m (basis-frame L) r r (repOf L r .matrix k) (step k d)
       go (yes a) = record { size = A .size r k h l; maps-to = λ x e. e; shown = λ x e. ap (λ s. col (repOf L s .matrix k) (x .0 .1)) (sym e) }
       go (no a) = absurd (a l)
 
-  abbrev pub word : (k : ℕ) → NF k → Map (residues m pos) Index
-  word k x = value (maps (residues m pos) Index) D k x
+  abbrev pub word : (k : ℕ) → NF k → Map (residues m pos) (Basis L)
+  word k x = value (maps (residues m pos) (Basis L)) D k x
 
-  pub word-shows : (r k : ℕ) → r < length L → k ≤ i → (x : NF k) → Shows m foreign-frame r r (image m (repOf L r) k x) (word k x)
+  pub word-shows : (r k : ℕ) → r < length L → k ≤ i → (x : NF k) → Shows m (basis-frame L) r r (image m (repOf L r) k x) (word k x)
   unfolding image
-  word-shows r k h l x = shows-value m pos foreign-frame refl (repOf L r .matrix) D k (λ g a. D-shows r g h (omega arith)) x
+  word-shows r k h l x = shows-value m pos (basis-frame L) refl (repOf L r .matrix) D k (λ g a. D-shows r g h (omega arith)) x
 
-  pub satisfies : Satisfies P (maps (residues m pos) Index) D i
+  pub satisfies : Satisfies P (maps (residues m pos) (Basis L)) D i
   unfolding conjugate
   satisfies = record {
-    powers = λ j l. fun-ext (λ a. shown-same m pos foreign-frame foreign-complete (shows-power m pos foreign-frame refl (D-shows (a .0 .0) j (a .1 .0) l) (P .p j)) (word-shows (a .0 .0) j (a .1 .0) (omega arith) (P .u j)) (A .powers (a .0 .0) j (a .1 .0) l) a refl);
+    powers = λ j l. fun-ext (λ a. shown-same m pos (basis-frame L) (basis-complete L) (shows-power m pos (basis-frame L) refl (D-shows (a .0 .0) j (a .1 .0) l) (P .p j)) (word-shows (a .0 .0) j (a .1 .0) (omega arith) (P .u j)) (A .powers (a .0 .0) j (a .1 .0) l) a refl);
     commutators = λ k j a b. fun-ext (λ x.
         let r : ℕ = x .0 .0 in
         let h : r < length L = x .1 .0 in
-        shown-same m pos foreign-frame foreign-complete (shows-mul m pos foreign-frame (D-shows r k h (omega arith)) (D-shows r j h b))
-        (shows-mul m pos foreign-frame (D-shows r j h b) (shows-mul m pos foreign-frame (D-shows r k h (omega arith)) (word-shows r (suc k) h (omega arith) (P .w k j)))) (A .commutators r k j h a b) x refl);
+        shown-same m pos (basis-frame L) (basis-complete L) (shows-mul m pos (basis-frame L) (D-shows r k h (omega arith)) (D-shows r j h b))
+        (shows-mul m pos (basis-frame L) (D-shows r j h b) (shows-mul m pos (basis-frame L) (D-shows r k h (omega arith)) (word-shows r (suc k) h (omega arith) (P .w k j)))) (A .commutators r k j h a b) x refl);
   }
 
 -- ---- Normal forms act
 
 module _ (C : Context) (m : ℕ) (pos : 0 < m) (i : ℕ) (L : Level) (A : Fair (C .P) m i L) where
   abbrev pub Ω : Type 0
-  Ω = Index (C .P) m pos i L A
+  Ω = Basis L
 
-  unfoldable pub d : Nf C i → Map (residues m pos) (Index (C .P) m pos i L A)
+  unfoldable pub d : Nf C i → Map (residues m pos) (Basis L)
   d x = word (C .P) m pos i L A i (x .0)
 
   model : Model (C .P) i (Map (residues m pos) Ω)
   model = record { product = maps (residues m pos) Ω; laws = maps-laws (residues m pos); h = D (C .P) m pos i L A; satisfies = satisfies (C .P) m pos i L A }
 
-  pub d-hom : Hom (level C i) (maps (residues m pos) (Index (C .P) m pos i L A)) d
+  pub d-hom : Hom (level C i) (maps (residues m pos) (Basis L)) d
   unfolding d level model
   d-hom = record { on-one = value-trivial (maps-laws (residues m pos)) (D (C .P) m pos i L A) i; on-mul = λ x y. sound model i (omega arith) .mul-value (x .0) (y .0) }
 
-  pub form-shows : (r : ℕ) → r < length L → (x : Nf C i) → Shows m (foreign-frame (C .P) m pos i L A) r r (image m (repOf L r) i (x .0)) (d x)
+  pub form-shows : (r : ℕ) → r < length L → (x : Nf C i) → Shows m (basis-frame L) r r (image m (repOf L r) i (x .0)) (d x)
   unfolding d
   form-shows r h x = word-shows (C .P) m pos i L A r i h (omega arith) (x .0)
 
@@ -184,7 +154,7 @@ module _ (C : Context) (tests : (k : ℕ) → k < C .P .n → Test C k) (m : ℕ
   T = record { context = C; n = C .P .n; tests = tests }
 
   abbrev X : Type 0
-  X = Index (C .P) m pos i L A
+  X = Basis L
 
   abbrev act : Nf C i → Map (residues m pos) X
   act = d C m pos i L A
@@ -204,7 +174,7 @@ module _ (C : Context) (tests : (k : ℕ) → k < C .P .n → Test C k) (m : ℕ
       let t = and-left (Judgement.reaches (C .P) m table i (repOf L r) (x .0 .1)) _ (allBelow-elim (repOf L r .deg) _ (separates r h) (x .0 .1) (x .1 .1)) in
       let (w, v, e) = forms-any (C .P) i (λ w. eqb (col (image m (repOf L r) i w) 0 .row) (x .0 .1)) t in
       let sh = form-shows C m pos i L A r h (w, v) in
-      ((w, v), Index-path (C .P) m pos i L A _ x (sh .maps-to (start x) refl) (ap (λ (y : Entry). y .row) (sym (sh .shown (start x) refl)) ∙ eqb-true _ _ e))
+      ((w, v), basis-path L _ x (sh .maps-to (start x) refl) (ap (λ (y : Entry). y .row) (sym (sh .shown (start x) refl)) ∙ eqb-true _ _ e))
 
   to-start : (x : X) → (w : Nf C i) × ((act w x) .0 ≡ start x)
   to-start x =
@@ -214,17 +184,17 @@ module _ (C : Context) (tests : (k : ℕ) → k < C .P .n → Test C k) (m : ℕ
             ∙ ap (λ z. z .0) (sym (at-mul (residues m pos) (act (inverse C i w)) (act w) (start x)) ∙ column (residues m pos) (sym (hom .on-mul _ _) ∙ ap act (inverse-left T i l w) ∙ hom .on-one) (start x) ∙ at-one (residues m pos) (start x)),
       )
 
-  pub reached : (x y : Index (C .P) m pos i (levelAt (C .P .n) table i) A) → x .0 .0 ≡ y .0 .0 → (w : Nf C i) × ((d C m pos i (levelAt (C .P .n) table i) A w x) .0 ≡ y)
+  pub reached : (x y : Basis (levelAt (C .P .n) table i)) → x .0 .0 ≡ y .0 .0 → (w : Nf C i) × ((d C m pos i (levelAt (C .P .n) table i) A w x) .0 ≡ y)
   unfolding start
   reached x y q =
       let (a, e) = to-start x in
       let (b, e′) = from-start y in (
         level C i .mul b a,
         ap (λ z. z .0) (column (residues m pos) (hom .on-mul b a) x ∙ at-mul (residues m pos) (act b) (act a) x)
-            ∙ ap (λ z. (act b z) .0) (e ∙ Index-path (C .P) m pos i L A (start x) (start y) q refl) ∙ e′,
+            ∙ ap (λ z. (act b z) .0) (e ∙ basis-path L (start x) (start y) q refl) ∙ e′,
       )
 
-  pub separated : (x y : Index (C .P) m pos i (levelAt (C .P .n) table i) A) → ¬ (x ≡ y) → Separated (residues m pos) (Index (C .P) m pos i (levelAt (C .P .n) table i) A) (d C m pos i (levelAt (C .P .n) table i) A) x y
+  pub separated : (x y : Basis (levelAt (C .P .n) table i)) → ¬ (x ≡ y) → Separated (residues m pos) (Basis (levelAt (C .P .n) table i)) (d C m pos i (levelAt (C .P .n) table i) A) x y
   unfolding Judgement.separates Judgement.tells
   separated x y ne =
       let r : ℕ = x .0 .0 in
@@ -235,7 +205,7 @@ module _ (C : Context) (tests : (k : ℕ) → k < C .P .n → Test C k) (m : ℕ
       fixes : (x : X) (w : Nf C i) → eqb (col (image m (repOf L (x .0 .0)) i (w .0)) (x .0 .1) .row) (x .0 .1) ≡ true → act w x ≡ (x, (act w x) .1)
       fixes x w e =
           let sh = form-shows C m pos i L A (x .0 .0) (x .1 .0) w in
-          λ o. (Index-path (C .P) m pos i L A ((act w x) .0) x (sh .maps-to x refl) (ap (λ (y : Entry). y .row) (sym (sh .shown x refl)) ∙ eqb-true _ _ e) o, (act w x) .1)
+          λ o. (basis-path L ((act w x) .0) x (sh .maps-to x refl) (ap (λ (y : Entry). y .row) (sym (sh .shown x refl)) ∙ eqb-true _ _ e) o, (act w x) .1)
 
       value-is : (x : X) (w : Nf C i) → col (image m (repOf L (x .0 .0)) i (w .0)) (x .0 .1) .exp ≡ (act w x) .1 .0
       value-is x w = ap (λ (y : Entry). y .exp) (form-shows C m pos i L A (x .0 .0) (x .1 .0) w .shown x refl)
@@ -257,12 +227,12 @@ module _ (C : Context) (tests : (k : ℕ) → k < C .P .n → Test C k) (m : ℕ
           }
 
       go : OneOf (eqb (x .0 .0) (y .0 .0) && eqb (x .0 .1) (y .0 .1)) (any (Judgement.tells (C .P) m table i (repOf L (x .0 .0)) (x .0 .1) (repOf L (y .0 .0)) (y .0 .1)) (Judgement.allForms (C .P) i)) → Separated (residues m pos) X act x y
-      go (first e) = absurd (ne (Index-path (C .P) m pos i L A x y (eqb-true _ _ (and-left (eqb (x .0 .0) (y .0 .0)) _ e)) (eqb-true _ _ (and-right (eqb (x .0 .0) (y .0 .0)) _ e))))
+      go (first e) = absurd (ne (basis-path L x y (eqb-true _ _ (and-left (eqb (x .0 .0) (y .0 .0)) _ e)) (eqb-true _ _ (and-right (eqb (x .0 .0) (y .0 .0)) _ e))))
       go (second e) = let (w, v, t) = forms-any (C .P) i _ e in by-form w v t
 
-  abbrev pub foreign-family : Family (residues m pos) (Index (C .P) m pos i (levelAt (C .P .n) table i) A) (level C i) (conjNf C i) i i
+  abbrev pub foreign-family : Family (residues m pos) (Basis (levelAt (C .P .n) table i)) (level C i) (conjNf C i) i i
   foreign-family = record {
-    decide = Index-discrete (C .P) m pos i L A;
+    decide = basis-discrete L;
     d = d C m pos i L A;
     hom = d-hom C m pos i L A;
     X = λ j. maps (residues m pos) X .one;

@@ -34,10 +34,11 @@ use Rattle.monomial.proofs.Residues.{residues, Residue-path}
 use Rattle.monomial.proofs.Over.{over-value}
 use Rattle.clifford.specs.Extension.{Extension}
 use Rattle.clifford.proofs.Levels.{extension}
+use Rattle.clifford.proofs.Basis.{Basis, basis-path}
 use Rattle.separation.specs.Blocked.{Blocked}
 use Rattle.separation.specs.Fair.{Fair}
 use Rattle.separation.specs.Restricting.{Restricting}
-use Rattle.separation.proofs.Foreign.{Index, Index-path, D, D-shows, d, d-hom, word, form-shows, foreign-family}
+use Rattle.separation.proofs.Foreign.{D, D-shows, d, d-hom, word, form-shows, foreign-family}
 use Rattle.separation.proofs.Cutting.{all-both, cut, width, cut-one, Cut, cut-at}
 
 pub record Two : Type 0 where
@@ -76,10 +77,10 @@ module _ (W : Two) where
   S = extension T i in-range
 
   abbrev pub Ω : Type 0
-  Ω = Index P m pos i Low low-fair
+  Ω = Basis Low
 
   abbrev pub Ω⁺ : Type 0
-  Ω⁺ = Index P m pos (suc i) High fair
+  Ω⁺ = Basis High
 
   abbrev pub F : Family (residues m pos) Ω (level C i) (conjNf C i) i i
   F = foreign-family C tests m pos table i (omega arith) low-fair (W .low-separates)
@@ -108,14 +109,14 @@ module _ (W : Two) where
   pub wide : (r o : ℕ) → passing r o ≡ true → 0 < repOf Low (Rp r .ref 0 o) .deg
   wide r o h = low-fair .degree-pos (Rp r .ref 0 o) (listed r o h)
 
-  pub locate : (x : Index (W .C .P) (W .m) (W .pos) (suc (W .i)) (levelAt (W .C .P .n) (W .table) (suc (W .i))) (W .fair)) → Cut Low (Rp (x .0 .0)) (passing (x .0 .0)) (x .0 .1)
+  pub locate : (x : Basis (levelAt (W .C .P .n) (W .table) (suc (W .i)))) → Cut Low (Rp (x .0 .0)) (passing (x .0 .0)) (x .0 .1)
   locate x = cut-at Low (Rp (x .0 .0)) (passing (x .0 .0)) (wide (x .0 .0)) (all-pass (x .0 .0) (x .1 .0)) (x .0 .1) (x .1 .1)
 
   unfoldable pub base : Ω⁺ → Ω
   base x = let k = locate x in ((Rp (x .0 .0) .ref 0 (cut Low (Rp (x .0 .0)) (k .b)), k .κ), (listed (x .0 .0) _ (k .passes), k .inside))
 
   -- it is known by its block and its column there
-  pub locate-is : (x : Index (W .C .P) (W .m) (W .pos) (suc (W .i)) (levelAt (W .C .P .n) (W .table) (suc (W .i))) (W .fair)) (b κ : ℕ) → κ < width Low (Rp (x .0 .0)) b → cut Low (Rp (x .0 .0)) b + κ ≡ x .0 .1 → (locate x .b ≡ b) × (locate x .κ ≡ κ)
+  pub locate-is : (x : Basis (levelAt (W .C .P .n) (W .table) (suc (W .i)))) (b κ : ℕ) → κ < width Low (Rp (x .0 .0)) b → cut Low (Rp (x .0 .0)) b + κ ≡ x .0 .1 → (locate x .b ≡ b) × (locate x .κ ≡ κ)
   locate-is x b κ l e = cut-one Low (Rp (x .0 .0)) (locate x .b) (locate x .κ) b κ (locate x .inside) l (locate x .is ∙ sym e)
 
   -- ---- Generators below act as below
@@ -147,7 +148,7 @@ module _ (W : Two) where
       let κ-in : b .0 .1 < repOf Low (a .0 .0) .deg = subst (λ s. b .0 .1 < repOf Low s .deg) rb (b .1 .1) in
       let (eb, eκ) = locate-is y (q .b) (b .0 .1) (subst (λ s. b .0 .1 < width Low (Rp s) (q .b)) (sym ry) κ-in) (ap (λ s. cut Low (Rp s) (q .b) + b .0 .1) ry ∙ column-y) in
       record {
-        is-base = Index-path P m pos i Low low-fair (base y) b (ap₂ (λ s e. Rp s .ref 0 (cut Low (Rp s) e)) ry eb ∙ sym rb) eκ;
+        is-base = basis-path Low (base y) b (ap₂ (λ s e. Rp s .ref 0 (cut Low (Rp s) e)) ry eb ∙ sym rb) eκ;
         is-number = eb;
         is-exponent = Residue-path m _ _ (sym (mod-eq-of-lt ((D P m pos (suc i) High fair k x) .1 .1)) ∙ ap (λ (z : Entry). z .exp % m) (sym here) ∙ exps ∙ ap (λ (z : Entry). z .exp % m) (deep .shown a refl) ∙ mod-eq-of-lt ((D P m pos i Low low-fair k a) .1 .1));
       }
@@ -164,7 +165,7 @@ module _ (W : Two) where
 
   pub block-known : (x y : Ω⁺) → base x ≡ base y → _≡_ {A = ℕ × ℕ} (x .0 .0, locate x .b) (y .0 .0, locate y .b) → x ≡ y
   unfolding base
-  block-known x y q e = Index-path P m pos (suc i) High fair x y (ap (λ z. z .0) e) (sym (locate x .is) ∙ ap₂ (_+_) (ap (λ z. cut Low (Rp (z .0)) (z .1)) e) (ap (λ z. z .0 .1) q) ∙ locate y .is)
+  block-known x y q e = basis-path High x y (ap (λ z. z .0) e) (sym (locate x .is) ∙ ap₂ (_+_) (ap (λ z. cut Low (Rp (z .0)) (z .1)) e) (ap (λ z. z .0 .1) q) ∙ locate y .is)
 
   pub block-one-rep : (x y : Ω⁺) → _≡_ {A = ℕ × ℕ} (x .0 .0, locate x .b) (y .0 .0, locate y .b) → base x .0 .0 ≡ base y .0 .0
   unfolding base

@@ -1,0 +1,86 @@
+-- A complete table whose levels stand, each cut into blocks of the level below, passes the judgement.
+--
+--   Founded           a level that stands on some family
+--   levels-pass       the law
+use mathlib.Core.Path.{_≡_, _∙_, ap}
+use mathlib.Core.Bool.{Bool, true, false, _&&_, not}
+use mathlib.Core.List.{List}
+use Prim.Native.Nat.{ℕ, suc, _%_, _<_}
+use lib.Dec.{eqb}
+use lib.ListN.{length}
+use Rattle.definitions.specs.Presentation.{lineWords, Presentation}
+use Rattle.definitions.specs.Monomial.{Rep, Level, repOf}
+use Rattle.definitions.specs.Table.{levelAt, complete}
+use Rattle.definitions.specs.Judgement
+use Rattle.definitions.specs.Answers.{firstOf, judgement}
+use Rattle.numbers.proofs.Bools.{and-intro, cond-false}
+use Rattle.numbers.proofs.Lists.{allBelow-intro}
+use Rattle.group.specs.Context.{Context}
+use Rattle.group.proofs.Level.{level, conjNf}
+use Rattle.group.proofs.Group.{Test}
+use Rattle.monomial.specs.Families.{Family}
+use Rattle.monomial.proofs.Residues.{residues}
+use Rattle.clifford.specs.Stands.{Stands, Restricts}
+use Rattle.clifford.proofs.Judged.{relations-hold, intertwiners-hold, separates-hold, squares-hold, valid-holds, listed-holds}
+use Rattle.clifford.proofs.Cuts.{blocks-whole, blocks-restrict}
+use Rattle.clifford.proofs.Everywhere.{everywhere-intro}
+
+pub record Founded (C : Context) (m : ℕ) (pos : 0 < m) (i : ℕ) (L : Level) : Type 1 where
+  pub Ω : Type 0
+  pub F : Family (residues m pos) Ω (level C i) (conjNf C i) i (C .P .n)
+  pub stands : Stands C (C .P .n) m pos i L F
+
+module _ (C : Context) (tests : (k : ℕ) → k < C .P .n → Test C k) (m : ℕ) (pos : 0 < m) (T : List ℕ)
+    (founded : (i : ℕ) → i < C .P .n → Founded C m pos (suc i) (levelAt (C .P .n) T (suc i)))
+    (cut : (i : ℕ) → i < C .P .n → (r : ℕ) → r < length (levelAt (C .P .n) T (suc i))
+    → Restricts i (levelAt (C .P .n) T i) (repOf (levelAt (C .P .n) T (suc i)) r))
+    (whole : eqb (length T % lineWords) 0 ≡ true) (lines : complete (C .P .n) T ≡ true) where
+  abbrev P : Presentation
+  P = C .P
+
+  abbrev Lv : ℕ → Level
+  Lv = levelAt (C .P .n) T
+
+  -- what is asked of each representation of a level that stands
+  each : (q : (i : ℕ) → Rep → Bool)
+      → ((i : ℕ) → i < C .P .n → Founded C m pos (suc i) (Lv (suc i)) → (r : ℕ) → r < length (Lv (suc i)) → q (suc i) (repOf (Lv (suc i)) r) ≡ true)
+      → not (Judgement.everywhere P m T q) ≡ false
+  each q h = ap not (everywhere-intro P m T q (λ i l. h i l (founded i l)))
+
+  well-formed : Judgement.malformed P m T ≡ false
+  unfolding Judgement.malformed
+  well-formed = ap not (and-intro _ _ (and-intro _ _ whole lines) (everywhere-intro P m T formed (λ i l r h.
+      let St = founded i l in
+      and-intro _ _ (and-intro _ _ (valid-holds C tests m pos T (suc i) l (St .F) (St .stands) r h) (blocks-whole P m T i (repOf (Lv (suc i)) r) (cut i l r h)))
+      (listed-holds C tests m pos T (suc i) l (St .F) (St .stands) r h))))
+    where
+      formed : (i : ℕ) → Rep → Bool
+      formed i D = Judgement.matricesValid P m T i D && Judgement.blocksWhole P m T i D && Judgement.targetsListed P m T i D
+
+  relations-pass : Judgement.relationFails P m T ≡ false
+  unfolding Judgement.relationFails
+  relations-pass = each (Judgement.relationsHold P m T) (λ i l St r h. relations-hold C tests m pos T (suc i) l (St .F) (St .stands) r h)
+
+  restrictions-pass : Judgement.restrictionFails P m T ≡ false
+  unfolding Judgement.restrictionFails
+  restrictions-pass = each (Judgement.restricts P m T) (λ i l St r h. blocks-restrict P m T i (repOf (Lv (suc i)) r) (cut i l r h))
+
+  intertwiners-pass : Judgement.intertwinerFails P m T ≡ false
+  unfolding Judgement.intertwinerFails
+  intertwiners-pass = each (Judgement.intertwinersHold P m T) (λ i l St r h. intertwiners-hold C tests m pos T (suc i) l (St .F) (St .stands) r h)
+
+  separation-passes : Judgement.notSeparated P m T ≡ false
+  unfolding Judgement.notSeparated Judgement.everyLevel
+  separation-passes = ap not (allBelow-intro (P .n) _ (λ i l. allBelow-intro (length (Lv (suc i))) _ (λ r h.
+      let St = founded i l in separates-hold C tests m pos T (suc i) l (St .F) (St .stands) r h)))
+
+  squares-pass : Judgement.squaresFail P m T ≡ false
+  unfolding Judgement.squaresFail Judgement.everyLevel
+  squares-pass = ap not (allBelow-intro (P .n) _ (λ i l. let St = founded i l in squares-hold C tests m pos T (suc i) l (St .F) (St .stands)))
+
+  pub levels-pass : judgement (C .P) m T ≡ 0
+  unfolding judgement firstOf
+  levels-pass =
+      cond-false (Judgement.malformed P m T) _ _ well-formed ∙ cond-false (Judgement.relationFails P m T) _ _ relations-pass
+      ∙ cond-false (Judgement.restrictionFails P m T) _ _ restrictions-pass ∙ cond-false (Judgement.intertwinerFails P m T) _ _ intertwiners-pass
+      ∙ cond-false (Judgement.notSeparated P m T) _ _ separation-passes ∙ cond-false (Judgement.squaresFail P m T) _ _ squares-pass
