@@ -23,10 +23,13 @@ use Rattle.separation.proofs.Apart.{is-whole, wide, one-block}
 use Rattle.level.specs.declared.Listed.{Listed}
 use Rattle.level.specs.Stored.{lineIn}
 use Rattle.seek.specs.declared.Scope.{Scope}
+use Rattle.seek.specs.Seek.{Fits}
 use Rattle.seek.specs.Among.{repIn}
-use Rattle.check_pairs.specs.Pairs.{Fits, Placed, differ, ownOf, Refers, widthIn}
-use Rattle.check_pairs.proofs.Columns.{and-last, row-at}
-use Rattle.check_pairs.proofs.Pairs.{found-fits, placed-positive, placed-whole}
+use Rattle.seek.proofs.Seek.{found-fits}
+use Rattle.seek.proofs.Columns.{row-at}
+use Rattle.check_pairs.specs.Pairs.{Placed, differ, ownOf, Refers, widthIn}
+use Rattle.check_pairs.proofs.Columns.{and-last}
+use Rattle.check_pairs.proofs.Pairs.{placed-positive, placed-whole}
 
 module _ (low : Level) (D : Rep) where
   abbrev width : ℕ → ℕ

@@ -28,8 +28,9 @@ use Rattle.separation.specs.Decision.{blockCount, outside, own, apart, pairwise
 use Rattle.separation.proofs.Own.{own-refs}
 use Rattle.seek.specs.Among.{repIn}
 use Rattle.check_pairs.specs.Pairs.{Placed, Later, ownOf, widthIn, EarlierApart, standsIn, PrimeOf, Stands, LevelSeparated, PrimesOf, Separated}
-use Rattle.check_pairs.proofs.Columns.{first-ref}
-use Rattle.check_pairs.proofs.Pairs.{found-above, at-count, positive-at, whole-at}
+use Rattle.seek.proofs.Columns.{first-ref}
+use Rattle.seek.proofs.Seek.{found-above}
+use Rattle.check_pairs.proofs.Pairs.{at-count, positive-at, whole-at}
 
 -- ---- One representation
 

@@ -1,7 +1,6 @@
 -- Pairs of representations that stand in lines.
 --
 --   otherRef T line x c    column c of the representation at a line has a reference other than x
---   Fits T i D         the lines of D for the generators up to i stand in the words
 --   likeIn T one D E    `one`, and both have one degree and one first reference
 --   oneBlock n T i E   E, of the level above level i, is one block
 --   Placed s T i r D   D is representation r of the level above level i of a well-formed table
@@ -20,7 +19,7 @@ use lib.Dec.{eqb, leb}
 use lib.ListN.{length, getD}
 use Rattle.definitions.specs.Lists.{allBelow, all}
 use Rattle.definitions.specs.Monomial.{col, Rep, Level, repOf}
-use Rattle.definitions.specs.Table.{REF, wordAt, repAt, levelAt}
+use Rattle.definitions.specs.Table.{REF, wordAt, levelAt}
 use Rattle.definitions.specs.Presentation.{Presentation}
 use Rattle.definitions.specs.Judgement.{cuts}
 use Rattle.level.specs.declared.Listed.{Listed}
@@ -33,11 +32,6 @@ use Rattle.separation.specs.Apart.{fresh}
 
 abbrev pub otherRef : List ℕ → (line x c : ℕ) → Bool
 otherRef T line x c = not (eqb x (wordAt T (line + c) REF))
-
-pub record Fits (T : List ℕ) (i : ℕ) (D : Listed) : Type 0 where
-  pub positive : 0 < D .deg
-  pub first : 8 * (D .line + D .deg) ≤ length T
-  pub top : 8 * (D .line + i * D .deg + D .deg) ≤ length T
 
 abbrev pub likeIn : List ℕ → Bool → Listed → Listed → Bool
 likeIn T one D E = one && eqb (D .deg) (E .deg) && eqb (wordAt T (D .line) REF) (wordAt T (E .line) REF)

@@ -3,7 +3,7 @@ use mathlib.Core.Path.{_∙_, ap}
 use native.Mathlib.Omega.{arith}
 use denote.Ref.{now}
 use Rattle.definitions.specs.Table.{ROW, wordAt}
-use Rattle.check_pairs.proofs.Pairs.{found-fits}
+use Rattle.seek.proofs.Seek.{found-fits}
 use Rattle.check_pairs.proofs.Blocks.{line-first, line-one, line-inside, line-blocks}
 use Rattle.check_pairs.proofs.own.Statement.{statement}
 use Rattle.check_pairs.proofs.own.Tie as tie
