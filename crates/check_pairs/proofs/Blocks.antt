@@ -192,6 +192,11 @@ module _ {s : Scope} {T : List ℕ} {i r : ℕ} {D : Listed} (L : Placed s T i r
   pub line-first : Refers s T i D 0
   line-first = line-refers line-none (L .found .positive)
 
+  pub line-narrow : D .deg ≡ 1 → 1 ≡ widthIn s T i D 0
+  line-narrow e =
+      let h = placed-positive L (repIn T D .ref 0 0) (line-first .listed) in
+      omega (arith, e, h, line-fits line-none (L .found .positive) refl)
+
   module _ (p : ℕ) {w : ℕ} (is : w ≡ widthIn s T i D 0) where
     wide-first : 0 < repIn T D .deg
     wide-first = subst (λ d. 0 < d) (sym degree) (L .found .positive)

@@ -10,6 +10,7 @@
 --   Refers s T i D o, widthIn      column o of D refers to a representation of level i, and its degree
 --   EarlierApart s T i r b     b says whether all representations before r are apart from it
 --   Stands, LevelSeparated     and of r with those before it, and of a level, where p is the prime of generator i (PrimeOf, TellsAt)
+--   AllOwn                     and whether each representation of a level owns its blocks
 --   PrimesOf, Separated        and of all levels, by the primes of all generators
 use mathlib.Core.Path.{_≡_}
 use mathlib.Core.Bool.{Bool, _&&_, _||_, not}
@@ -87,6 +88,9 @@ pub record TellsAt (s : Scope) (T : List ℕ) (i p : ℕ) (q : Presentation → 
 
 abbrev pub Stands : Scope → List ℕ → (i p r : ℕ) → Bool → Type 0
 Stands s T i p r b = TellsAt s T i p (λ P. standsIn P T i r) b
+
+abbrev pub AllOwn : Scope → List ℕ → (i p : ℕ) → Bool → Type 0
+AllOwn s T i p b = TellsAt s T i p (λ P. allBelow (length (levelAt (P .n) T (suc i))) (own P T i)) b
 
 abbrev pub LevelSeparated : Scope → List ℕ → (i p : ℕ) → Bool → Type 0
 LevelSeparated s T i p b = TellsAt s T i p (λ P. pairwise P T i) b

@@ -40,7 +40,8 @@ same-length-2 c = search needs
 returns-5 : tie.Need-returns-5
 returns-5 c =
     let z = c .before .before .before .before .before .before in
-    λ h. shares-free (now (z .args .marks)) (now (z .args .slots)) (z .args .f) (z .args .slot) (omega arith) (omega arith) (omega arith) (omega (arith, c .if4 .left))
+    let a = z .args in
+    λ h. shares-free (now (a .marks)) (now (a .slots)) (a .f) (a .slot) (omega arith) (omega arith) (omega arith) (omega (arith, c .if4 .left))
 
 pub share-spec : {M : Type 1} → statement M
 share-spec =
