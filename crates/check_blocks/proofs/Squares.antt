@@ -23,7 +23,8 @@ use Rattle.numbers.proofs.Passed.{Passed, passed-all, passed-fails}
 use Rattle.level.specs.declared.Listed.{Listed}
 use Rattle.seek.specs.declared.Scope.{Scope}
 use Rattle.seek.specs.Seek.{Found}
-use Rattle.check_blocks.specs.Squares.{squareOf, squaresIn, Ordered, AddsUp}
+use Rattle.seek.specs.Formed.{Ordered}
+use Rattle.check_blocks.specs.Squares.{squareOf, squaresIn, AddsUp}
 
 -- ---- One level
 
@@ -63,19 +64,19 @@ module _ (s : Scope) (orders T : List ℕ) where
   test P i = eqb (squares P (s .m) T i) (order P i)
 
   abbrev pub AddingUp : ℕ → Type 0
-  AddingUp i = Passed (λ P. Ordered P (s .gens) orders) (λ P i. test P (suc i)) i
+  AddingUp i = Passed (λ P. Ordered P s orders) (λ P i. test P (suc i)) i
 
-  every-is : (P : Presentation) → Ordered P (s .gens) orders → allBelow (s .gens) (λ i. test P (suc i)) ≡ everyLevel P (s .m) T (test P)
+  every-is : (P : Presentation) → Ordered P s orders → allBelow (s .gens) (λ i. test P (suc i)) ≡ everyLevel P (s .m) T (test P)
   unfolding everyLevel
   every-is P O = ap (λ n. allBelow n (λ i. test P (suc i))) (O .gens-are)
 
   module _ {i : ℕ} (l : i < s .gens) {b : Bool} (k o : ℕ) (next : k ≡ i + 1) (is : o ≡ getD orders k 0)
       (told : b ≡ eqb (squaresIn (s .gens) T (i + 1)) o) where
-    pub adds-told : (P : Presentation) → Ordered P (s .gens) orders → b ≡ eqb (squares P (s .m) T (suc i)) (order P (suc i))
+    pub adds-told : (P : Presentation) → Ordered P s orders → b ≡ eqb (squares P (s .m) T (suc i)) (order P (suc i))
     unfolding squaresIn squares
     adds-told P O =
         told ∙ ap₂ eqb (ap₂ (λ n i. squaresIn n T i) (O .gens-are) (add-one i))
-        (is ∙ ap (λ k. getD orders k 0) (next ∙ add-one i) ∙ O .each (suc i) l)
+        (is ∙ ap (λ k. getD orders k 0) (next ∙ add-one i) ∙ O .orders-are (suc i) (omega (arith, O .gens-are)))
 
     pub adds-fails : AddingUp i → b ≡ false → AddsUp s orders T false
     adds-fails h e = record { is = λ P O. passed-fails h l adds-told e P O ∙ every-is P O }

@@ -2,20 +2,20 @@
 --
 --   squareOf n T i r       the square of the degree of representation r of level i
 --   squaresIn n T i        the sum of the squares of the degrees of level i
---   Ordered P n orders     the orders are those of the levels of P, which has n generators
 --   AddsUp s orders T r    r says whether the squares of the degrees of every level add up to its order, for every such P
 use mathlib.Core.Path.{_≡_}
 use mathlib.Core.Bool.{Bool}
 use mathlib.Core.List.{List}
-use Prim.Native.Nat.{ℕ, _*_, _≤_}
+use Prim.Native.Nat.{ℕ, _*_}
 use lib.Dec.{eqb}
-use lib.ListN.{length, getD}
+use lib.ListN.{length}
 use Rattle.definitions.specs.Lists.{sum}
 use Rattle.definitions.specs.Presentation.{Presentation, order}
 use Rattle.definitions.specs.Monomial.{repOf}
 use Rattle.definitions.specs.Table.{levelAt}
 use Rattle.definitions.specs.Judgement.{everyLevel, squares}
 use Rattle.seek.specs.declared.Scope.{Scope}
+use Rattle.seek.specs.Formed.{Ordered}
 
 abbrev pub squareOf : ℕ → List ℕ → ℕ → ℕ → ℕ
 squareOf n T i r = repOf (levelAt n T i) r .deg * repOf (levelAt n T i) r .deg
@@ -23,9 +23,5 @@ squareOf n T i r = repOf (levelAt n T i) r .deg * repOf (levelAt n T i) r .deg
 unfoldable pub squaresIn : ℕ → List ℕ → ℕ → ℕ
 squaresIn n T i = sum (length (levelAt n T i)) (squareOf n T i)
 
-pub record Ordered (P : Presentation) (n : ℕ) (orders : List ℕ) : Type 0 where
-  pub gens-are : n ≡ P .n
-  pub each : (i : ℕ) → i ≤ n → getD orders i 0 ≡ order P i
-
 pub record AddsUp (s : Scope) (orders T : List ℕ) (r : Bool) : Type 0 where
-  pub is : (P : Presentation) → Ordered P (s .gens) orders → r ≡ everyLevel P (s .m) T (λ i. eqb (squares P (s .m) T i) (order P i))
+  pub is : (P : Presentation) → Ordered P s orders → r ≡ everyLevel P (s .m) T (λ i. eqb (squares P (s .m) T i) (order P i))

@@ -35,12 +35,12 @@ use Rattle.level.specs.declared.Listed.{Listed}
 use Rattle.level.specs.Stored.{generatorIn}
 use Rattle.seek.specs.declared.Scope.{Scope}
 use Rattle.seek.specs.Seek.{Whole, Found, Follows}
-use Rattle.seek.specs.Formed.{Formed}
+use Rattle.seek.specs.Formed.{Formed, Ordered}
 use Rattle.seek.proofs.Halves.{lines-there}
 use Rattle.seek.proofs.Seek.{zero-count}
 use Rattle.check_heads.specs.Places.{ordersIn, Counted}
 use Rattle.check_lines.specs.Lines.{refsAs, targetOk}
-use Rattle.check_form.specs.Form.{listedRep, blocksOk, body, levelOk, Over, Fits, Ordered, TellsForm}
+use Rattle.check_form.specs.Form.{listedRep, blocksOk, body, levelOk, Over, Fits, TellsForm}
 
 -- ---- A representation
 

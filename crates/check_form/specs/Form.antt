@@ -7,7 +7,6 @@
 --   levelOk n m T i           those of every representation of that level
 --   Over s T i count          a complete table, a level of it, and how many representations that has
 --   Fits s T D                the lines of D are there
---   Ordered P s orders        s counts the generators of P, and orders are those of its levels
 --   TellsForm s orders T r    r says whether 21 does not apply, for every such presentation
 use mathlib.Core.Path.{_≡_}
 use mathlib.Core.Bool.{Bool, true, false, _&&_, _||_, not}
@@ -16,7 +15,7 @@ use Prim.Native.Nat.{ℕ, suc, _*_, _≤_, _<_}
 use lib.Dec.{eqb, ltb}
 use lib.ListN.{length}
 use Rattle.definitions.specs.Lists.{allBelow, all}
-use Rattle.definitions.specs.Presentation.{Presentation, order}
+use Rattle.definitions.specs.Presentation.{Presentation}
 use Rattle.definitions.specs.Monomial.{valid, Rep, Level, repOf}
 use Rattle.definitions.specs.Table.{levelAt}
 use Rattle.definitions.specs.Judgement.{cuts, wholeBlock, malformed}
@@ -24,8 +23,8 @@ use Rattle.level.specs.declared.Listed.{Listed}
 use Rattle.level.specs.Stored.{lineIn, generatorIn}
 use Rattle.seek.specs.declared.Scope.{Scope}
 use Rattle.seek.specs.Seek.{Whole}
+use Rattle.seek.specs.Formed.{Ordered}
 use Rattle.check_lines.specs.Lines.{refIn}
-use Rattle.check_heads.specs.Places.{ordersIn}
 
 abbrev pub listedRep : List ℕ → Listed → Rep
 listedRep T D = record { deg = D .deg; matrix = generatorIn T D; ref = refIn T D }
@@ -56,10 +55,6 @@ pub record Over (s : Scope) (T : List ℕ) (i count : ℕ) : Type 0 where
 pub record Fits (s : Scope) (T : List ℕ) (D : Listed) : Type 0 where
   pub room : 8 * lineIn D (s .gens) ≤ length T
   pub positive : 0 < D .deg
-
-pub record Ordered (P : Presentation) (s : Scope) (orders : List ℕ) : Type 0 where
-  pub gens-are : s .gens ≡ P .n
-  pub orders-are : (k : ℕ) → k ≤ P .n → ordersIn orders k ≡ order P k
 
 pub record TellsForm (s : Scope) (orders T : List ℕ) (r : Bool) : Type 0 where
   pub is : (P : Presentation) → Ordered P s orders → r ≡ not (malformed P (s .m) T)

@@ -23,10 +23,13 @@ use Rattle.separation.proofs.Apart.{is-whole, wide, one-block}
 use Rattle.level.specs.declared.Listed.{Listed}
 use Rattle.level.specs.Stored.{lineIn}
 use Rattle.seek.specs.declared.Scope.{Scope}
+use Rattle.seek.specs.Seek.{Fits}
 use Rattle.seek.specs.Among.{repIn}
-use Rattle.check_pairs.specs.Pairs.{Fits, Placed, differ, ownOf, Refers, widthIn}
-use Rattle.check_pairs.proofs.Columns.{and-last, row-at}
-use Rattle.check_pairs.proofs.Pairs.{found-fits, placed-positive, placed-whole}
+use Rattle.seek.proofs.Seek.{found-fits}
+use Rattle.seek.proofs.Columns.{row-at}
+use Rattle.check_pairs.specs.Pairs.{Placed, differ, ownOf, Refers, widthIn}
+use Rattle.check_pairs.proofs.Columns.{and-last}
+use Rattle.check_pairs.proofs.Pairs.{placed-positive, placed-whole}
 
 module _ (low : Level) (D : Rep) where
   abbrev width : ℕ → ℕ
@@ -188,6 +191,11 @@ module _ {s : Scope} {T : List ℕ} {i r : ℕ} {D : Listed} (L : Placed s T i r
   -- the words that are read
   pub line-first : Refers s T i D 0
   line-first = line-refers line-none (L .found .positive)
+
+  pub line-narrow : D .deg ≡ 1 → 1 ≡ widthIn s T i D 0
+  line-narrow e =
+      let h = placed-positive L (repIn T D .ref 0 0) (line-first .listed) in
+      omega (arith, e, h, line-fits line-none (L .found .positive) refl)
 
   module _ (p : ℕ) {w : ℕ} (is : w ≡ widthIn s T i D 0) where
     wide-first : 0 < repIn T D .deg

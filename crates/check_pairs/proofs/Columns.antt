@@ -3,29 +3,25 @@
 --   freeAt            no column of the representation at a line has the reference of a column of another
 --   free-is           for every column, `commonFree` of the two
 --   fresh-is          no column before one has its reference
---   ref-at, ref-read, first-ref, exp-at, row-at    the reference of a column of the representation at a line, and exponent and row of column 0
 --   and-last          a conjunction whose last part fails
 --   like-blocks, like-degrees, like-refs      one degree and one first reference, case by case
 --   apart-unlike, apart-alike                 what tells two representations apart
 use mathlib.Core.Path.{_≡_, refl, sym, _∙_, ap, ap₂}
 use mathlib.Core.Bool.{Bool, true, false, _&&_, not}
 use mathlib.Core.List.{List}
-use Prim.Native.Nat.{ℕ, _+_, _*_, _<_}
-use native.Mathlib.Omega.{arith}
+use Prim.Native.Nat.{ℕ, _+_, _<_}
 use lib.Dec.{eqb}
 use borrow.Author.Tests.{eq-eqb, ne-eqb}
 use Rattle.definitions.specs.Lists.{allBelow}
-use Rattle.definitions.specs.declared.Entry.{Entry}
-use Rattle.definitions.specs.Monomial.{col}
-use Rattle.definitions.specs.Table.{REF, ROW, EXP, wordAt, repAt}
+use Rattle.definitions.specs.Table.{REF, EXP, wordAt, repAt}
 use Rattle.numbers.proofs.Bools.{cond-true, cond-false}
 use Rattle.numbers.proofs.Lists.{allBelow-below}
 use Rattle.level.specs.declared.Listed.{Listed}
 use Rattle.level.specs.Stored.{lineIn}
-use Rattle.level.proofs.Laws.{col-matrixIn}
 use Rattle.separation.specs.Apart.{commonFree, fresh, apartAt}
 use Rattle.separation.proofs.Pairs.{eqb-sym}
 use Rattle.seek.specs.Among.{repIn}
+use Rattle.seek.proofs.Columns.{ref-at, first-ref, exp-at}
 use Rattle.check_pairs.specs.Pairs.{otherRef, likeIn}
 
 unfoldable pub freeAt : List ℕ → (line deg at c : ℕ) → Bool
@@ -37,16 +33,6 @@ pub free-test : (T : List ℕ) (line deg at c x : ℕ) → x ≡ wordAt T (at + 
 unfolding freeAt
 free-test T line deg at c x e = ap (λ y. allBelow deg (otherRef T line y)) (sym e)
 
-pub ref-at : (T : List ℕ) (l d c : ℕ) → repAt T l d .ref 0 c ≡ wordAt T (l + c) REF
-unfolding repAt
-ref-at T l d c = let e : l + 0 * d + c ≡ l + c = omega arith in ap (λ x. wordAt T x REF) e
-
-pub first-ref : (T : List ℕ) (F : Listed) → repIn T F .ref 0 0 ≡ wordAt T (F .line) REF
-first-ref T F = let e : F .line + 0 ≡ F .line = omega arith in ref-at T (F .line) (F .deg) 0 ∙ ap (λ l. wordAt T l REF) e
-
-pub ref-read : (T : List ℕ) (D : Listed) (o : ℕ) {k x : ℕ} → k ≡ o → x ≡ wordAt T (D .line + k) REF → x ≡ repIn T D .ref 0 o
-ref-read T D o e h = h ∙ ap (λ k. wordAt T (D .line + k) REF) e ∙ sym (ref-at T (D .line) (D .deg) o)
-
 pub free-is : (T : List ℕ) (at d line deg : ℕ) → commonFree (repAt T at d) (repAt T line deg) ≡ allBelow d (freeAt T line deg at)
 unfolding commonFree freeAt
 free-is T at d line deg = unfold repAt in (allBelow-below d _ _ (λ c l. allBelow-below deg _ _ (λ k a.
@@ -57,18 +43,6 @@ pub fresh-is : (T : List ℕ) (D : Listed) (o : ℕ) {x : ℕ} → x ≡ wordAt 
 unfolding fresh
 fresh-is T D o {x} e = allBelow-below o _ _ (λ c l. ap not (eqb-sym x (wordAt T (D .line + c) REF)
     ∙ ap₂ eqb (sym (ref-at T (D .line) (D .deg) c)) (e ∙ sym (ref-at T (D .line) (D .deg) o))))
-
-pub exp-at : (T : List ℕ) (l d i : ℕ) → 0 < d → col (repAt T l d .matrix i) 0 .exp ≡ wordAt T (l + i * d) EXP
-unfolding repAt
-exp-at T l d i p =
-    let e : l + i * d + 0 ≡ l + i * d = omega arith in
-    ap (λ (x : Entry). x .exp) (col-matrixIn T (l + i * d) d 0 p) ∙ ap (λ x. wordAt T x EXP) e
-
-pub row-at : (T : List ℕ) (l d i : ℕ) → 0 < d → col (repAt T l d .matrix i) 0 .row ≡ wordAt T (l + i * d) ROW
-unfolding repAt
-row-at T l d i p =
-    let e : l + i * d + 0 ≡ l + i * d = omega arith in
-    ap (λ (x : Entry). x .row) (col-matrixIn T (l + i * d) d 0 p) ∙ ap (λ x. wordAt T x ROW) e
 
 -- ---- Apart
 

@@ -5,8 +5,10 @@
 --   own-told                      what the test of one representation says
 --   stands-fails, stands-rest     with those before it
 --   PassingOn, level-fails, level-holds        the representations of a level
+--   Owning, owns-fails, owns-all     the blocks of each representation of a level
+--   level-claimed                 they decide where no two claim one slot
 --   PassingUpTo, table-more, table-fails, table-holds      the levels
-use mathlib.Core.Path.{_≡_, sym, _∙_, ap, ap₂}
+use mathlib.Core.Path.{_≡_, sym, _∙_, ap, ap₂, subst}
 use mathlib.Core.Bool.{Bool, true, false, _&&_, _||_}
 use mathlib.Core.List.{List}
 use Prim.Native.Nat.{ℕ, suc, _+_, _≤_, _<_}
@@ -27,9 +29,13 @@ use Rattle.seek.specs.Formed.{Formed}
 use Rattle.separation.specs.Decision.{blockCount, outside, own, apart, pairwise}
 use Rattle.separation.proofs.Own.{own-refs}
 use Rattle.seek.specs.Among.{repIn}
-use Rattle.check_pairs.specs.Pairs.{Placed, Later, ownOf, widthIn, EarlierApart, standsIn, PrimeOf, Stands, LevelSeparated, PrimesOf, Separated}
-use Rattle.check_pairs.proofs.Columns.{first-ref}
-use Rattle.check_pairs.proofs.Pairs.{found-above, at-count, positive-at, whole-at}
+use Rattle.claims.specs.Claims.{Unshared}
+use Rattle.check_pairs.specs.Pairs.{Placed, Later, ownOf, widthIn, EarlierApart, standsIn, PrimeOf, Stands, AllOwn, LevelSeparated}
+use Rattle.check_pairs.specs.Pairs.{PrimesOf, Separated}
+use Rattle.seek.proofs.Columns.{first-ref}
+use Rattle.seek.proofs.Seek.{found-above}
+use Rattle.check_pairs.proofs.Claimed.{unshared-pairs}
+use Rattle.check_pairs.proofs.Pairs.{at-count, positive-at, whole-at}
 
 -- ---- One representation
 
@@ -78,6 +84,31 @@ module _ (s : Scope) (T : List ℕ) (i p : ℕ) where
 
   pub level-holds : {r : ℕ} → PassingOn r → length (levelAt (s .gens) T (i + 1)) ≤ r → LevelSeparated s T i p true
   level-holds h l = record { is = λ P F. passed-all h l P F ∙ level-is P F }
+
+-- ---- The blocks of each representation of a level
+
+module _ (s : Scope) (T : List ℕ) (i p : ℕ) where
+  abbrev pub Owning : ℕ → Type 0
+  Owning r = Passed (PrimeOf s T i p) (λ P r. own P T i r) r
+
+  owns-is : (P : Presentation) → PrimeOf s T i p P
+      → allBelow (length (levelAt (s .gens) T (i + 1))) (own P T i) ≡ allBelow (length (levelAt (P .n) T (suc i))) (own P T i)
+  owns-is P F = ap₂ (λ n k. allBelow (length (levelAt n T k)) (own P T i)) (F .formed .gens-are) (add-one i)
+
+  pub owns-fails : {r : ℕ} {b : Bool} → Owning r → r < length (levelAt (s .gens) T (i + 1)) → ((P : Presentation) → PrimeOf s T i p P → b ≡ own P T i r)
+      → b ≡ false → AllOwn s T i p false
+  owns-fails h l t e = record { is = λ P F. passed-fails h l t e P F ∙ owns-is P F }
+
+  pub owns-all : {r : ℕ} → Owning r → length (levelAt (s .gens) T (i + 1)) ≤ r → AllOwn s T i p true
+  owns-all h l = record { is = λ P F. passed-all h l P F ∙ owns-is P F }
+
+  pub level-claimed : i < s .gens → Unshared i (levelAt (s .gens) T (suc i)) → {b : Bool} → AllOwn s T i p b → LevelSeparated s T i p b
+  level-claimed l U t = record {
+    is = λ P F.
+        let G = F .formed in
+        t .is P F ∙ unshared-pairs P T i (positive-at G i l i (omega arith)) (positive-at G i l (suc i) l) (whole-at G i l)
+        (subst (λ n. Unshared i (levelAt n T (suc i))) (G .gens-are) U);
+  }
 
 -- ---- The levels
 

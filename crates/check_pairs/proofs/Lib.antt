@@ -3,3 +3,4 @@ pub mod Columns
 pub mod Pairs
 pub mod Blocks
 pub mod Levels
+pub mod Claimed

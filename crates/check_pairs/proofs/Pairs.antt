@@ -1,7 +1,5 @@
 -- Representations of a level of a table to which 21 does not apply.
 --
---   found-fits        one that is found stands in the words
---   found-above       the level above level i, by either name
 --   level-positive    degrees are positive, on level 0 too
 --   at-count, positive-at, whole-at      what is known of them, by the number of generators of the presentation
 --   one-is-block      one block, told by the first reference
@@ -12,8 +10,7 @@
 use mathlib.Core.Path.{_≡_, sym, _∙_, ap, ap₂, subst}
 use mathlib.Core.Bool.{Bool, true}
 use mathlib.Core.List.{List}
-use Prim.Native.Nat.{ℕ, zero, suc, _+_, _*_, _≤_, _<_}
-use native.Mathlib.Nat.{mul-le-mul-right}
+use Prim.Native.Nat.{ℕ, zero, suc, _+_, _≤_, _<_}
 use native.Mathlib.Numerals.{add-one}
 use native.Mathlib.Omega.{arith}
 use lib.Dec.{eqb}
@@ -29,27 +26,14 @@ use Rattle.level.specs.declared.Listed.{Listed}
 use Rattle.seek.specs.declared.Scope.{Scope}
 use Rattle.seek.specs.Seek.{Whole, Found}
 use Rattle.seek.specs.Formed.{Formed}
-use Rattle.seek.proofs.Halves.{lines-there}
-use Rattle.seek.proofs.Seek.{zero-degree}
+use Rattle.seek.proofs.Columns.{first-ref}
+use Rattle.seek.proofs.Seek.{zero-degree, found-above}
 use Rattle.seek.proofs.Stored.{blocks-whole}
 use Rattle.separation.specs.Decision.{reference, apart}
 use Rattle.separation.specs.Apart.{apartAt}
 use Rattle.separation.proofs.Apart.{apart-columns}
 use Rattle.seek.specs.Among.{repIn}
-use Rattle.check_pairs.specs.Pairs.{Fits, oneBlock, Placed, Later}
-use Rattle.check_pairs.proofs.Columns.{first-ref}
-
-pub found-fits : {n : ℕ} {T : List ℕ} {k r : ℕ} {D : Listed} → Found n T k r D → (i : ℕ) → i < n → Fits T i D
-found-fits {n} {T} {k} {r} {D} F i l =
-    let e : suc i * D .deg ≤ n * D .deg = mul-le-mul-right (D .deg) l in
-    record {
-      positive = F .positive;
-      first = lines-there T (D .line + D .deg) (omega (arith, F .inside, e));
-      top = lines-there T (D .line + i * D .deg + D .deg) (omega (arith, F .inside, e));
-    }
-
-pub found-above : {n : ℕ} {T : List ℕ} {i r : ℕ} {D : Listed} → Found n T (i + 1) r D → Found n T (suc i) r D
-found-above {n} {T} {i} {r} {D} F = subst (λ k. Found n T k r D) (add-one i) F
+use Rattle.check_pairs.specs.Pairs.{oneBlock, Placed, Later}
 
 pub level-positive : (s : Scope) (T : List ℕ) → Whole s T → (i : ℕ) → i ≤ s .gens → (r : ℕ) → r < length (levelAt (s .gens) T i)
     → 0 < repOf (levelAt (s .gens) T i) r .deg

@@ -1,7 +1,6 @@
 -- Pairs of representations that stand in lines.
 --
 --   otherRef T line x c    column c of the representation at a line has a reference other than x
---   Fits T i D         the lines of D for the generators up to i stand in the words
 --   likeIn T one D E    `one`, and both have one degree and one first reference
 --   oneBlock n T i E   E, of the level above level i, is one block
 --   Placed s T i r D   D is representation r of the level above level i of a well-formed table
@@ -11,6 +10,7 @@
 --   Refers s T i D o, widthIn      column o of D refers to a representation of level i, and its degree
 --   EarlierApart s T i r b     b says whether all representations before r are apart from it
 --   Stands, LevelSeparated     and of r with those before it, and of a level, where p is the prime of generator i (PrimeOf, TellsAt)
+--   AllOwn                     and whether each representation of a level owns its blocks
 --   PrimesOf, Separated        and of all levels, by the primes of all generators
 use mathlib.Core.Path.{_≡_}
 use mathlib.Core.Bool.{Bool, _&&_, _||_, not}
@@ -20,7 +20,7 @@ use lib.Dec.{eqb, leb}
 use lib.ListN.{length, getD}
 use Rattle.definitions.specs.Lists.{allBelow, all}
 use Rattle.definitions.specs.Monomial.{col, Rep, Level, repOf}
-use Rattle.definitions.specs.Table.{REF, wordAt, repAt, levelAt}
+use Rattle.definitions.specs.Table.{REF, wordAt, levelAt}
 use Rattle.definitions.specs.Presentation.{Presentation}
 use Rattle.definitions.specs.Judgement.{cuts}
 use Rattle.level.specs.declared.Listed.{Listed}
@@ -33,11 +33,6 @@ use Rattle.separation.specs.Apart.{fresh}
 
 abbrev pub otherRef : List ℕ → (line x c : ℕ) → Bool
 otherRef T line x c = not (eqb x (wordAt T (line + c) REF))
-
-pub record Fits (T : List ℕ) (i : ℕ) (D : Listed) : Type 0 where
-  pub positive : 0 < D .deg
-  pub first : 8 * (D .line + D .deg) ≤ length T
-  pub top : 8 * (D .line + i * D .deg + D .deg) ≤ length T
 
 abbrev pub likeIn : List ℕ → Bool → Listed → Listed → Bool
 likeIn T one D E = one && eqb (D .deg) (E .deg) && eqb (wordAt T (D .line) REF) (wordAt T (E .line) REF)
@@ -93,6 +88,9 @@ pub record TellsAt (s : Scope) (T : List ℕ) (i p : ℕ) (q : Presentation → 
 
 abbrev pub Stands : Scope → List ℕ → (i p r : ℕ) → Bool → Type 0
 Stands s T i p r b = TellsAt s T i p (λ P. standsIn P T i r) b
+
+abbrev pub AllOwn : Scope → List ℕ → (i p : ℕ) → Bool → Type 0
+AllOwn s T i p b = TellsAt s T i p (λ P. allBelow (length (levelAt (P .n) T (suc i))) (own P T i)) b
 
 abbrev pub LevelSeparated : Scope → List ℕ → (i p : ℕ) → Bool → Type 0
 LevelSeparated s T i p b = TellsAt s T i p (λ P. pairwise P T i) b

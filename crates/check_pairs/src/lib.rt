@@ -1,10 +1,12 @@
-// Refusal 25 on a table to which 21 to 23 do not apply: the representations of each level are told apart pair by pair, the
-// later one outside, by references and by exponents in column 0, and no product is formed.
+// Refusal 25 on a table to which 21 to 23 do not apply: the representations of each level are told apart by references and by
+// exponents in column 0, in one pass where that is enough, and else pair by pair, the later one outside. No product is formed.
 //
 //   free_of, common_free                  references that a representation has not
 //   alike, apart, earlier_apart           two representations of a level, and all before one
-//   fresh_at, width, blocks_differ, own   the blocks of one representation
-//   stands_apart, level_separated         one with all before it, and all of a level
+//   fresh_at, width, first_width          a block of one representation
+//   blocks_differ, own                    all its blocks
+//   stands_apart, pairs_apart             one with all before it, and all of a level
+//   all_own, level_separated              the blocks of each of a level, and whether all of them are apart
 //   separated                             whether all representations of every level are apart
 ghost use mathlib.Core.Path.{_≡_};
 ghost use Prim.Native.Nat.{ℕ, _+_, _*_, _≤_, _<_};
@@ -14,9 +16,10 @@ ghost use Rattle.definitions.specs.Presentation.{Presentation};
 ghost use Rattle.definitions.specs.Table.{levelAt};
 ghost use Rattle.seek.specs.Formed.{Formed};
 ghost use Rattle.separation.specs.Apart.{commonFree, fresh, apartAt};
+ghost use Rattle.seek.specs.Seek.{Fits};
 ghost use Rattle.seek.specs.Among.{repIn};
-ghost use Rattle.check_pairs.specs.Pairs.{otherRef, Fits, likeIn, Placed, Later, differ, ownOf, Refers, widthIn};
-ghost use Rattle.check_pairs.specs.Pairs.{EarlierApart, Stands, LevelSeparated, Separated};
+ghost use Rattle.check_pairs.specs.Pairs.{otherRef, likeIn, Placed, Later, differ, ownOf, Refers, widthIn};
+ghost use Rattle.check_pairs.specs.Pairs.{EarlierApart, Stands, AllOwn, LevelSeparated, Separated};
 use level::Listed;
 use rows::Row;
 use seek::Scope;
@@ -122,6 +125,17 @@ fn width(words: &[u32], s: Scope, i: u32, d: Listed, o: u32) -> u32
     )
 }
 
+// The width of the first block of d, of the level above level i.
+fn first_width(words: &[u32], s: Scope, i: u32, d: Listed) -> u32
+    requires { ⌜ ((r : ℕ) × Placed s (now words) i r d) ⌝ }
+    ensures { λ r. ⌜ (r ≡ widthIn s (now (words .entry)) i d 0) × (0 < r) ⌝ }
+{
+    if d.deg == 1 {
+        return 1;
+    }
+    width(words, s, i, d, 0)
+}
+
 // d, of the level above level i, has p blocks, with references of their own.
 fn blocks_differ(words: &[u32], s: Scope, i: u32, p: u32, d: Listed) -> bool
     requires { ⌜ ((r : ℕ) × Placed s (now words) i r d) ⌝ }
@@ -146,7 +160,7 @@ fn own(words: &[u32], s: Scope, i: u32, p: u32, d: Listed) -> bool
     ensures { λ r. ⌜ r ≡ ownOf (levelAt (s .gens) (now (words .entry)) i) p i (repIn (now (words .entry)) d) ⌝ }
 {
     let deg = d.deg;
-    let w = width(words, s, i, d, 0);
+    let w = first_width(words, s, i, d);
     if w == deg {
         return true;
     }
@@ -165,12 +179,12 @@ fn stands_apart(words: &[u32], s: Scope, i: u32, p: u32, r: usize) -> bool
     if !own(words, s, i, p, e) {
         return false;
     }
-    let w = width(words, s, i, e, 0);
+    let w = first_width(words, s, i, e);
     earlier_apart(words, s, i, w == e.deg, e, r)
 }
 
-// The representations of the level above level i are apart, where p is the prime of generator i.
-fn level_separated(words: &[u32], s: Scope, i: u32, p: u32) -> bool
+// The representations of the level above level i are apart, pair by pair, where p is the prime of generator i.
+fn pairs_apart(words: &[u32], s: Scope, i: u32, p: u32) -> bool
     requires { ⌜ ((P : Presentation) × Formed P s (now words)) × (i < s .gens) ⌝ }
     ensures { λ r. ⌜ LevelSeparated s (now (words .entry)) i p r ⌝ }
 {
@@ -181,6 +195,37 @@ fn level_separated(words: &[u32], s: Scope, i: u32, p: u32) -> bool
         }
     }
     true
+}
+
+// Each representation of the level above level i is one block, or has p blocks of its own.
+fn all_own(words: &[u32], s: Scope, i: u32, p: u32) -> bool
+    requires { ⌜ ((P : Presentation) × Formed P s (now words)) × (i < s .gens) ⌝ }
+    ensures { λ r. ⌜ AllOwn s (now (words .entry)) i p r ⌝ }
+{
+    let reps = seek::count_of(words, s, i + 1);
+    let mut d = seek::found(words, s, i + 1, 0);
+    let mut r: usize = 0;
+    loop {
+        if !own(words, s, i, p, d) {
+            return false;
+        }
+        r += 1;
+        if r == reps {
+            return true;
+        }
+        d = seek::following(words, s, d);
+    }
+}
+
+// The representations of the level above level i are apart. Where no two claim one slot, their own blocks decide.
+fn level_separated(words: &[u32], s: Scope, i: u32, p: u32) -> bool
+    requires { ⌜ ((P : Presentation) × Formed P s (now words)) × (i < s .gens) ⌝ }
+    ensures { λ r. ⌜ LevelSeparated s (now (words .entry)) i p r ⌝ }
+{
+    if claims::disjoint(words, s, i, p) {
+        return all_own(words, s, i, p);
+    }
+    pairs_apart(words, s, i, p)
 }
 
 // Whether the representations of every level are apart: refusal 25 where 21 to 23 do not apply.

@@ -7,8 +7,8 @@ use mathlib.Core.Bool.{Bool, true, false, not}
 use mathlib.Core.List.{List}
 use Prim.Native.Nat.{ℕ, _/_, _≤_, _<_}
 use native.Mathlib.Omega.{arith}
-use lib.ListN.{length, getD}
-use borrow.Author.Tests.{not-true, not-false}
+use lib.ListN.{length}
+use borrow.Author.Tests.{not-false}
 use Rattle.definitions.specs.Lists.{allBelow}
 use Rattle.definitions.specs.Presentation.{maxModulus}
 use Rattle.definitions.specs.Judgement.{everywhere, relationFails, relationsHold, restricts, intertwinersHold, malformed}
@@ -20,13 +20,12 @@ use Rattle.separation.specs.Relations.{topRelations}
 use Rattle.separation.specs.Decision.{pairwise}
 use Rattle.separation.proofs.Verdict.{judged-21, judged-22, judged-22-top, judged-23, judged-24, judged-25, judged-26, judged-0}
 use Rattle.seek.specs.declared.Scope.{Scope}
-use Rattle.seek.specs.Formed.{Formed, Posed, Tells, TellsOf}
+use Rattle.seek.specs.Formed.{Formed, Ordered, Posed, Tells, TellsOf}
 use Rattle.check_heads.specs.Places.{Counted}
 use Rattle.check_heads.proofs.Places.{counted}
 use Rattle.check_form.specs.Form.{TellsForm}
-use Rattle.check_form.specs.Form as ordering
 use Rattle.check_form.proofs.Form as form
-use Rattle.check_blocks.specs.Squares.{Ordered, AddsUp}
+use Rattle.check_blocks.specs.Squares.{AddsUp}
 use Rattle.check_pairs.specs.Pairs.{PrimesOf, Separated}
 use Rattle.checker.specs.Judged.{Task, Judged, Sorted, JudgedFormed}
 
@@ -107,7 +106,7 @@ module _ (T : List ℕ) {n m : ℕ} {rows : List (List ℕ)} {primes : List ℕ}
         gens-are : s .gens ≡ A .C .P .n
         gens-are = gens ∙ K .gens-are
 
-        form-ordered : ordering.Ordered (A .C .P) s orders
+        form-ordered : Ordered (A .C .P) s orders
         form-ordered = form.ordered (A .C .P) s gens-are (λ j l. K .reads .p-is j (omega (arith, gens))) (subst (λ k. LevelOrders primes k orders) (sym gens) levels)
 
       pub found-21 : TellsForm s orders T false → Judged n m rows primes T 21
@@ -125,7 +124,7 @@ module _ (T : List ℕ) {n m : ℕ} {rows : List (List ℕ)} {primes : List ℕ}
             ready = subst (λ k. Ready k primes rows) (sym gens) (K .ready);
             reads = subst (λ k. Reads (A .C .P) k primes rows) (sym gens) (K .reads);
           };
-          ordered = record { gens-are = gens-are A K; each = λ i l. form-ordered A K .orders-are i (omega (arith, gens-are A K)) };
+          ordered = form-ordered A K;
         }
 
         pub found-formed : {a : ℕ} → JudgedFormed s rows primes orders T a → Judged n m rows primes T a

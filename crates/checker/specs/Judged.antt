@@ -9,14 +9,13 @@
 use mathlib.Core.Path.{_≡_}
 use mathlib.Core.List.{List}
 use Prim.Native.Nat.{ℕ, _≤_, _<_}
-use Rattle.definitions.specs.Presentation.{maxGenerators, maxOrder, maxModulus}
+use Rattle.definitions.specs.Presentation.{maxOrder, maxModulus}
 use Rattle.definitions.specs.Answers.{judgement}
 use Rattle.rows.specs.Rows.{Ready, Reads}
 use Rattle.conditions.specs.Conditions.{product}
 use Rattle.clifford.specs.Accepted.{Accepted}
 use Rattle.seek.specs.declared.Scope.{Scope}
-use Rattle.seek.specs.Formed.{Posed}
-use Rattle.check_blocks.specs.Squares.{Ordered}
+use Rattle.seek.specs.Formed.{Ordered, Posed}
 
 pub record Task (A : Accepted) (n m : ℕ) (rows : List (List ℕ)) (primes : List ℕ) : Type 0 where
   pub gens-are : n ≡ A .C .P .n
@@ -33,7 +32,7 @@ pub record Judged (n m : ℕ) (rows : List (List ℕ)) (primes T : List ℕ) (a 
 
 pub record Sorted (A : Accepted) (s : Scope) (rows : List (List ℕ)) (primes orders T : List ℕ) : Type 0 where
   pub posed : Posed (A .C .P) s rows primes T
-  pub ordered : Ordered (A .C .P) (s .gens) orders
+  pub ordered : Ordered (A .C .P) s orders
 
 abbrev pub SomeSorted : Scope → List (List ℕ) → (primes orders T : List ℕ) → Type 0
 SomeSorted s rows primes orders T = (A : Accepted) × Sorted A s rows primes orders T

@@ -3,3 +3,4 @@ pub mod Halves
 pub mod Seek
 pub mod Stored
 pub mod Among
+pub mod Columns

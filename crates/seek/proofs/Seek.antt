@@ -4,12 +4,15 @@
 --   found-first       it begins at its first line
 --   found-at          where the search ends, it begins
 --   found-next        the one behind it
+--   found-fits        one that is found stands in the words
+--   found-above       the level above level i, by either name
 --   zero-degree, zero-count       level 0
 --   whole-some, last-before, next-splits, next-before     how many representations a level has
 use mathlib.Core.Path.{_≡_, refl, sym, _∙_, ap, ap₂, subst}
 use mathlib.Core.List.{List}
 use Prim.Native.Nat.{ℕ, zero, suc, _+_, _*_, _≤_, _<_}
 use native.Mathlib.Nat.{mul-le-mul-right}
+use native.Mathlib.Numerals.{add-one}
 use native.Mathlib.Omega.{arith}
 use lib.ListN.{length}
 use Rattle.definitions.specs.Monomial.{repOf}
@@ -20,8 +23,8 @@ use Rattle.heads.proofs.Order.{split-one, complete-split, complete-room, comple
 use Rattle.level.specs.declared.Listed.{Listed}
 use Rattle.level.specs.Stored.{listedIn}
 use Rattle.seek.specs.declared.Scope.{Scope}
-use Rattle.seek.specs.Seek.{Whole, Found}
-use Rattle.seek.proofs.Halves.{line-there}
+use Rattle.seek.specs.Seek.{Whole, Found, Fits}
+use Rattle.seek.proofs.Halves.{line-there, lines-there}
 
 module _ (s : Scope) (T : List ℕ) (W : Whole s T) where
   abbrev n : ℕ
@@ -102,3 +105,17 @@ module _ (s : Scope) (T : List ℕ) (W : Whole s T) where
   next-before (suc k) x h l S =
       let e : suc k + 1 ≡ suc (suc k) = omega arith in
       complete-last n (W .some) T (W .all) k x l (subst (λ i. Split T i 0 x) e S)
+
+-- ---- One that is found
+
+pub found-fits : {n : ℕ} {T : List ℕ} {k r : ℕ} {D : Listed} → Found n T k r D → (i : ℕ) → i < n → Fits T i D
+found-fits {n} {T} {k} {r} {D} F i l =
+    let e : suc i * D .deg ≤ n * D .deg = mul-le-mul-right (D .deg) l in
+    record {
+      positive = F .positive;
+      first = lines-there T (D .line + D .deg) (omega (arith, F .inside, e));
+      top = lines-there T (D .line + i * D .deg + D .deg) (omega (arith, F .inside, e));
+    }
+
+pub found-above : {n : ℕ} {T : List ℕ} {i r : ℕ} {D : Listed} → Found n T (i + 1) r D → Found n T (suc i) r D
+found-above {n} {T} {i} {r} {D} F = subst (λ k. Found n T k r D) (add-one i) F

@@ -2,13 +2,15 @@
 --
 --   Formed P s T                  T is a table of this scope that is well formed for the presentation P
 --   Tells s T q r                 r is the answer of the test q, for every presentation for which T is well formed
+--   Ordered P s orders            s counts the generators of P, and orders are those of its levels
 --   Posed P s rows primes T       and rows and primes are those of P
 --   TellsOf s rows primes T q r   the same as Tells for every such presentation
 use mathlib.Core.Path.{_≡_}
 use mathlib.Core.Bool.{Bool, false}
 use mathlib.Core.List.{List}
 use Prim.Native.Nat.{ℕ, _≤_, _<_}
-use Rattle.definitions.specs.Presentation.{maxModulus, Presentation}
+use lib.ListN.{getD}
+use Rattle.definitions.specs.Presentation.{maxModulus, Presentation, order}
 use Rattle.definitions.specs.Judgement.{malformed}
 use Rattle.rows.specs.Rows.{Ready, Reads}
 use Rattle.seek.specs.declared.Scope.{Scope}
@@ -22,6 +24,10 @@ pub record Formed (P : Presentation) (s : Scope) (T : List ℕ) : Type 0 where
 
 pub record Tells (s : Scope) (T : List ℕ) (q : Presentation → Bool) (r : Bool) : Type 0 where
   pub is : (P : Presentation) → Formed P s T → r ≡ q P
+
+pub record Ordered (P : Presentation) (s : Scope) (orders : List ℕ) : Type 0 where
+  pub gens-are : s .gens ≡ P .n
+  pub orders-are : (k : ℕ) → k ≤ P .n → getD orders k 0 ≡ order P k
 
 -- a presentation that the code holds in rows
 pub record Posed (P : Presentation) (s : Scope) (rows : List (List ℕ)) (primes T : List ℕ) : Type 0 where

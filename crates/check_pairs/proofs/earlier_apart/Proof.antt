@@ -7,8 +7,8 @@ use borrow.Author.Tests.{not-true, not-false}
 use denote.Ref.{now}
 use Rattle.numbers.proofs.Passed.{passed-none, passed-more, passed-all, passed-fails}
 use Rattle.seek.specs.Seek.{Found}
-use Rattle.seek.proofs.Seek.{whole-some}
-use Rattle.check_pairs.proofs.Pairs.{Passing, passing-told, one-behind, found-fits}
+use Rattle.seek.proofs.Seek.{whole-some, found-fits}
+use Rattle.check_pairs.proofs.Pairs.{Passing, passing-told, one-behind}
 use Rattle.check_pairs.proofs.earlier_apart.Statement.{statement}
 use Rattle.check_pairs.proofs.earlier_apart.Tie as tie
 

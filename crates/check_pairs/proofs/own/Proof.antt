@@ -3,16 +3,16 @@ use mathlib.Core.Path.{_∙_, ap}
 use native.Mathlib.Omega.{arith}
 use denote.Ref.{now}
 use Rattle.definitions.specs.Table.{ROW, wordAt}
-use Rattle.check_pairs.proofs.Pairs.{found-fits}
-use Rattle.check_pairs.proofs.Blocks.{line-first, line-one, line-inside, line-blocks}
+use Rattle.seek.proofs.Seek.{found-fits}
+use Rattle.check_pairs.proofs.Blocks.{line-one, line-inside, line-blocks}
 use Rattle.check_pairs.proofs.own.Statement.{statement}
 use Rattle.check_pairs.proofs.own.Tie as tie
 
-width-requires : tie.Need-width-requires
-width-requires c κs = line-first (c .before .pre .1)
+first-width-requires : tie.Need-first-width-requires
+first-width-requires c κs = c .before .pre
 
 returns : tie.Need-returns
-returns c = let w = c .before in let z = w .before .before in line-one (z .pre .1) (z .args .p) (w .width .ensures .0) (c .if1 .taken)
+returns c = let w = c .before in let z = w .before .before in line-one (z .pre .1) (z .args .p) (w .first-width .ensures .0) (c .if1 .taken)
 
 matrix-line-requires : tie.Need-matrix-line-requires
 matrix-line-requires c κs =
@@ -33,7 +33,7 @@ returns-2 c =
     let w = x .before .before .before in
     let z = w .before .before in
     let row = x .word-at .ensures ∙ ap (λ l. wordAt (now (z .args .words)) l ROW) (x .before .matrix-line .ensures) in
-    line-inside (z .pre .1) (z .args .p) (w .width .ensures .0) (x .before .before .if1 .left) row (c .if2 .taken)
+    line-inside (z .pre .1) (z .args .p) (w .first-width .ensures .0) (x .before .before .if1 .left) row (c .if2 .taken)
 
 blocks-differ-requires : tie.Need-blocks-differ-requires
 blocks-differ-requires c κs = let o = c .before .before .before in o .before .before .before .pre
@@ -44,8 +44,8 @@ returns-3 c =
     let w = x .before .before .before in
     let z = w .before .before in
     let row = x .word-at .ensures ∙ ap (λ l. wordAt (now (z .args .words)) l ROW) (x .before .matrix-line .ensures) in
-    line-blocks (z .pre .1) (z .args .p) (w .width .ensures .0) (x .before .before .if1 .left) row (omega (arith, c .before .if2 .left))
+    line-blocks (z .pre .1) (z .args .p) (w .first-width .ensures .0) (x .before .before .if1 .left) row (omega (arith, c .before .if2 .left))
     (c .blocks-differ .ensures)
 
 pub own-spec : {M : Type 1} → statement M
-own-spec = tie.close (tie.spec width-requires returns matrix-line-requires word-at-requires returns-2 blocks-differ-requires returns-3)
+own-spec = tie.close (tie.spec first-width-requires returns matrix-line-requires word-at-requires returns-2 blocks-differ-requires returns-3)

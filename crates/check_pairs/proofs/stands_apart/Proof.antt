@@ -1,7 +1,6 @@
 -- `stands_apart` tests one representation, and those before it.
 use native.Mathlib.Omega.{arith}
 use borrow.Author.Tests.{not-true, not-false}
-use Rattle.check_pairs.proofs.Blocks.{line-first}
 use Rattle.check_pairs.proofs.Levels.{found-placed, placed-later, stands-fails, stands-rest}
 use Rattle.check_pairs.proofs.stands_apart.Statement.{statement}
 use Rattle.check_pairs.proofs.stands_apart.Tie as tie
@@ -21,17 +20,17 @@ returns c =
     let G = c .before .before .found .ensures in
     stands-fails (c .before .before .before .before .pre .1) G (t .ensures) (not-true (t .result) (c .if1 .taken))
 
-width-requires : tie.Need-width-requires
-width-requires c κs =
+first-width-requires : tie.Need-first-width-requires
+first-width-requires c κs =
     let f = c .before .before in
     let (F, l, h) = f .before .before .pre in
-    line-first (found-placed (F .1) l (f .found .ensures))
+    (f .before .before .args .r, found-placed (F .1) l (f .found .ensures))
 
 earlier-apart-requires : tie.Need-earlier-apart-requires
 earlier-apart-requires c κs =
     let f = c .before .before .before .before in
     let (F, l, h) = f .before .before .pre in
-    placed-later (found-placed (F .1) l (f .found .ensures)) (c .before .width .ensures .0)
+    placed-later (found-placed (F .1) l (f .found .ensures)) (c .before .first-width .ensures .0)
 
 returns-2 : tie.Need-returns-2
 returns-2 c =
@@ -41,4 +40,4 @@ returns-2 c =
     stands-rest (f .before .before .pre .1) (f .found .ensures) (t .ensures) (not-false (t .result) (o .if1 .left)) (c .earlier-apart .ensures)
 
 pub stands-apart-spec : {M : Type 1} → statement M
-stands-apart-spec = tie.close (tie.spec add-found found-requires own-requires returns width-requires earlier-apart-requires returns-2)
+stands-apart-spec = tie.close (tie.spec add-found found-requires own-requires returns first-width-requires earlier-apart-requires returns-2)

@@ -7,7 +7,7 @@ use borrow.Author.Needs.{needs}
 use lib.ListN.{length}
 use Rattle.definitions.specs.Monomial.{repOf}
 use Rattle.definitions.specs.Table.{levelAt}
-use Rattle.check_pairs.proofs.Columns.{ref-read}
+use Rattle.seek.proofs.Columns.{ref-read}
 use Rattle.check_pairs.proofs.width.Statement.{statement}
 use Rattle.check_pairs.proofs.width.Tie as tie
 

@@ -1,0 +1,3 @@
+-- Laws of claims.
+pub mod Marks
+pub mod Claims

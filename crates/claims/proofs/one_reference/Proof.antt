@@ -1,0 +1,88 @@
+-- `one_reference` meets its contract: the columns before c have the reference of column 0.
+use mathlib.Core.Path.{_≡_, subst}
+use mathlib.Core.Bool.{true, false}
+use Prim.Native.Nat.{_+_, _*_, _-_, _≤_}
+use native.Mathlib.Omega.{arith}
+use lib.ListN.{length}
+use borrow.Author.Needs.{needs}
+use denote.Ref.{now}
+use Rattle.definitions.specs.Table.{REF, wordAt, repAt}
+use Rattle.numbers.proofs.Tested.{Tested, tested-none, tested-more, tested-all, tested-fails}
+use Rattle.claims.specs.Claims.{oneReference}
+use Rattle.claims.proofs.Claims.{sameReference, same-reference, other-reference}
+use Rattle.claims.proofs.one_reference.Statement.{statement}
+use Rattle.claims.proofs.one_reference.Tie as tie
+
+abbrev Inv-loop : tie.InvT-loop
+Inv-loop words line deg first c₀ c =
+    (c ≤ deg) × (8 * (line + deg) ≤ length words) × (first ≡ wordAt words line REF) × Tested (sameReference (repAt words line deg)) c
+
+abbrev μ-loop : tie.MeasureT-loop
+μ-loop words line deg first c₀ c = deg - c
+
+up-requires : tie.Need-up-requires Inv-loop μ-loop
+up-requires c κs = search needs
+
+word-at-requires : tie.Need-word-at-requires Inv-loop μ-loop
+word-at-requires c κs = search needs
+
+loop-holds : tie.Need-loop-holds Inv-loop μ-loop
+loop-holds c = (omega arith, omega (arith, c .before .up .ensures), c .word-at .ensures, tested-none)
+
+add-word-at : tie.Need-add-word-at Inv-loop μ-loop
+add-word-at c = search needs
+
+word-at-requires-2 : tie.Need-word-at-requires-2 Inv-loop μ-loop
+word-at-requires-2 c κs = search needs
+
+returns : tie.Need-returns Inv-loop μ-loop
+returns c =
+    let w = c .before in
+    let l = w .before .before in
+    let a = l .before .before .before .before .args in
+    let e = l .before .before .up .ensures in
+    let (low, room, first, tested) = l .loop .inv in
+    let T = now (a .words) in
+    let other = other-reference T (a .d .line) (l .before .before .up .result) (l .loop .c) _ _ (w .word-at2 .ensures) first (c .if1 .taken) in
+    subst (λ deg. false ≡ oneReference (repAt T (a .d .line) deg)) e (tested-fails tested (unfold repAt in (omega arith)) other)
+
+add-c : tie.Need-add-c Inv-loop μ-loop
+add-c c = search needs
+
+loop-less : tie.Need-loop-less Inv-loop μ-loop
+loop-less c = search needs
+
+loop-again : tie.Need-loop-again Inv-loop μ-loop
+loop-again c =
+    let w = c .before in
+    let l = w .before .before in
+    let a = l .before .before .before .before .args in
+    let (low, room, first, tested) = l .loop .inv in
+    let deg = l .before .before .up .result in
+    let e = w .word-at2 .ensures in
+    let same = same-reference (now (a .words)) (a .d .line) deg (l .loop .c) _ _ e first (omega (arith, c .if1 .left)) in
+    (omega arith, room, first, tested-more tested same)
+
+returns-2 : tie.Need-returns-2 Inv-loop μ-loop
+returns-2 c =
+    let l = c .before in
+    let a = l .before .before .before .before .args in
+    let e = l .before .before .up .ensures in
+    subst (λ deg. true ≡ oneReference (repAt (now (a .words)) (a .d .line) deg)) e (tested-all (l .loop .inv .3) (unfold repAt in (omega arith)))
+
+pub one-reference-spec : {M : Type 1} → statement M
+one-reference-spec =
+    tie.close
+    (tie.spec
+    Inv-loop
+    μ-loop
+    up-requires
+    word-at-requires
+    loop-holds
+    add-word-at
+    word-at-requires-2
+    returns
+    add-c
+    loop-less
+    loop-again
+    returns-2)

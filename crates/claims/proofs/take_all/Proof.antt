@@ -1,0 +1,93 @@
+-- `take_all` goes through the columns: what those before c refer to was free, and is marked.
+use mathlib.Core.Path.{sym, _∙_, subst}
+use mathlib.Core.Bool.{false≢true}
+use Prim.Native.Nat.{_+_, _*_, _-_, _≤_}
+use native.Mathlib.Omega.{arith}
+use lib.ListN.{length}
+use borrow.Author.Needs.{needs}
+use borrow.Author.Tests.{not-false}
+use denote.Ref.{now}
+use Rattle.definitions.specs.Table.{repAt}
+use Rattle.seek.proofs.Columns.{ref-at}
+use Rattle.claims.specs.Claims.{TookAll}
+use Rattle.claims.proofs.Marks.{Taking, taking-none, taking-more, taking-all}
+use Rattle.claims.proofs.take_all.Statement.{statement}
+use Rattle.claims.proofs.take_all.Tie as tie
+
+abbrev Inv-loop : tie.InvT-loop
+Inv-loop words marks₀ line deg last₀ c₀ marks last c = (c ≤ deg) × (8 * (line + deg) ≤ length words) × Taking (repAt words line deg) marks₀ marks last c
+
+abbrev μ-loop : tie.MeasureT-loop
+μ-loop words marks₀ line deg last₀ c₀ marks last c = deg - c
+
+up-requires : tie.Need-up-requires Inv-loop μ-loop
+up-requires c κs = search needs
+
+loop-holds : tie.Need-loop-holds Inv-loop μ-loop
+loop-holds c = (omega arith, omega (arith, c .up .ensures), taking-none _ _ _ (omega arith))
+
+add-word-at : tie.Need-add-word-at Inv-loop μ-loop
+add-word-at c = search needs
+
+word-at-requires : tie.Need-word-at-requires Inv-loop μ-loop
+word-at-requires c κs = search needs
+
+up-requires-2 : tie.Need-up-requires-2 Inv-loop μ-loop
+up-requires-2 c κs = search needs
+
+take-requires : tie.Need-take-requires Inv-loop μ-loop
+take-requires c κs = search needs
+
+same-length : tie.Need-same-length Inv-loop μ-loop
+same-length c = search needs
+
+returns : tie.Need-returns Inv-loop μ-loop
+returns c = λ h. absurd (false≢true h)
+
+add-c : tie.Need-add-c Inv-loop μ-loop
+add-c c = search needs
+
+loop-less : tie.Need-loop-less Inv-loop μ-loop
+loop-less c = search needs
+
+loop-again : tie.Need-loop-again Inv-loop μ-loop
+loop-again c =
+    let k = c .before .before .before in
+    let l = k .before .before .before .before .before in
+    let a = l .before .before .before .before .args in
+    let (low, room, taking) = l .loop .inv in
+    let u = c .before .before .before .before .before in
+    let read = u .up2 .ensures ∙ u .before .word-at .ensures in
+    let f = read ∙ sym (ref-at (now (a .words)) (a .d .line) (l .before .up .result) (l .loop .c)) in
+    (omega arith, room, taking-more taking f (k .take .ensures (not-false (k .take .result) (c .if1 .left))))
+
+same-length-2 : tie.Need-same-length-2 Inv-loop μ-loop
+same-length-2 c = c .before .loop .inv .2 .size
+
+returns-2 : tie.Need-returns-2 Inv-loop μ-loop
+returns-2 c =
+    let l = c .before in
+    let a = l .before .before .before .before .args in
+    let e = l .before .up .ensures in
+    let all = taking-all (l .loop .inv .2) (unfold repAt in (omega arith)) in
+    λ _. subst (λ deg. TookAll (repAt (now (a .words)) (a .d .line) deg) (now (a .marks)) (l .loop .marks)) e all
+
+pub take-all-spec : {M : Type 1} → statement M
+take-all-spec =
+    tie.close
+    (tie.spec
+    Inv-loop
+    μ-loop
+    up-requires
+    loop-holds
+    add-word-at
+    word-at-requires
+    up-requires-2
+    take-requires
+    same-length
+    returns
+    add-c
+    loop-less
+    loop-again
+    same-length-2
+    returns-2)

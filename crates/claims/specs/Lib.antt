@@ -1,0 +1,2 @@
+-- What the representations of a level claim of the level below.
+pub mod Claims

@@ -1,0 +1,159 @@
+// Whether the representations of a level differ in what they claim of the level below: one that refers to a single
+// representation claims a slot of it, told by its exponent of the generator on top, and any other claims what it refers to
+// whole. One pass over the level, with a mark for each representation of the level below and one for each slot.
+//
+//   SLOTS, FREE, SHARED, TAKEN      how many slots, and the marks
+//   one_reference                   whether all columns have one reference
+//   take, take_all                  what is claimed whole
+//   slot, share                     a slot
+//   claim, disjoint                 one representation, and all of a level
+ghost use mathlib.Core.Path.{_≡_};
+ghost use mathlib.Core.Bool.{true};
+ghost use Prim.Native.Nat.{suc, _+_, _*_, _/_, _≤_, _<_};
+ghost use lib.ListN.{length};
+ghost use Rattle.definitions.specs.Table.{levelAt};
+ghost use Rattle.seek.specs.Seek.{Whole, Fits};
+ghost use Rattle.seek.specs.Among.{repIn};
+ghost use Rattle.claims.specs.Claims.{oneReference, Took, TookAll, Shares, Claimed, Unshared};
+use level::Listed;
+use seek::Scope;
+
+// No level of a group of at most so many elements has more slots.
+pub const SLOTS: usize = 4096;
+
+// The marks of a representation of the level below, and of a slot: claimed by none, by slots, or whole.
+const FREE: u8 = 0;
+
+const SHARED: u8 = 1;
+
+const TAKEN: u8 = 2;
+
+// All columns of generator 0 have the reference of column 0.
+fn one_reference(words: &[u32], d: Listed) -> bool
+    requires { ⌜ (0 < d .deg) × (8 * (d .line + d .deg) ≤ length (now words)) ⌝ }
+    ensures { λ r. ⌜ r ≡ oneReference (repIn (now (words .entry)) d) ⌝ }
+{
+    let line = d.line;
+    let deg = level::up(d.deg);
+    let first = level::word_at(words, line, level::REF);
+    for c in 0..deg {
+        if level::word_at(words, line + c, level::REF) != first {
+            return false;
+        }
+    }
+    true
+}
+
+// Claims f whole, where nobody has claimed it, or where it is the one claimed last.
+fn take(marks: &mut [u8], f: usize, last: usize) -> bool
+    ensures { λ r. ⌜ (r ≡ true → Took f last (now (marks .entry)) (now (marks .exit))) ⌝ }
+{
+    if marks.len() <= f {
+        return false;
+    }
+    if f == last {
+        return true;
+    }
+    if marks[f] != FREE {
+        return false;
+    }
+    marks[f] = TAKEN;
+    true
+}
+
+// Claims whole what the columns of d refer to.
+fn take_all(words: &[u32], d: Listed, marks: &mut [u8]) -> bool
+    requires { ⌜ 8 * (d .line + d .deg) ≤ length (now words) ⌝ }
+    ensures { λ r. ⌜ (r ≡ true → TookAll (repIn (now (words .entry)) d) (now (marks .entry)) (now (marks .exit))) ⌝ }
+{
+    let line = d.line;
+    let deg = level::up(d.deg);
+    let mut last = marks.len();
+    for c in 0..deg {
+        let f = level::up(level::word_at(words, line + c, level::REF));
+        if !take(marks, f, last) {
+            return false;
+        }
+        last = f;
+    }
+    true
+}
+
+// Claims a slot of f, where nobody has claimed the slot, nor f whole.
+fn share(marks: &mut [u8], slots: &mut [u8], f: usize, slot: usize) -> bool
+    ensures { λ r. ⌜ (r ≡ true → Shares f slot (now (marks .entry)) (now (marks .exit)) (now (slots .entry)) (now (slots .exit))) ⌝ }
+{
+    if marks.len() <= f {
+        return false;
+    }
+    if slots.len() <= slot {
+        return false;
+    }
+    if SHARED < marks[f] {
+        return false;
+    }
+    if slots[slot] != FREE {
+        return false;
+    }
+    marks[f] = SHARED;
+    slots[slot] = SHARED;
+    true
+}
+
+// The slot of a representation with the reference f and the exponent e.
+fn slot(f: u32, p: u32, e: u32, part: u32) -> usize
+    requires { ⌜ 0 < part ⌝ }
+    ensures { λ r. ⌜ r ≡ f * p + e / part ⌝ }
+{
+    level::up(f) * level::up(p) + level::up(e / part)
+}
+
+// What d claims, where i is the generator on top, p its prime, and `part` the share of the modulus that a slot stands for.
+fn claim(
+    words: &[u32],
+    i: u32,
+    p: u32,
+    part: u32,
+    d: Listed,
+    marks: &mut [u8],
+    slots: &mut [u8],
+) -> bool
+    requires { ⌜ Fits (now words) i d × (0 < part) ⌝ }
+    ensures { λ r. ⌜ (r ≡ true → Claimed i p part (repIn (now (words .entry)) d) (now (marks .entry)) (now (marks .exit)) (now (slots .entry)) (now (slots .exit))) ⌝ }
+{
+    if !one_reference(words, d) {
+        return take_all(words, d, marks);
+    }
+    let f = level::word_at(words, d.line, level::REF);
+    let e = level::word_at(words, level::matrix_line(d, i), level::EXP);
+    share(marks, slots, level::up(f), slot(f, p, e, part))
+}
+
+// No two representations of the level above level i claim one slot, where p is the prime of generator i.
+pub fn disjoint(words: &[u32], s: Scope, i: u32, p: u32) -> bool
+    requires { ⌜ Whole s (now words) × (i < s .gens) ⌝ }
+    ensures { λ r. ⌜ (r ≡ true → Unshared i (levelAt (s .gens) (now (words .entry)) (suc i))) ⌝ }
+{
+    if p == 0 {
+        return false;
+    }
+    let part = s.m / p;
+    if part == 0 {
+        return false;
+    }
+    let reps = seek::count_of(words, s, i + 1);
+    let mut d = seek::found(words, s, i + 1, 0);
+    let mut marks = [FREE; SLOTS];
+    let mut slots = [FREE; SLOTS];
+    let mut r: usize = 0;
+    loop {
+        if !claim(words, i, p, part, d, &mut marks, &mut slots) {
+            return false;
+        }
+        r += 1;
+        if r == reps {
+            return true;
+        }
+        d = seek::following(words, s, d);
+    }
+}
