@@ -1,2 +1,3 @@
 -- Laws of the tests of lines.
 pub mod Lines
+pub mod Rows

@@ -2,6 +2,7 @@
 --
 --   Missed, missed-none, missed-more, missed-all, missed-found     a loop that looks for a number
 --   entry-high, entry-last     an entry by its row, and then by its exponent
+--   entries-below              entries in range have rows below the degree
 --   matrix-apart, matrix-rows  a matrix by its entries, and then by its rows
 --   ref-read                   what a column refers to
 --   target-unlisted, target-refs      where an intertwiner leads, by its first column and then by all
@@ -15,19 +16,20 @@ use native.Mathlib.Omega.{arith}
 use lib.Dec.{eqb, ltb}
 use lib.ListN.{length}
 use borrow.Author.Count.{below-more}
-use borrow.Author.Tests.{eq-eqb, lt-ltb, le-ltb}
+use borrow.Author.Tests.{eq-eqb, ltb-true, lt-ltb, le-ltb}
 use Rattle.definitions.specs.declared.Entry.{Entry}
 use Rattle.definitions.specs.Lists.{allBelow, anyBelow}
 use Rattle.definitions.specs.Monomial.{Matrix, valid}
 use Rattle.definitions.specs.Table.{REF, wordAt}
-use Rattle.numbers.proofs.Lists.{allBelow-below}
+use Rattle.numbers.proofs.Bools.{and-left}
+use Rattle.numbers.proofs.Lists.{allBelow-below, allBelow-elim}
 use Rattle.numbers.proofs.Searches.{anyBelow-below, anyBelow-intro, anyBelow-fails}
 use Rattle.numbers.proofs.Blocks.{length-table}
 use Rattle.numbers.proofs.Tested.{Tested}
 use Rattle.level.specs.declared.Listed.{Listed}
 use Rattle.level.specs.Stored.{entryIn, matrixIn, lineIn}
 use Rattle.level.proofs.Laws.{col-matrixIn}
-use Rattle.check_lines.specs.Lines.{refIn, entryOk, hasRow, refsAre, targetOk}
+use Rattle.check_lines.specs.Lines.{refIn, entryOk, RowsBelow, hasRow, refsAre, targetOk}
 
 -- ---- A search
 
@@ -70,6 +72,9 @@ module _ (m : ℕ) (T : List ℕ) (at d : ℕ) where
       (ap₂ (_&&_) (eq-eqb (length M) d (length-table (λ c. entryIn T (at + c)) d))
       (allBelow-below d _ _ (λ c l. ap (λ (x : Entry). ltb (x .row) d && ltb (x .exp) m) (col-matrixIn T at d c l))))
       (allBelow-below d _ _ (λ r _. anyBelow-below d _ _ (λ c l. ap (λ (x : Entry). eqb (x .row) r) (col-matrixIn T at d c l)))))
+
+  pub entries-below : allBelow d (λ c. entryOk m d (entryIn T (at + c))) ≡ true → RowsBelow T at d
+  entries-below h c l = ltb-true _ _ (and-left _ (ltb (entryIn T (at + c) .exp) m) (allBelow-elim d _ h c l))
 
   pub matrix-apart : allBelow d (λ c. entryOk m d (entryIn T (at + c))) ≡ false → false ≡ valid m d (matrixIn T at d)
   matrix-apart h = sym (ap (λ t. t && allBelow d (hasRow T at d)) h) ∙ matrix-is

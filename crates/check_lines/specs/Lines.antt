@@ -2,13 +2,15 @@
 --
 --   refIn T D g c          what column c of generator g refers to
 --   entryOk m d x          a row below d, and an exponent below m
+--   maxDegree              up to which degree rows are marked
+--   RowsBelow T at d       the d lines from line `at` on have rows below d
 --   hasRow T at d r        one of the d lines from line `at` on has row r
 --   refsAre T at k x       the k lines from line `at` on refer to x
 --   refsAs T D g           generator g refers as the first one does, column by column
 --   targetOk T D many j    all columns of generator j refer to one number below many
 use mathlib.Core.Bool.{Bool, _&&_}
 use mathlib.Core.List.{List}
-use Prim.Native.Nat.{ℕ, _+_}
+use Prim.Native.Nat.{ℕ, _+_, _<_}
 use lib.Dec.{eqb, ltb}
 use Rattle.definitions.specs.declared.Entry.{Entry}
 use Rattle.definitions.specs.Lists.{allBelow, anyBelow}
@@ -21,6 +23,12 @@ refIn T D g c = wordAt T (lineIn D g + c) REF
 
 abbrev pub entryOk : ℕ → ℕ → Entry → Bool
 entryOk m d x = ltb (x .row) d && ltb (x .exp) m
+
+abbrev pub maxDegree : ℕ
+maxDegree = 64
+
+abbrev pub RowsBelow : List ℕ → (at d : ℕ) → Type 0
+RowsBelow T at d = (c : ℕ) → c < d → entryIn T (at + c) .row < d
 
 abbrev pub hasRow : List ℕ → ℕ → ℕ → ℕ → Bool
 hasRow T at d r = anyBelow d (λ c. eqb (entryIn T (at + c) .row) r)

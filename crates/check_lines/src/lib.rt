@@ -1,7 +1,10 @@
 // What refusal 21 asks of the lines of one representation, without a look at another: its matrices are matrices, the
 // generators of its level have the same references, and each intertwiner has one reference, to a listed representation.
 //
-//   entry_ok, entries_ok, has_row, rows_ok, matrix_ok, matrices_ok     rows and exponents
+//   DEGREES                  up to which degree rows are marked
+//   entry_ok, entries_ok     rows and exponents in range
+//   has_row, rows_found, rows_marked, rows_ok     every row is there
+//   matrix_ok, matrices_ok   matrices
 //   refs_are                 lines that all refer to one representation
 //   refs_as, refs_equal      generators that refer as the first one does
 //   target_ok, targets_ok    where the intertwiners lead
@@ -13,8 +16,11 @@ ghost use lib.ListN.{length};
 ghost use Rattle.definitions.specs.Lists.{allBelow};
 ghost use Rattle.definitions.specs.Monomial.{valid};
 ghost use Rattle.level.specs.Stored.{entryIn, matrixIn, lineIn, generatorIn};
-ghost use Rattle.check_lines.specs.Lines.{entryOk, hasRow, refsAre, refsAs, targetOk};
+ghost use Rattle.check_lines.specs.Lines.{maxDegree, entryOk, RowsBelow, hasRow, refsAre, refsAs, targetOk};
 use level::Listed;
+
+// No degree is above it whose square is at most the largest order.
+const DEGREES: usize = 64;
 
 // Row and exponent of a line are below the degree d and the modulus m.
 fn entry_ok(words: &[u32], at: usize, d: u32, m: u32) -> bool
@@ -58,8 +64,8 @@ fn has_row(words: &[u32], at: usize, d: u32, r: u32) -> bool
     false
 }
 
-// Every row below d is there.
-fn rows_ok(words: &[u32], at: usize, d: u32) -> bool
+// Every row below d is there, one after the other.
+fn rows_found(words: &[u32], at: usize, d: u32) -> bool
     requires { ⌜ 8 * (at + d) ≤ length (now words) ⌝ }
     ensures { λ b. ⌜ b ≡ allBelow d (hasRow (now (words .entry)) at d) ⌝ }
 {
@@ -71,6 +77,37 @@ fn rows_ok(words: &[u32], at: usize, d: u32) -> bool
         r += 1;
     }
     true
+}
+
+// Every row below d is there: no two lines have one row, by marks.
+fn rows_marked(words: &[u32], at: usize, d: u32) -> bool
+    requires { ⌜ (8 * (at + d) ≤ length (now words)) × RowsBelow (now words) at d × (d ≤ maxDegree) ⌝ }
+    ensures { λ b. ⌜ b ≡ allBelow d (hasRow (now (words .entry)) at d) ⌝ }
+{
+    let deg = level::up(d);
+    let mut seen = [0u8; DEGREES];
+    for c in 0..deg {
+        let r = level::up(level::word_at(words, at + c, level::ROW));
+        if seen[r] != 0 {
+            return false;
+        }
+        seen[r] = 1;
+    }
+    true
+}
+
+// Every row below d is there, where all rows are below d.
+fn rows_ok(words: &[u32], at: usize, d: u32) -> bool
+    requires { ⌜ (8 * (at + d) ≤ length (now words)) × RowsBelow (now words) at d ⌝ }
+    ensures { λ b. ⌜ b ≡ allBelow d (hasRow (now (words .entry)) at d) ⌝ }
+{
+    if d == 1 {
+        return true;
+    }
+    if level::up(d) <= DEGREES {
+        return rows_marked(words, at, d);
+    }
+    rows_found(words, at, d)
 }
 
 // The d lines from one on are a matrix of degree d with exponents below m.

@@ -1,58 +1,27 @@
--- `rows_ok` meets its contract: row after row.
-use mathlib.Core.Path.{sym, _∙_}
-use Prim.Native.Nat.{_-_}
-use native.Mathlib.Omega.{arith}
-use borrow.Author.Tests.{not-true, not-false}
-use Rattle.numbers.proofs.Tested.{Tested, tested-none, tested-more, tested-all, tested-fails}
-use Rattle.check_lines.specs.Lines.{hasRow}
+-- `rows_ok` looks at no row where the degree is 1, and marks rows where it is small.
+use borrow.Author.Needs.{needs}
+use denote.Ref.{now}
+use Rattle.check_lines.proofs.Rows.{first-row}
 use Rattle.check_lines.proofs.rows_ok.Statement.{statement}
 use Rattle.check_lines.proofs.rows_ok.Tie as tie
 
-abbrev Inv-loop : tie.InvT-loop
-Inv-loop words at d r₀ r = Tested (hasRow words at d) r
+returns : tie.Need-returns
+returns c = let z = c .before .before in first-row (now (z .args .words)) (z .args .at) (z .args .d) (c .if1 .taken) (z .pre .1)
 
-abbrev μ-loop : tie.MeasureT-loop
-μ-loop words at d r₀ r = d - r
+up-requires : tie.Need-up-requires
+up-requires c κs = search needs
 
-loop-holds : tie.Need-loop-holds Inv-loop μ-loop
-loop-holds c = tested-none
+rows-marked-requires : tie.Need-rows-marked-requires
+rows-marked-requires c κs = search needs
 
-has-row-requires : tie.Need-has-row-requires Inv-loop μ-loop
-has-row-requires c κs =
-    let a = c .before .before .before in
-    a .pre
+returns-2 : tie.Need-returns-2
+returns-2 c = search needs
 
-returns : tie.Need-returns Inv-loop μ-loop
-returns c =
-    let k = c .before .before .before in
-    let has-row = c .before .has-row in
-    tested-fails (k .loop .inv) (omega arith) (sym (has-row .ensures) ∙ not-true (has-row .result) (c .if1 .taken))
+rows-found-requires : tie.Need-rows-found-requires
+rows-found-requires c κs = search needs
 
-add-r : tie.Need-add-r Inv-loop μ-loop
-add-r c = omega arith
-
-loop-less : tie.Need-loop-less Inv-loop μ-loop
-loop-less c = omega arith
-
-loop-again : tie.Need-loop-again Inv-loop μ-loop
-loop-again c =
-    let k = c .before .before .before in
-    let has-row = c .before .has-row in
-    tested-more (k .loop .inv) (sym (has-row .ensures) ∙ not-false (has-row .result) (c .if1 .left))
-
-returns-2 : tie.Need-returns-2 Inv-loop μ-loop
-returns-2 c = tested-all (c .before .loop .inv) (omega arith)
+returns-3 : tie.Need-returns-3
+returns-3 c = search needs
 
 pub rows-ok-spec : {M : Type 1} → statement M
-rows-ok-spec =
-    tie.close
-    (tie.spec
-    Inv-loop
-    μ-loop
-    loop-holds
-    has-row-requires
-    returns
-    add-r
-    loop-less
-    loop-again
-    returns-2)
+rows-ok-spec = tie.close (tie.spec returns up-requires rows-marked-requires returns-2 rows-found-requires returns-3)

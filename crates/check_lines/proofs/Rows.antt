@@ -1,0 +1,111 @@
+-- The rows of a matrix by marks: rows below the degree are all there exactly if no two lines have one row.
+--
+--   SeenRows T at M c     the marks M are those of the rows of the first c lines, and these differ
+--   seen-none, seen-more     at the start, and one line more
+--   seen-all, seen-twice     all rows are there, or one is not
+--   first-row             the one row of degree 1
+use mathlib.Core.Path.{_≡_, refl, sym, _∙_, ap, subst}
+use mathlib.Core.Bool.{Bool, true, false}
+use mathlib.Core.List.{List}
+use Prim.Native.Nat.{ℕ, zero, suc, _+_, _≤_, _<_}
+use native.Mathlib.Decide.{decLt, ℕ-discrete}
+use native.Mathlib.Omega.{arith}
+use lib.Dec.{eqb}
+use lib.ListN.{length, getD, set, replicate, length-set, length-replicate}
+use lib.Seq.{getD-set-same, getD-set-other}
+use borrow.Author.Count.{below-more}
+use borrow.Author.Tests.{eqb-true, eq-eqb}
+use Rattle.definitions.specs.Lists.{allBelow}
+use Rattle.numbers.proofs.Bools.{refuted}
+use Rattle.numbers.proofs.Lists.{allBelow-intro, allBelow-elim}
+use Rattle.numbers.proofs.Searches.{anyBelow-intro, anyBelow-elim}
+use Rattle.numbers.proofs.Pigeonhole.{Injects, injects-onto, onto-injects}
+use Rattle.level.specs.Stored.{entryIn}
+use Rattle.check_lines.specs.Lines.{maxDegree, RowsBelow, hasRow}
+
+blank : (n r : ℕ) → getD {A = ℕ} (replicate n 0) r 0 ≡ 0
+blank zero r = refl
+blank (suc n) zero = refl
+blank (suc n) (suc r) = blank n r
+
+module _ (T : List ℕ) (at : ℕ) where
+  abbrev row : ℕ → ℕ
+  row c = entryIn T (at + c) .row
+
+  pub record SeenRows (M : List ℕ) (c : ℕ) : Type 0 where
+    pub size : length M ≡ maxDegree
+    pub seen : (k : ℕ) → k < c → ¬ (getD M (entryIn T (at + k) .row) 0 ≡ 0)
+    pub only : (r : ℕ) → ¬ (getD M r 0 ≡ 0) → (k : ℕ) × (k < c) × (entryIn T (at + k) .row ≡ r)
+    pub differ : (j k : ℕ) → j < c → k < c → entryIn T (at + j) .row ≡ entryIn T (at + k) .row → j ≡ k
+
+  pub seen-none : SeenRows (replicate maxDegree 0) 0
+  seen-none = record {
+    size = length-replicate {A = ℕ} maxDegree 0;
+    seen = λ k l. absurd (omega arith);
+    only = λ r n. absurd (n (blank maxDegree r));
+    differ = λ j k l. absurd (omega arith);
+  }
+
+  module _ {M : List ℕ} {c : ℕ} (S : SeenRows M c) where
+    module _ (r : ℕ) (is : r ≡ entryIn T (at + c) .row) (inside : r < maxDegree) (free : getD M r 0 ≡ 0) where
+      room : r < length M
+      room = subst (λ n. r < n) (sym (S .size)) inside
+
+      marked : (k : ℕ) → ¬ (getD M k 0 ≡ 0) → ¬ (getD (set M r 1) k 0 ≡ 0)
+      marked k n z = go (ℕ-discrete k r)
+        where
+          go : Dec (k ≡ r) → ⊥
+          go (yes e) = n (subst (λ k. getD M k 0 ≡ 0) (sym e) free)
+          go (no e) = n (sym (getD-set-other M r k 1 0 e) ∙ z)
+
+      last : ¬ (getD (set M r 1) (row c) 0 ≡ 0)
+      last z = omega (arith, getD-set-same M r 1 0 room, subst (λ k. getD (set M r 1) k 0 ≡ 0) (sym is) z)
+
+      others : (k : ℕ) → k < c → ¬ (row k ≡ row c)
+      others k l e = S .seen k l (subst (λ x. getD M x 0 ≡ 0) (is ∙ sym e) free)
+
+      which : (x : ℕ) → ¬ (getD (set M r 1) x 0 ≡ 0) → (k : ℕ) × (k < c + 1) × (row k ≡ x)
+      which x n = go (ℕ-discrete x r)
+        where
+          go : Dec (x ≡ r) → (k : ℕ) × (k < c + 1) × (row k ≡ x)
+          go (yes e) = (c, omega arith, sym is ∙ sym e)
+          go (no e) = let (k, l, q) = S .only x (λ z. n (getD-set-other M r x 1 0 e ∙ z)) in (k, omega arith, q)
+
+      apart : (j k : ℕ) → j < c + 1 → k < c + 1 → row j ≡ row k → j ≡ k
+      apart j k a b e = go (decLt j c) (decLt k c)
+        where
+          go : Dec (j < c) → Dec (k < c) → j ≡ k
+          go (yes p) (yes q) = S .differ j k p q e
+          go (yes p) (no q) = let z : k ≡ c = omega arith in absurd (others j p (e ∙ ap row z))
+          go (no p) (yes q) = let z : j ≡ c = omega arith in absurd (others k q (sym e ∙ ap row z))
+          go (no p) (no q) = omega arith
+
+      pub seen-more : SeenRows (set M r 1) (c + 1)
+      seen-more = record {
+        size = length-set M r 1 ∙ S .size;
+        seen = below-more (λ k. ¬ (getD (set M r 1) (row k) 0 ≡ 0)) c (λ k l. marked (row k) (S .seen k l)) last;
+        only = which;
+        differ = apart;
+      }
+
+    module _ (d : ℕ) (below : RowsBelow T at d) where
+      pub seen-all : d ≤ c → true ≡ allBelow d (hasRow T at d)
+      seen-all h = sym (allBelow-intro d _ (λ r l.
+          let injects : Injects d d row = record { below = below; injective = λ j k a b. S .differ j k (omega arith) (omega arith) } in
+          let (k, a, e) = injects-onto d row injects r l in
+          anyBelow-intro d (λ c. eqb (row c) r) k a (eq-eqb _ _ e)))
+
+      pub seen-twice : c < d → (r : ℕ) → r ≡ entryIn T (at + c) .row → ¬ (getD M r 0 ≡ 0) → false ≡ allBelow d (hasRow T at d)
+      seen-twice l r is n = refuted _ (λ h.
+          let (k, a, e) = S .only r n in
+          let z : k ≡ c = onto-injects d row (hit h) k c (omega arith) l (e ∙ is) in
+          omega (arith, a, z))
+        where
+          hit : allBelow d (hasRow T at d) ≡ true → (b : ℕ) → b < d → (k : ℕ) × (k < d) × (row k ≡ b)
+          hit h b l = let (k, a, e) = anyBelow-elim d (λ c. eqb (row c) b) (allBelow-elim d _ h b l) in (k, a, eqb-true _ b e)
+
+  pub first-row : (d : ℕ) → d ≡ 1 → RowsBelow T at d → true ≡ allBelow d (hasRow T at d)
+  first-row d e below = sym (allBelow-intro d _ (λ r l.
+      let z : 0 < d = omega arith in
+      let same : row 0 ≡ r = omega (arith, below 0 z) in
+      anyBelow-intro d (λ c. eqb (row c) r) 0 z (eq-eqb (row 0) r same)))
