@@ -32,7 +32,7 @@ use Rattle.compare.specs.declared.Stage.{Stage}
 use Rattle.compare.specs.declared.Block.{Block}
 use Rattle.compare.specs.Shifted.{shift, Shifted}
 use Rattle.compare.specs.Staged.{Staged}
-use Rattle.compare.specs.Blocks.{block, Inside, Over, Lower, rowTo, Carried, Upper, Uppers, refAt, BlockFits, Wide, RepFits}
+use Rattle.compare.specs.Blocks.{block, Inside, Over, Lower, rowTo, Carried, Upper, Uppers, refAt, BlockFits, Wide, Sound, RepFits}
 
 -- ---- Lines that are there
 
@@ -145,8 +145,8 @@ module _ {s : Scope} {T : List ℕ} {g : Stage} {D : Listed} {w : ℕ} where
       each = below-more (λ k. BlockFits s T g D (k * w) w) (h .many) (h .each) (subst (λ o. BlockFits s T g D o w) (h .at) B);
     }
 
-    pub blocking-all : Wide s T g D w → D .deg ≤ o → RepFits s T g D
-    blocking-all W l = record { w = w; wide = W; blocks = λ k a. h .each k (few k a (decLt k (h .many))) }
+    pub blocking-all : Wide s T g D w → Sound s T D w → D .deg ≤ o → RepFits s T g D
+    blocking-all W so l = record { w = w; wide = W; sound = so; blocks = λ k a. h .each k (few k a (decLt k (h .many))) }
       where
         few : (k : ℕ) → k * w < D .deg → Dec (k < h .many) → k < h .many
         few k a (yes b) = b

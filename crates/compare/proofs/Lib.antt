@@ -2,3 +2,4 @@
 pub mod Shifted
 pub mod Staged
 pub mod Blocks
+pub mod Stored

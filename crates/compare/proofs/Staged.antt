@@ -1,6 +1,7 @@
 -- The representations of the two levels.
 --
 --   found-inside               the lines of a representation that is found are there
+--   lined-found, lined-place   a representation of a level whose first lines are listed
 --   low-place, high-place      where its first line stands
 --   low-at, high-at            it is found there
 use mathlib.Core.Path.{_≡_, sym, ap, subst}
@@ -26,11 +27,11 @@ module _ {s : Scope} {T : List ℕ} (W : Whole s T) where
       record { room = F .inside; positive = F .positive; narrow = omega (arith, F .inside, W .lines-are, m) }
 
   module _ {i : ℕ} {firsts : List ℕ} {at many : ℕ} (p : 0 < i) (l : i ≤ s .gens) (L : Lined (s .gens) T i firsts at many) (r : ℕ) (h : r < many) where
-    lined-found : Found (s .gens) T i r (listedIn T (getD firsts (at + r) 0))
+    pub lined-found : Found (s .gens) T i r (listedIn T (getD firsts (at + r) 0))
     lined-found =
         subst (λ x. Found (s .gens) T i r (listedIn T x)) (sym (L .line r h)) (found-first s T W i r p l (omega (arith, L .counts)))
 
-    lined-place : (at + r < length firsts) × (8 * getD firsts (at + r) 0 + 8 ≤ length T)
+    pub lined-place : (at + r < length firsts) × (8 * getD firsts (at + r) 0 + 8 ≤ length T)
     lined-place = (omega (arith, L .room), found-there s T W lined-found)
 
 module _ {s : Scope} {T firsts : List ℕ} {g : Stage} (S : Staged s T firsts g) (r : ℕ) where

@@ -10,15 +10,18 @@
 --   Uppers s T g D B             all of them do
 --   BlockFits s T g D o w        every generator does so, on the block of width w from column o on
 --   Wide s T g D w               D is one block of width w, or p blocks the first of which generator i moves
+--   Sound s T D w                D is one block of width w, or its matrices are valid
 --   RepFits s T g D              every block of D
 use mathlib.Core.Path.{_≡_}
+use mathlib.Core.Bool.{true}
 use mathlib.Core.Logic.{_⊎_}
 use mathlib.Core.List.{List}
 use Prim.Native.Nat.{ℕ, suc, _+_, _*_, _/_, _≤_, _<_}
-use Rattle.definitions.specs.Monomial.{less}
+use Rattle.definitions.specs.Lists.{allBelow}
+use Rattle.definitions.specs.Monomial.{less, valid}
 use Rattle.definitions.specs.Table.{REF, wordAt, lineCount}
 use Rattle.level.specs.declared.Listed.{Listed}
-use Rattle.level.specs.Stored.{entryIn, lineIn, targetIn, Stored}
+use Rattle.level.specs.Stored.{entryIn, lineIn, generatorIn, targetIn, Stored}
 use Rattle.seek.specs.declared.Scope.{Scope}
 use Rattle.seek.specs.Seek.{Found}
 use Rattle.compare.specs.declared.Stage.{Stage}
@@ -42,6 +45,10 @@ pub record Over (s : Scope) (T : List ℕ) (D : Listed) (B : Block) : Type 0 whe
 
 pub record Lower (s : Scope) (T : List ℕ) (D : Listed) (B : Block) (top : ℕ) : Type 0 where
   pub each : (h : ℕ) → h < top → Shifted (s .m) T (lineIn D h + B .start) (lineIn (B .part) h) (B .part .deg) (shift (B .refn) (B .start) 0)
+
+-- one block of width w, or valid matrices
+pub record Sound (s : Scope) (T : List ℕ) (D : Listed) (w : ℕ) : Type 0 where
+  pub valid : ¬ (D .deg ≡ w) → allBelow (s .gens) (λ g. valid (s .m) (D .deg) (generatorIn T D g)) ≡ true
 
 abbrev pub rowTo : List ℕ → Listed → Block → ℕ → ℕ
 rowTo T D B g = entryIn T (lineIn D g + B .start) .row / B .part .deg * B .part .deg
@@ -85,4 +92,5 @@ module _ (s : Scope) (T : List ℕ) (g : Stage) (D : Listed) where
   pub record RepFits : Type 0 where
     pub w : ℕ
     pub wide : Wide w
+    pub sound : Sound s T D w
     pub blocks : (k : ℕ) → k * w < D .deg → BlockFits (k * w) w

@@ -8,7 +8,8 @@
 //   lower_fits                       the generators below the top, on a block
 //   block_row, generator_fits        a generator that takes a block to a block
 //   led_to, upper_fits               the generators above the top, on a block
-//   block_fits, width, rep_fits      a block, and all blocks of a representation
+//   block_fits                       all generators, on a block
+//   width, sound, rep_fits           all blocks of a representation
 ghost use mathlib.Core.Path.{_≡_};
 ghost use mathlib.Core.Bool.{true};
 ghost use Prim.Native.Nat.{ℕ, suc, _+_, _*_, _/_, _≤_, _<_};
@@ -16,7 +17,7 @@ ghost use lib.ListN.{length, getD};
 ghost use Rattle.level.specs.Stored.{entryIn, Holds, listedIn};
 ghost use Rattle.compare.specs.Shifted.{LineShifted, Shifted};
 ghost use Rattle.compare.specs.Staged.{Staged};
-ghost use Rattle.compare.specs.Blocks.{Inside, Over, Lower, Carried, Upper, Uppers, BlockFits, Wide, RepFits};
+ghost use Rattle.compare.specs.Blocks.{Inside, Over, Lower, Carried, Upper, Uppers, BlockFits, Wide, Sound, RepFits};
 use level::Listed;
 use seek::Scope;
 
@@ -242,6 +243,17 @@ fn width(words: &[u32], firsts: &[u32], s: Scope, g: Stage, d: Listed) -> u32
     f.deg
 }
 
+// The matrices of d are matrices, where it is not one block of width w: one block is compared with matrices.
+fn sound(words: &[u32], s: Scope, d: Listed, w: u32) -> bool
+    requires { ⌜ Inside s (now words) d ⌝ }
+    ensures { λ r. ⌜ (r ≡ true → Sound s (now (words .entry)) d w) ⌝ }
+{
+    if d.deg == w {
+        return true;
+    }
+    check_lines::matrices_ok(words, d, s.gens, s.m)
+}
+
 // d, of the level, fits on the level below: block by block.
 pub fn rep_fits(words: &[u32], firsts: &[u32], s: Scope, g: Stage, d: Listed) -> bool
     requires { ⌜ Staged s (now words) (now firsts) g × Inside s (now words) d ⌝ }
@@ -249,6 +261,9 @@ pub fn rep_fits(words: &[u32], firsts: &[u32], s: Scope, g: Stage, d: Listed) ->
 {
     let w = width(words, firsts, s, g, d);
     if w == 0 {
+        return false;
+    }
+    if !sound(words, s, d, w) {
         return false;
     }
     let deg = d.deg;

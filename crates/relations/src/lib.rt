@@ -38,7 +38,7 @@ fn same_entry(x: Entry, y: Entry) -> bool
 }
 
 // Generator j to the power p, its prime, moves column c as its power word u does.
-fn power_at(words: &[u32], s: Scope, d: Listed, j: u32, p: u32, u: &Row, c: u32) -> bool
+pub fn power_at(words: &[u32], s: Scope, d: Listed, j: u32, p: u32, u: &Row, c: u32) -> bool
     requires { ⌜ Kept s (now words) d × (j < s .gens) × (c < d .deg) ⌝ }
     ensures { λ r. ⌜ Decides (PowerOf j p (now (u .entry))) (powerAtIn s (now (words .entry)) d j c) r ⌝ }
 {
@@ -72,7 +72,7 @@ fn commutator_at(words: &[u32], s: Scope, d: Listed, k: u32, j: u32, w: &Row, c:
 }
 
 // The intertwiner of generator j, which leads from d to e of the same degree, and generator k < j, at column c.
-fn intertwines_at(
+pub fn intertwines_at(
     words: &[u32],
     s: Scope,
     d: Listed,

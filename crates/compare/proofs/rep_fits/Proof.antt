@@ -22,46 +22,56 @@ width-requires c κs =
 returns : tie.Need-returns Inv-loop μ-loop
 returns c = never
 
+sound-requires : tie.Need-sound-requires Inv-loop μ-loop
+sound-requires c κs =
+    let z = c .before .before .before .before in
+    z .pre .1
+
+returns-2 : tie.Need-returns-2 Inv-loop μ-loop
+returns-2 c = never
+
 loop-holds : tie.Need-loop-holds Inv-loop μ-loop
 loop-holds c = blocking-none
 
 block-fits-requires : tie.Need-block-fits-requires Inv-loop μ-loop
 block-fits-requires c κs =
     let at-loop = c .before in
-    let at-if1 = at-loop .before in
+    let at-if1 = at-loop .before .before .before in
     let at-width = at-if1 .before in
     let z = at-width .before .before .before in
     let W = at-width .width .ensures (at-if1 .if1 .left) in
     (z .pre .0, z .pre .1, omega (arith, at-if1 .if1 .left), blocking-room (at-loop .loop .inv) W (omega arith))
 
-returns-2 : tie.Need-returns-2 Inv-loop μ-loop
-returns-2 c = never
+returns-3 : tie.Need-returns-3 Inv-loop μ-loop
+returns-3 c = never
 
 add-o : tie.Need-add-o Inv-loop μ-loop
 add-o c =
     let at-loop = c .before .before .before in
-    let at-if1 = at-loop .before in
+    let at-if1 = at-loop .before .before .before in
     let at-width = at-if1 .before in
     let z = at-width .before .before .before in
     omega (arith, blocking-room (at-loop .loop .inv) (at-width .width .ensures (at-if1 .if1 .left)) (omega arith), z .pre .1 .narrow)
 
 loop-less : tie.Need-loop-less Inv-loop μ-loop
 loop-less c =
-    let at-if1 = c .before .before .before .before in
+    let at-if1 = c .before .before .before .before .before .before in
     omega (arith, at-if1 .if1 .left)
 
 loop-again : tie.Need-loop-again Inv-loop μ-loop
 loop-again c =
     let at-block-fits = c .before in
     let at-loop = at-block-fits .before .before in
-    blocking-more (at-loop .loop .inv) (at-block-fits .block-fits .ensures (not-false (at-block-fits .block-fits .result) (c .if2 .left)))
+    blocking-more (at-loop .loop .inv) (at-block-fits .block-fits .ensures (not-false (at-block-fits .block-fits .result) (c .if3 .left)))
 
-returns-3 : tie.Need-returns-3 Inv-loop μ-loop
-returns-3 c = λ e.
+returns-4 : tie.Need-returns-4 Inv-loop μ-loop
+returns-4 c = λ e.
     let at-loop = c .before in
-    let at-if1 = at-loop .before in
+    let at-if2 = at-loop .before in
+    let at-sound = at-if2 .before in
+    let at-if1 = at-sound .before in
     let at-width = at-if1 .before in
-    blocking-all (at-loop .loop .inv) (at-width .width .ensures (at-if1 .if1 .left)) (omega arith)
+    blocking-all (at-loop .loop .inv) (at-width .width .ensures (at-if1 .if1 .left)) (at-sound .sound .ensures (not-false (at-sound .sound .result) (at-if2 .if2 .left))) (omega arith)
 
 pub rep-fits-spec : {M : Type 1} → statement M
 rep-fits-spec =
@@ -71,10 +81,12 @@ rep-fits-spec =
     μ-loop
     width-requires
     returns
+    sound-requires
+    returns-2
     loop-holds
     block-fits-requires
-    returns-2
+    returns-3
     add-o
     loop-less
     loop-again
-    returns-3)
+    returns-4)

@@ -1,0 +1,138 @@
+-- `level_relates` goes through the representations of the level.
+use borrow.Author.Needs.{needs}
+use borrow.Author.Count.{below-more}
+use borrow.Author.Tests.{not-false}
+use mathlib.Core.Path.{_≡_, refl, _∙_, ap}
+use mathlib.Core.Bool.{false≢true}
+use Prim.Native.Nat.{ℕ, suc, _+_, _-_, _<_}
+use native.Mathlib.Omega.{arith}
+use lib.ListN.{getD}
+use denote.Ref.{now}
+use Rattle.definitions.specs.Table.{DEG, wordAt}
+use Rattle.level.specs.declared.Listed.{Listed}
+use Rattle.compare.proofs.Staged.{found-inside, low-at, high-place, low-place}
+use Rattle.compare.proofs.Blocks.{inside-matrix}
+use Rattle.check_fit.specs.Relates.{RepRelates}
+use Rattle.check_fit.specs.Fit.{repAtLevel, widthBelow}
+use Rattle.check_fit.proofs.Level.{listed-inside, listed-refers, listed-reached, listed-relates}
+use Rattle.check_fit.proofs.level_relates.Statement.{statement}
+use Rattle.check_fit.proofs.level_relates.Tie as tie
+
+abbrev Inv-loop : tie.InvT-loop
+Inv-loop words firsts rows s g above r₀ r = (q : ℕ) → q < r
+    → RepRelates s words firsts g (repAtLevel s words (suc (g .top)) q) rows (widthBelow words firsts g (repAtLevel s words (suc (g .top)) q))
+
+abbrev μ-loop : tie.MeasureT-loop
+μ-loop words firsts rows s g above r₀ r = above - r
+
+loop-holds : tie.Need-loop-holds Inv-loop μ-loop
+loop-holds c = λ q l. absurd (omega arith)
+
+add-rep-at : tie.Need-add-rep-at Inv-loop μ-loop
+add-rep-at c =
+    let at-loop = c .before .before in
+    let z = at-loop .before .before .before in
+    omega (arith, high-place (z .pre .0) (at-loop .loop .r) (omega arith) .0, z .good)
+
+rep-at-requires : tie.Need-rep-at-requires Inv-loop μ-loop
+rep-at-requires c κs =
+    let at-loop = c .before .before in
+    let z = at-loop .before .before .before in
+    high-place (z .pre .0) (at-loop .loop .r) (omega arith)
+
+word-at-requires : tie.Need-word-at-requires Inv-loop μ-loop
+word-at-requires c κs =
+    let at-loop = c .before .before .before in
+    let z = at-loop .before .before .before in
+    let S = z .pre .0 in
+    let I = listed-inside S (z .pre .1) (at-loop .loop .r) (omega arith) (c .rep-at .ensures) in
+    (omega (arith, inside-matrix I 0 (S .whole .some), I .positive), omega arith)
+
+up-requires : tie.Need-up-requires Inv-loop μ-loop
+up-requires c κs = search needs
+
+add-rep-at-2 : tie.Need-add-rep-at-2 Inv-loop μ-loop
+add-rep-at-2 c =
+    let at-up = c .before in
+    let at-word-at = at-up .before in
+    let at-rep-at = at-word-at .before in
+    let at-loop = at-rep-at .before .before .before in
+    let z = at-loop .before .before .before in
+    let S = z .pre .0 in
+    let b = listed-refers S (z .pre .1) (at-loop .loop .r) (omega arith) (at-rep-at .rep-at .ensures) in
+    omega (arith, low-place S (at-up .up .result) (omega (arith, b, at-up .up .ensures, at-word-at .word-at .ensures)) .0, z .good)
+
+rep-at-requires-2 : tie.Need-rep-at-requires-2 Inv-loop μ-loop
+rep-at-requires-2 c κs =
+    let at-up = c .before in
+    let at-word-at = at-up .before in
+    let at-rep-at = at-word-at .before in
+    let at-loop = at-rep-at .before .before .before in
+    let z = at-loop .before .before .before in
+    let S = z .pre .0 in
+    let b = listed-refers S (z .pre .1) (at-loop .loop .r) (omega arith) (at-rep-at .rep-at .ensures) in
+    low-place S (at-up .up .result) (omega (arith, b, at-up .up .ensures, at-word-at .word-at .ensures))
+
+rep-relates-requires : tie.Need-rep-relates-requires Inv-loop μ-loop
+rep-relates-requires c κs =
+    let at-up = c .before .before in
+    let at-word-at = at-up .before in
+    let at-rep-at = at-word-at .before in
+    let at-loop = at-rep-at .before .before .before in
+    let z = at-loop .before .before .before in
+    let S = z .pre .0 in
+    let b = listed-refers S (z .pre .1) (at-loop .loop .r) (omega arith) (at-rep-at .rep-at .ensures) in
+    let F = low-at S (at-up .up .result) (omega (arith, b, at-up .up .ensures, at-word-at .word-at .ensures)) (c .rep-at2 .ensures) refl in
+    (listed-reached S (z .pre .1) (at-loop .loop .r) (omega arith) (at-rep-at .rep-at .ensures), F .positive, found-inside (S .whole) (S .short) F .narrow)
+
+returns : tie.Need-returns Inv-loop μ-loop
+returns c = λ e. absurd (false≢true e)
+
+add-r : tie.Need-add-r Inv-loop μ-loop
+add-r c = search needs
+
+loop-less : tie.Need-loop-less Inv-loop μ-loop
+loop-less c = omega arith
+
+loop-again : tie.Need-loop-again Inv-loop μ-loop
+loop-again c =
+    let at-rep-relates = c .before in
+    let at-rep-at2 = at-rep-relates .before in
+    let at-up = at-rep-at2 .before .before in
+    let at-word-at = at-up .before in
+    let at-rep-at = at-word-at .before in
+    let at-loop = at-rep-at .before .before .before in
+    let z = at-loop .before .before .before in
+    let a = z .args in
+    let T = now (a .words) in
+    let firsts = now (a .firsts) in
+    let v : at-rep-at2 .rep-at2 .result .deg ≡ widthBelow T firsts (a .g) (at-rep-at .rep-at .result)
+        = ap (λ (F : Listed). F .deg) (at-rep-at2 .rep-at2 .ensures) ∙ ap (λ x. wordAt T (getD firsts (a .g .low + x) 0) DEG) (at-up .up .ensures ∙ at-word-at .word-at .ensures) in
+    below-more (λ q. let D = repAtLevel (a .s) T (suc (a .g .top)) q in RepRelates (a .s) T firsts (a .g) D (now (a .rows)) (widthBelow T firsts (a .g) D))
+    (at-loop .loop .r) (at-loop .loop .inv)
+    (listed-relates (z .pre .0) (z .pre .1) (at-loop .loop .r) (omega arith) (at-rep-at .rep-at .ensures) v (at-rep-relates .rep-relates .ensures (not-false (at-rep-relates .rep-relates .result) (c .if1 .left))))
+
+returns-2 : tie.Need-returns-2 Inv-loop μ-loop
+returns-2 c = λ e.
+    let at-loop = c .before in
+    record { each = λ r l. at-loop .loop .inv r (omega arith) }
+
+pub level-relates-spec : {M : Type 1} → statement M
+level-relates-spec =
+    tie.close
+    (tie.spec
+    Inv-loop
+    μ-loop
+    loop-holds
+    add-rep-at
+    rep-at-requires
+    word-at-requires
+    up-requires
+    add-rep-at-2
+    rep-at-requires-2
+    rep-relates-requires
+    returns
+    add-r
+    loop-less
+    loop-again
+    returns-2)

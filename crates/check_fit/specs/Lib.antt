@@ -1,0 +1,4 @@
+-- What a quick yes asks and says.
+pub mod Lines
+pub mod Relates
+pub mod Fit

@@ -1,0 +1,215 @@
+// A quick yes: whether every level of a table fits on the level below. Each line is compared with one line below, and the
+// relations of the generator on top are asked in column 0 and in the first column of each block. The answer is one way: where it
+// says true the table passes, and nothing else is said.
+//
+//   first_lines                          the first lines of a level, in a list
+//   carries, carries_all, rep_relates    the relations of a representation, in single columns
+//   level_compares, level_relates        all representations of a level above the first
+//   level_fits                           such a level
+//   character_ok, characters_ok, characters_relate, first_fits     level 1
+//   upper_levels_fit, levels_fit         all levels
+//   small_fits, large_fits, fits         a table, with a list as long as it wants
+ghost use mathlib.Core.Path.{_≡_};
+ghost use mathlib.Core.Bool.{true};
+ghost use Prim.Native.Nat.{suc, _≤_, _<_};
+ghost use lib.ListN.{length, getD};
+ghost use Rattle.definitions.specs.Presentation.{Presentation, maxGenerators, pairNumber};
+ghost use Rattle.seek.specs.Seek.{Whole};
+ghost use Rattle.relations.specs.Kept.{Kept};
+ghost use Rattle.relations.specs.Said.{WordOf};
+ghost use Rattle.compare.specs.Staged.{maxLines, Staged};
+ghost use Rattle.compare.specs.Blocks.{Inside};
+ghost use Rattle.check_fit.specs.Lines.{FirstLines};
+ghost use Rattle.check_fit.specs.Fit.{Compares, Relates, LevelFits};
+ghost use Rattle.check_fit.specs.Fit.{FirstStaged, Character, Characters, CharactersRelate};
+ghost use Rattle.check_fit.specs.Relates.{Carries, CarriesAll, Reached, RepRelates};
+use compare::Stage;
+use level::Listed;
+use rows::Row;
+use rows::Words;
+use seek::Scope;
+
+// Writes the first lines of the representations of level i into a list, from place `at` on, and returns how many there are; 0 where
+// the list has no room for them.
+fn first_lines(words: &[u32], s: Scope, i: u32, firsts: &mut [u32], at: usize) -> usize
+    requires { ⌜ Whole s (now words) × (s .lines ≤ maxLines) × (0 < i) × (i ≤ s .gens) × (at ≤ length (now firsts)) ⌝ }
+    ensures { λ r. ⌜ FirstLines s (now (words .entry)) i at (now (firsts .entry)) (now (firsts .exit)) r ⌝ }
+{
+    let reps = seek::count_of(words, s, i);
+    if firsts.len() - at < reps {
+        return 0;
+    }
+    let mut d = seek::found(words, s, i, 0);
+    let mut r: usize = 0;
+    loop {
+        firsts[at + r] = d.line as u32;
+        r += 1;
+        if r == reps {
+            return reps;
+        }
+        d = seek::following(words, s, d);
+    }
+}
+
+// ---- The relations of the generator on top
+
+// The intertwiner of generator j, whose word with generator i is w, carries generator i from d to e, of the same degree, in every
+// v-th column.
+fn carries(words: &[u32], s: Scope, d: Listed, e: Listed, i: u32, j: u32, w: &Row, v: u32) -> bool
+    requires { ⌜ Kept s (now words) d × Kept s (now words) e × (e .deg ≡ d .deg) × (i < j) × (j < s .gens) × (0 < v) × (v ≤ maxLines) × (d .deg ≤ maxLines) ⌝ }
+    ensures { λ r. ⌜ (r ≡ true → (P : Presentation) → WordOf i j (now (w .entry)) P → Carries s (now (words .entry)) d e i j v P) ⌝ }
+{
+    let deg = d.deg;
+    let mut o: u32 = 0;
+    while o < deg {
+        if !relations::intertwines_at(words, s, d, e, i, j, w, o) {
+            return false;
+        }
+        o += v;
+    }
+    true
+}
+
+// So do those of all generators above the top.
+fn carries_all(words: &[u32], firsts: &[u32], rows: &Words, s: Scope, g: Stage, d: Listed, v: u32) -> bool
+    requires { ⌜ Reached s (now words) (now firsts) g d × (0 < v) × (v ≤ maxLines) ⌝ }
+    ensures { λ r. ⌜ (r ≡ true → CarriesAll s (now (words .entry)) (now (firsts .entry)) g d (now (rows .entry)) v) ⌝ }
+{
+    let gens = s.gens;
+    let top = g.top;
+    for j in top + 1..gens {
+        let e = compare::rep_at(words, firsts, g.high + level::up(level::target(words, d, j)));
+        let w = rows::word(rows, level::up(j), level::up(top));
+        if !carries(words, s, d, e, top, j, &w, v) {
+            return false;
+        }
+    }
+    true
+}
+
+// The power relation of the generator on top holds in column 0 of d, and the intertwiners carry it over in every v-th column.
+fn rep_relates(words: &[u32], firsts: &[u32], rows: &Words, s: Scope, g: Stage, d: Listed, v: u32) -> bool
+    requires { ⌜ Reached s (now words) (now firsts) g d × (0 < v) × (v ≤ maxLines) ⌝ }
+    ensures { λ r. ⌜ (r ≡ true → RepRelates s (now (words .entry)) (now (firsts .entry)) g d (now (rows .entry)) v) ⌝ }
+{
+    let t = level::up(g.top);
+    let u = rows::word(rows, t, t);
+    if !relations::power_at(words, s, d, g.top, g.p, &u, 0) {
+        return false;
+    }
+    carries_all(words, firsts, rows, s, g, d, v)
+}
+
+// ---- A level above the first
+
+// Every representation of the level is compared with those below.
+fn level_compares(words: &[u32], firsts: &[u32], s: Scope, g: Stage) -> bool
+    requires { ⌜ Staged s (now words) (now firsts) g ⌝ }
+    ensures { λ r. ⌜ (r ≡ true → Compares s (now (words .entry)) g) ⌝ }
+{
+    let above = g.above;
+    for r in 0..above {
+        let d = compare::rep_at(words, firsts, g.high + r);
+        if !compare::rep_fits(words, firsts, s, g, d) {
+            return false;
+        }
+    }
+    true
+}
+
+// The relations of the generator on top hold in single columns of every representation of a level that is compared.
+fn level_relates(words: &[u32], firsts: &[u32], rows: &Words, s: Scope, g: Stage) -> bool
+    requires { ⌜ Staged s (now words) (now firsts) g × Compares s (now words) g ⌝ }
+    ensures { λ r. ⌜ (r ≡ true → Relates s (now (words .entry)) (now (firsts .entry)) g (now (rows .entry))) ⌝ }
+{
+    let above = g.above;
+    for r in 0..above {
+        let d = compare::rep_at(words, firsts, g.high + r);
+        let x = level::up(level::word_at(words, d.line, level::REF));
+        let f = compare::rep_at(words, firsts, g.low + x);
+        if !rep_relates(words, firsts, rows, s, g, d, f.deg) {
+            return false;
+        }
+    }
+    true
+}
+
+// The level fits on the level below.
+fn level_fits(words: &[u32], firsts: &[u32], rows: &Words, s: Scope, g: Stage) -> bool
+    requires { ⌜ Staged s (now words) (now firsts) g ⌝ }
+    ensures { λ r. ⌜ (r ≡ true → LevelFits s (now (words .entry)) (now (rows .entry)) (g .top) (g .p)) ⌝ }
+{
+    if !level_compares(words, firsts, s, g) {
+        return false;
+    }
+    if !level_relates(words, firsts, rows, s, g) {
+        return false;
+    }
+    claims::disjoint(words, s, g.top, g.p)
+}
+
+// ---- Level 1
+
+// d has one column, over level 0, valid matrices, and targets below `many`.
+fn character_ok(words: &[u32], s: Scope, d: Listed, many: usize) -> bool
+    requires { ⌜ Inside s (now words) d × (0 < s .gens) ⌝ }
+    ensures { λ r. ⌜ (r ≡ true → Character s (now (words .entry)) d many) ⌝ }
+{
+    if d.deg != 1 {
+        return false;
+    }
+    if level::word_at(words, d.line, level::REF) != 0 {
+        return false;
+    }
+    if !check_lines::matrices_ok(words, d, s.gens, s.m) {
+        return false;
+    }
+    check_lines::targets_ok(words, d, 1, s.gens, many)
+}
+
+// Every representation of level 1 is such a character.
+fn characters_ok(words: &[u32], firsts: &[u32], s: Scope, g: Stage) -> bool
+    requires { ⌜ FirstStaged s (now words) (now firsts) g ⌝ }
+    ensures { λ r. ⌜ (r ≡ true → Characters s (now (words .entry)) g) ⌝ }
+{
+    let above = g.above;
+    for r in 0..above {
+        let d = compare::rep_at(words, firsts, g.high + r);
+        if !character_ok(words, s, d, above) {
+            return false;
+        }
+    }
+    true
+}
+
+// The relations of the first generator hold in the column of each.
+fn characters_relate(words: &[u32], firsts: &[u32], rows: &Words, s: Scope, g: Stage) -> bool
+    requires { ⌜ FirstStaged s (now words) (now firsts) g × Characters s (now words) g ⌝ }
+    ensures { λ r. ⌜ (r ≡ true → CharactersRelate s (now (words .entry)) (now (firsts .entry)) g (now (rows .entry))) ⌝ }
+{
+    let above = g.above;
+    for r in 0..above {
+        let d = compare::rep_at(words, firsts, g.high + r);
+        if !rep_relates(words, firsts, rows, s, g, d, 1) {
+            return false;
+        }
+    }
+    true
+}
+
+// Level 1 fits on level 0, which stands in no words.
+fn first_fits(words: &[u32], firsts: &[u32], rows: &Words, s: Scope, g: Stage) -> bool
+    requires { ⌜ FirstStaged s (now words) (now firsts) g ⌝ }
+    ensures { λ r. ⌜ (r ≡ true → LevelFits s (now (words .entry)) (now (rows .entry)) 0 (g .p)) ⌝ }
+{
+    if g.above != level::up(g.p) {
+        return false;
+    }
+    if !characters_ok(words, firsts, s, g) {
+        return false;
+    }
+    if !characters_relate(words, firsts, rows, s, g) {
+        return false;
+    }
+    claims::disjoint(words, s, 0, g.p)
+}

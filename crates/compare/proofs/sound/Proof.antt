@@ -1,0 +1,20 @@
+-- `sound` asks for valid matrices where there are several blocks.
+use borrow.Author.Needs.{needs}
+use mathlib.Core.Path.{sym, _∙_}
+use Rattle.seek.proofs.Halves.{lines-there}
+use Rattle.compare.proofs.sound.Statement.{statement}
+use Rattle.compare.proofs.sound.Tie as tie
+
+returns : tie.Need-returns
+returns c = λ e. record { valid = λ n. absurd (n (c .if1 .taken)) }
+
+matrices-ok-requires : tie.Need-matrices-ok-requires
+matrices-ok-requires c κs =
+    let z = c .before .before .before in
+    lines-there _ _ (z .pre .room)
+
+returns-2 : tie.Need-returns-2
+returns-2 c = λ e. record { valid = λ n. sym (c .matrices-ok .ensures) ∙ e }
+
+pub sound-spec : {M : Type 1} → statement M
+sound-spec = tie.close (tie.spec returns matrices-ok-requires returns-2)
