@@ -158,7 +158,7 @@ module _ {s : Scope} {T firsts : List ℕ} {g : Stage} (S : Staged s T firsts g)
       carried-lands : to h < C .count
       carried-lands =
           let a : col (X .matrix h) (k * w) .row < C .count * w =
-                  subst (λ d. col (X .matrix h) (k * w) .row < d) (C .is) (subst (λ (y : Entry). y .row < D .deg) (sym (head-of h)) (Q .lands)) in
+          subst (λ d. col (X .matrix h) (k * w) .row < d) (C .is) (subst (λ (y : Entry). y .row < D .deg) (sym (head-of h)) (Q .lands)) in
           div-lt-iff-lt-mul w-pos .1 a
 
       carried-shifts : (c : ℕ) → c < w → let x = col (repOf Low (part k) .matrix h) c in
@@ -270,7 +270,7 @@ module _ {s : Scope} {T firsts : List ℕ} {g : Stage} (S : Staged s T firsts g)
   pub compared : (P : Presentation) → g .p ≡ P .p (g .top) → powerAt P (s .m) (repOf (levelAt (s .gens) T (suc (g .top))) r) (g .top) 0 ≡ true
       → ((j k : ℕ) → g .top < j → j < s .gens → k * R .w < D .deg
       → let X = repOf (levelAt (s .gens) T (suc (g .top))) r in
-        intertwinesAt P (s .m) X (repOf (levelAt (s .gens) T (suc (g .top))) (X .ref j 0)) (g .top) j (k * R .w) ≡ true)
+      intertwinesAt P (s .m) X (repOf (levelAt (s .gens) T (suc (g .top))) (X .ref j 0)) (g .top) j (k * R .w) ≡ true)
       → Fitting P (s .gens) (s .m) (g .top) (levelAt (s .gens) T (g .top)) (levelAt (s .gens) T (suc (g .top))) r
   compared P prime power conjugate = record {
     cut = cut;

@@ -140,9 +140,9 @@ module _ {s : Scope} {T firsts : List ℕ} {g : Stage} (S : FirstStaged s T firs
           let G = character-found r h in
           let x = target-below r h j a b in
           let to : repIn T (ledTo T firsts g (D r) j) ≡ repOf High (repOf High r .ref j 0)
-              = ap (repIn T) (led-is r j h a b) ∙ sym (character-found (targetIn T (D r) j) x .rep) ∙ ap (repOf High) (sym (found-target G j)) in
+          = ap (repIn T) (led-is r j h a b) ∙ sym (character-found (targetIn T (D r) j) x .rep) ∙ ap (repOf High) (sym (found-target G j)) in
           let q : Carries s T (D r) (ledTo T firsts g (D r) j) 0 j 1 P
-              = subst (λ i. Carries s T (D r) (ledTo T firsts g (D r) j) i j 1 P) (S .top) (Q .each r h .carries .each j (omega (arith, S .top)) b P on-top) in
+          = subst (λ i. Carries s T (D r) (ledTo T firsts g (D r) j) i j 1 P) (S .top) (Q .each r h .carries .each j (omega (arith, S .top)) b P on-top) in
           subst (λ (F : Rep). intertwinesAt P (s .m) (repOf High r) F 0 j 0 ≡ true) to (
           subst (λ (X : Rep). intertwinesAt P (s .m) X (repIn T (ledTo T firsts g (D r) j)) 0 j 0 ≡ true) (sym (G .rep)) (q 0 (omega (arith, G .positive))))
 
@@ -164,9 +164,10 @@ module _ {s : Scope} {T firsts : List ℕ} {g : Stage} (S : FirstStaged s T firs
           let G = character-found r h in
           let H = holds-at r k h b .valid 0 (G .positive) in
           let e : lineIn (D r) k + 0 ≡ lineIn (D r) k = omega arith in
-          let c = found-head G k in
-          (omega (arith, ap (λ (x : Entry). x .row) c, subst (λ l. wordAt T l ROW < D r .deg) e (H .row), K r h .degree),
-           omega (arith, ap (λ (x : Entry). x .exp) c, subst (λ l. wordAt T l EXP < s .m) e (H .exp)))
+          let c = found-head G k in (
+            omega (arith, ap (λ (x : Entry). x .row) c, subst (λ l. wordAt T l ROW < D r .deg) e (H .row), K r h .degree),
+            omega (arith, ap (λ (x : Entry). x .exp) c, subst (λ l. wordAt T l EXP < s .m) e (H .exp)),
+          )
 
       first-fits : FirstFits P n (s .m) High
       first-fits = record {

@@ -140,9 +140,9 @@ module _ {s : Scope} {T firsts : List ℕ} {g : Stage} (S : Staged s T firsts g)
       conjugate-holds j k a b l =
           let G = compared-found r h in
           let to : repIn T (ledTo T firsts g (D r) j) ≡ repOf (levelAt n T (suc i)) (X .ref j 0)
-              = sym (led-found r h j a b .rep) ∙ ap (repOf (levelAt n T (suc i))) (sym (found-target G j)) in
+          = sym (led-found r h j a b .rep) ∙ ap (repOf (levelAt n T (suc i))) (sym (found-target G j)) in
           let q = subst (λ v. k * v < D r .deg → intertwinesAt P (s .m) (repIn T (D r)) (repIn T (ledTo T firsts g (D r) j)) i j (k * v) ≡ true) (width-is r h)
-              (λ l. Q .each r h .carries .each j a b P Y k l) l in
+          (λ l. Q .each r h .carries .each j a b P Y k l) l in
           subst (λ (F : Rep). intertwinesAt P (s .m) X F i j (k * C .each r h .w) ≡ true) to (
           subst (λ (X : Rep). intertwinesAt P (s .m) X (repIn T (ledTo T firsts g (D r) j)) i j (k * C .each r h .w) ≡ true) (sym (G .rep)) q)
 

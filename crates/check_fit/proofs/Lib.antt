@@ -4,3 +4,5 @@ pub mod Lines
 pub mod Carrying
 pub mod Level
 pub mod First
+pub mod Levels
+pub mod Yes

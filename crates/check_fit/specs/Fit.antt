@@ -7,7 +7,11 @@
 --   LevelFits s T rows i p     what is known of level suc i then, for every presentation that says so
 --   Character s T D many       a representation of level 1: one column, over level 0, with targets below many
 --   Characters                 every representation of level 1 is one
+--   CharactersRelate           and their relations hold
 --   FirstStaged                the first lines of level 1 stand in a list
+--   LevelsFit s T rows primes k     the first k levels fit
+--   LevelOne                   level 1 fits, and its first lines stand at the start of a list
+--   Passes s rows primes orders T    the judgement of T is 0, for every accepted presentation that has these
 use mathlib.Core.Path.{_≡_}
 use mathlib.Core.Bool.{true, _||_}
 use mathlib.Core.List.{List}
@@ -18,11 +22,15 @@ use Rattle.definitions.specs.Lists.{allBelow}
 use Rattle.definitions.specs.Presentation.{Presentation}
 use Rattle.definitions.specs.Monomial.{valid}
 use Rattle.definitions.specs.Table.{DEG, REF, wordAt, firstLine, levelAt}
+use Rattle.definitions.specs.Answers.{judgement}
+use Rattle.rows.specs.Rows.{Reads}
+use Rattle.clifford.specs.Accepted.{Accepted}
 use Rattle.fitting.specs.Fits.{Fitting}
 use Rattle.level.specs.declared.Listed.{Listed}
 use Rattle.level.specs.Stored.{listedIn, generatorIn, Stored}
 use Rattle.seek.specs.declared.Scope.{Scope}
 use Rattle.seek.specs.Seek.{Whole, Found}
+use Rattle.seek.specs.Formed.{Ordered}
 use Rattle.claims.specs.Claims.{Unshared}
 use Rattle.check_lines.specs.Lines.{targetOk}
 use Rattle.compare.specs.declared.Stage.{Stage}
@@ -68,3 +76,19 @@ pub record FirstStaged (s : Scope) (T firsts : List ℕ) (g : Stage) : Type 0 wh
   pub modulus : (0 < s .m) × (s .m ≤ 2147483648)
   pub top : g .top ≡ 0
   pub high : Lined (s .gens) T 1 firsts (g .high) (g .above)
+
+-- ---- All levels
+
+pub record LevelsFit (s : Scope) (T : List ℕ) (rows : List (List ℕ)) (primes : List ℕ) (k : ℕ) : Type 0 where
+  pub each : (i : ℕ) → i < k → LevelFits s T rows i (getD primes i 0)
+
+pub record LevelOne (s : Scope) (T : List ℕ) (rows : List (List ℕ)) (primes firsts : List ℕ) (many : ℕ) : Type 0 where
+  pub whole : Whole s T
+  pub short : s .lines ≤ maxLines
+  pub modulus : (0 < s .m) × (s .m ≤ 2147483648)
+  pub listed : Lined (s .gens) T 1 firsts 0 many
+  pub fits : LevelsFit s T rows primes 1
+
+-- the table passes, for every accepted presentation that has these rows, primes and orders
+pub record Passes (s : Scope) (rows : List (List ℕ)) (primes orders T : List ℕ) : Type 0 where
+  pub is : (A : Accepted) → Reads (A .C .P) (s .gens) primes rows → Ordered (A .C .P) s orders → judgement (A .C .P) (s .m) T ≡ 0

@@ -19,15 +19,20 @@ ghost use Rattle.relations.specs.Kept.{Kept};
 ghost use Rattle.relations.specs.Said.{WordOf};
 ghost use Rattle.compare.specs.Staged.{maxLines, Staged};
 ghost use Rattle.compare.specs.Blocks.{Inside};
+ghost use Rattle.check_heads.specs.Places.{Counted};
 ghost use Rattle.check_fit.specs.Lines.{FirstLines};
-ghost use Rattle.check_fit.specs.Fit.{Compares, Relates, LevelFits};
+ghost use Rattle.check_fit.specs.Fit.{Compares, Relates, LevelFits, LevelOne, LevelsFit, Passes};
 ghost use Rattle.check_fit.specs.Fit.{FirstStaged, Character, Characters, CharactersRelate};
 ghost use Rattle.check_fit.specs.Relates.{Carries, CarriesAll, Reached, RepRelates};
 use compare::Stage;
+use conditions::size::Orders;
 use level::Listed;
 use rows::Row;
 use rows::Words;
 use seek::Scope;
+
+// The lines that are compared at most: every table that passes has fewer.
+const MAX_LINES: usize = 16777216;
 
 // Writes the first lines of the representations of level i into a list, from place `at` on, and returns how many there are; 0 where
 // the list has no room for them.
@@ -71,14 +76,26 @@ fn carries(words: &[u32], s: Scope, d: Listed, e: Listed, i: u32, j: u32, w: &Ro
 }
 
 // So do those of all generators above the top.
-fn carries_all(words: &[u32], firsts: &[u32], rows: &Words, s: Scope, g: Stage, d: Listed, v: u32) -> bool
+fn carries_all(
+    words: &[u32],
+    firsts: &[u32],
+    rows: &Words,
+    s: Scope,
+    g: Stage,
+    d: Listed,
+    v: u32,
+) -> bool
     requires { ⌜ Reached s (now words) (now firsts) g d × (0 < v) × (v ≤ maxLines) ⌝ }
     ensures { λ r. ⌜ (r ≡ true → CarriesAll s (now (words .entry)) (now (firsts .entry)) g d (now (rows .entry)) v) ⌝ }
 {
     let gens = s.gens;
     let top = g.top;
     for j in top + 1..gens {
-        let e = compare::rep_at(words, firsts, g.high + level::up(level::target(words, d, j)));
+        let e = compare::rep_at(
+            words,
+            firsts,
+            g.high + level::up(level::target(words, d, j)),
+        );
         let w = rows::word(rows, level::up(j), level::up(top));
         if !carries(words, s, d, e, top, j, &w, v) {
             return false;
@@ -88,7 +105,15 @@ fn carries_all(words: &[u32], firsts: &[u32], rows: &Words, s: Scope, g: Stage, 
 }
 
 // The power relation of the generator on top holds in column 0 of d, and the intertwiners carry it over in every v-th column.
-fn rep_relates(words: &[u32], firsts: &[u32], rows: &Words, s: Scope, g: Stage, d: Listed, v: u32) -> bool
+fn rep_relates(
+    words: &[u32],
+    firsts: &[u32],
+    rows: &Words,
+    s: Scope,
+    g: Stage,
+    d: Listed,
+    v: u32,
+) -> bool
     requires { ⌜ Reached s (now words) (now firsts) g d × (0 < v) × (v ≤ maxLines) ⌝ }
     ensures { λ r. ⌜ (r ≡ true → RepRelates s (now (words .entry)) (now (firsts .entry)) g d (now (rows .entry)) v) ⌝ }
 {
@@ -212,4 +237,113 @@ fn first_fits(words: &[u32], firsts: &[u32], rows: &Words, s: Scope, g: Stage) -
         return false;
     }
     claims::disjoint(words, s, 0, g.p)
+}
+
+// ---- All levels
+
+// Every level above the first fits on the level below; the first lines of level 1 stand at the start of the list.
+fn upper_levels_fit(
+    words: &[u32],
+    rows: &Words,
+    primes: &Row,
+    s: Scope,
+    firsts: &mut [u32],
+    many: usize,
+) -> bool
+    requires { ⌜ LevelOne s (now words) (now rows) (now primes) (now firsts) many ⌝ }
+    ensures { λ r. ⌜ (r ≡ true → LevelsFit s (now (words .entry)) (now (rows .entry)) (now (primes .entry)) (s .gens)) ⌝ }
+    ensures { λ r. ⌜ length (now (firsts .exit)) ≡ length (now (firsts .entry)) ⌝ }
+{
+    let gens = s.gens;
+    let mut low: usize = 0;
+    let mut below = many;
+    for i in 1..gens {
+        let high = low + below;
+        let above = first_lines(words, s, i + 1, firsts, high);
+        if above == 0 {
+            return false;
+        }
+        let g = Stage {
+            top: i,
+            p: primes[level::up(i)],
+            low,
+            below,
+            high,
+            above,
+        };
+        if !level_fits(words, firsts, rows, s, g) {
+            return false;
+        }
+        low = high;
+        below = above;
+    }
+    true
+}
+
+// Every level fits on the level below, with a list for the first lines of all representations.
+fn levels_fit(words: &[u32], rows: &Words, primes: &Row, s: Scope, firsts: &mut [u32]) -> bool
+    requires { ⌜ Whole s (now words) × (s .lines ≤ maxLines) × (0 < s .m) × (s .m ≤ 2147483648) ⌝ }
+    ensures { λ r. ⌜ (r ≡ true → LevelsFit s (now (words .entry)) (now (rows .entry)) (now (primes .entry)) (s .gens)) ⌝ }
+{
+    let many = first_lines(words, s, 1, firsts, 0);
+    if many == 0 {
+        return false;
+    }
+    let g = Stage {
+        top: 0,
+        p: primes[0],
+        low: 0,
+        below: 0,
+        high: 0,
+        above: many,
+    };
+    if !first_fits(words, firsts, rows, s, g) {
+        return false;
+    }
+    upper_levels_fit(words, rows, primes, s, firsts, many)
+}
+
+// ---- A table
+
+// The same with a list for 128 representations, which suffice for orders up to 64: the order of a level is at least twice that of
+// the level below.
+fn small_fits(words: &[u32], rows: &Words, primes: &Row, s: Scope) -> bool
+    requires { ⌜ Whole s (now words) × (s .lines ≤ maxLines) × (0 < s .m) × (s .m ≤ 2147483648) ⌝ }
+    ensures { λ r. ⌜ (r ≡ true → LevelsFit s (now (words .entry)) (now (rows .entry)) (now (primes .entry)) (s .gens)) ⌝ }
+{
+    let mut firsts = [0u32; 128];
+    levels_fit(words, rows, primes, s, &mut firsts)
+}
+
+// The same with a list for 8192 representations.
+fn large_fits(words: &[u32], rows: &Words, primes: &Row, s: Scope) -> bool
+    requires { ⌜ Whole s (now words) × (s .lines ≤ maxLines) × (0 < s .m) × (s .m ≤ 2147483648) ⌝ }
+    ensures { λ r. ⌜ (r ≡ true → LevelsFit s (now (words .entry)) (now (rows .entry)) (now (primes .entry)) (s .gens)) ⌝ }
+{
+    let mut firsts = [0u32; 8192];
+    levels_fit(words, rows, primes, s, &mut firsts)
+}
+
+// Every level of the table fits on the level below, with exponents modulo the order: the table passes.
+pub fn fits(words: &[u32], rows: &Words, primes: &Row, orders: &Orders, s: Scope) -> bool
+    requires { ⌜ Counted s (now words) × (0 < s .m) × (s .m ≤ 2147483648) ⌝ }
+    ensures { λ r. ⌜ (r ≡ true → Passes s (now (rows .entry)) (now (primes .entry)) (now (orders .entry)) (now (words .entry))) ⌝ }
+{
+    let n = level::up(s.gens);
+    if orders[n] != s.m {
+        return false;
+    }
+    if s.lines > MAX_LINES {
+        return false;
+    }
+    if !check_heads::heads(words, orders, s) {
+        return false;
+    }
+    if !check_blocks::squares_hold(words, orders, s) {
+        return false;
+    }
+    if s.m <= 64 {
+        return small_fits(words, rows, primes, s);
+    }
+    large_fits(words, rows, primes, s)
 }

@@ -86,9 +86,16 @@ carries-requires c κs =
     let R = z .pre .0 in
     let L = R .leads (at-loop .loop .j) (at-loop .loop .inv .from) (omega arith) in
     let e : at-rep-at .rep-at .result ≡ ledTo (now (a .words)) (now (a .firsts)) (a .g) (a .d) (at-loop .loop .j)
-        = at-rep-at .rep-at .ensures ∙ ap (λ x. listedIn (now (a .words)) (getD (now (a .firsts)) (a .g .high + x) 0)) (at-up .up .ensures ∙ at-target .target .ensures) in
-    (R .kept, subst (Kept (a .s) (now (a .words))) (sym e) (L .kept), ap (λ (E : Listed). E .deg) e ∙ L .degree, at-loop .loop .inv .from, omega arith,
-     z .pre .1, z .pre .2, R .narrow)
+    = at-rep-at .rep-at .ensures ∙ ap (λ x. listedIn (now (a .words)) (getD (now (a .firsts)) (a .g .high + x) 0)) (at-up .up .ensures ∙ at-target .target .ensures) in (
+      R .kept,
+      subst (Kept (a .s) (now (a .words))) (sym e) (L .kept),
+      ap (λ (E : Listed). E .deg) e ∙ L .degree,
+      at-loop .loop .inv .from,
+      omega arith,
+      z .pre .1,
+      z .pre .2,
+      R .narrow,
+    )
 
 returns : tie.Need-returns Inv-loop μ-loop
 returns c = λ e. absurd (false≢true e)
@@ -112,7 +119,7 @@ loop-again c =
     let z = at-loop .before .before .before in
     let a = z .args in
     let e : at-rep-at .rep-at .result ≡ ledTo (now (a .words)) (now (a .firsts)) (a .g) (a .d) (at-loop .loop .j)
-        = at-rep-at .rep-at .ensures ∙ ap (λ x. listedIn (now (a .words)) (getD (now (a .firsts)) (a .g .high + x) 0)) (at-up .up .ensures ∙ at-target .target .ensures) in
+    = at-rep-at .rep-at .ensures ∙ ap (λ x. listedIn (now (a .words)) (getD (now (a .firsts)) (a .g .high + x) 0)) (at-up .up .ensures ∙ at-target .target .ensures) in
     rising-more (at-loop .loop .inv) (λ P S. subst (λ (E : Listed). Carries (a .s) (now (a .words)) (a .d) E (a .g .top) (at-loop .loop .j) (a .v) P) e (
     at-carries .carries .ensures (not-false (at-carries .carries .result) (c .if1 .left)) P
     (says-word S (at-loop .loop .j) (at-loop .loop .inv .from) (omega arith) (at-word .word .result) (at-up2 .up2 .result) (at-up3 .up3 .result) (at-word .word .ensures) (at-up2 .up2 .ensures) (at-up3 .up3 .ensures))))

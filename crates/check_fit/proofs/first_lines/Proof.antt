@@ -102,7 +102,6 @@ following-requires c κs =
     let at-count-of = at-loop .before .before .before in
     let z = at-count-of .before .before .before in
     let l = at-loop .loop in
-
     let m : suc (l .r) < at-count-of .count-of .result = omega (arith, c .if2 .left, l .inv .2) in
     (z .pre .0, record { i = z .args .i; r = l .r; here = l .inv .1; more = omega (arith, m, at-count-of .count-of .ensures) })
 
@@ -122,10 +121,11 @@ loop-again c =
     let a = z .args in
     let h : a .at + l .r < length (l .firsts) = omega (arith, at-if1 .if1 .left, z .pre .4, l .inv .2, l .inv .0 .size) in
     let m : suc (l .r) < at-count-of .count-of .result = omega (arith, at-if2 .if2 .left, l .inv .2) in
-    let f = c .following .ensures (a .i) (l .r) (l .inv .1) (omega (arith, m, at-count-of .count-of .ensures)) in
-    (noted-more (l .inv .0) (l .d .line) h (l .inv .1 .line),
-     subst (λ r. Found (a .s .gens) (now (a .words)) (a .i) r (c .following .result)) (sym (add-one (l .r))) f,
-     omega (arith, m))
+    let f = c .following .ensures (a .i) (l .r) (l .inv .1) (omega (arith, m, at-count-of .count-of .ensures)) in (
+      noted-more (l .inv .0) (l .d .line) h (l .inv .1 .line),
+      subst (λ r. Found (a .s .gens) (now (a .words)) (a .i) r (c .following .result)) (sym (add-one (l .r))) f,
+      omega (arith, m),
+    )
 
 pub first-lines-spec : {M : Type 1} → statement M
 first-lines-spec =

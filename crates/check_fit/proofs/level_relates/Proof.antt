@@ -107,7 +107,7 @@ loop-again c =
     let T = now (a .words) in
     let firsts = now (a .firsts) in
     let v : at-rep-at2 .rep-at2 .result .deg ≡ widthBelow T firsts (a .g) (at-rep-at .rep-at .result)
-        = ap (λ (F : Listed). F .deg) (at-rep-at2 .rep-at2 .ensures) ∙ ap (λ x. wordAt T (getD firsts (a .g .low + x) 0) DEG) (at-up .up .ensures ∙ at-word-at .word-at .ensures) in
+    = ap (λ (F : Listed). F .deg) (at-rep-at2 .rep-at2 .ensures) ∙ ap (λ x. wordAt T (getD firsts (a .g .low + x) 0) DEG) (at-up .up .ensures ∙ at-word-at .word-at .ensures) in
     below-more (λ q. let D = repAtLevel (a .s) T (suc (a .g .top)) q in RepRelates (a .s) T firsts (a .g) D (now (a .rows)) (widthBelow T firsts (a .g) D))
     (at-loop .loop .r) (at-loop .loop .inv)
     (listed-relates (z .pre .0) (z .pre .1) (at-loop .loop .r) (omega arith) (at-rep-at .rep-at .ensures) v (at-rep-relates .rep-relates .ensures (not-false (at-rep-relates .rep-relates .result) (c .if1 .left))))

@@ -1,0 +1,115 @@
+-- A yes means that the table passes.
+--
+--   unshared-blocks     where no reference is claimed twice no two blocks share one
+--   levels-pass         levels that fit, with squares that add up, pass the judgement
+use mathlib.Core.Path.{_≡_, refl, sym, _∙_, ap, ap₂, subst}
+use mathlib.Core.Bool.{true}
+use mathlib.Core.List.{List}
+use Prim.Native.Nat.{ℕ, zero, suc, _+_, _*_, _%_, _≤_, _<_}
+use native.Mathlib.Nat.{mul-lt-mul-of-pos-right, le-refl}
+use native.Mathlib.Omega.{arith}
+use native.Mathlib.Decide.{ℕ-discrete}
+use lib.Dec.{eqb}
+use lib.ListN.{length, getD}
+use borrow.Author.Tests.{eqb-true}
+use Rattle.definitions.specs.Lists.{sum}
+use Rattle.definitions.specs.Presentation.{lineWords, Presentation, order}
+use Rattle.definitions.specs.Monomial.{col, Level, repOf}
+use Rattle.definitions.specs.Table.{levelAt, complete}
+use Rattle.definitions.specs.Judgement.{everyLevel, squares}
+use Rattle.definitions.specs.Answers.{judgement}
+use Rattle.numbers.proofs.Lists.{allBelow-elim}
+use Rattle.clifford.specs.Accepted.{Accepted}
+use Rattle.fitting.specs.Fits.{blockTo, Fitting, Fits}
+use Rattle.fitting.proofs.Passes.{fits-passes}
+use Rattle.rows.specs.Rows.{Reads}
+use Rattle.seek.specs.declared.Scope.{Scope}
+use Rattle.seek.specs.Seek.{Whole}
+use Rattle.seek.specs.Formed.{Ordered}
+use Rattle.seek.proofs.Seek.{found-first}
+use Rattle.claims.specs.Claims.{OneReference, Unshared}
+use Rattle.check_blocks.specs.Squares.{AddsUp}
+use Rattle.check_fit.specs.Relates.{Says}
+use Rattle.check_fit.specs.Fit.{LevelsFit, Passes}
+
+-- ---- References
+
+module _ {P : Presentation} {n m i : ℕ} {Low High : Level} (in-range : i < n) (fit : (r : ℕ) → r < length High → Fitting P n m i Low High r) where
+  module _ (r : ℕ) (h : r < length High) where
+    abbrev F : Fitting P n m i Low High r
+    F = fit r h
+
+    part-ref : (k : ℕ) → k < F .cut .count → repOf High r .ref 0 (k * F .cut .width) ≡ F .cut .part k
+    part-ref k l =
+        let e : k * F .cut .width ≡ k * F .cut .width + 0 = omega arith in
+        ap (repOf High r .ref 0) e ∙ F .cut .refers 0 (omega arith) k 0 l (F .cut .width-pos)
+
+    part-column : (k : ℕ) → k < F .cut .count → k * F .cut .width < repOf High r .deg
+    part-column k l = subst (λ d. k * F .cut .width < d) (sym (F .cut .degree)) (mul-lt-mul-of-pos-right l (F .cut .width-pos))
+
+    -- several blocks have several references
+    one-block : (k : ℕ) → k < F .cut .count → OneReference (repOf High r) → F .cut .count ≡ 1
+    one-block k l one = go (ℕ-discrete (F .cut .count) 1)
+      where
+        z : 0 < F .cut .count
+        z = omega arith
+
+        same : (k : ℕ) → k < F .cut .count → F .cut .part k ≡ repOf High r .ref 0 0
+        same k l = sym (part-ref k l) ∙ one (k * F .cut .width) (part-column k l)
+
+        go : Dec (F .cut .count ≡ 1) → F .cut .count ≡ 1
+        go (yes e) = e
+        go (no ne) =
+            let t : ℕ = blockTo P n m i Low High r (F .cut) i 0 in
+            absurd (F .moved ne (sym (F .follows 0 z) ∙ same t (F .lands i 0 (le-refl i) in-range z) ∙ sym (same 0 z)))
+
+  pub unshared-blocks : Unshared i High → (r r′ : ℕ) (h : r < length High) (h′ : r′ < length High) → ¬ (r ≡ r′) → (k k′ : ℕ) → k < fit r h .cut .count
+      → k′ < fit r′ h′ .cut .count → fit r h .cut .part k ≡ fit r′ h′ .cut .part k′
+      → (fit r h .cut .count ≡ 1) × (fit r′ h′ .cut .count ≡ 1) × ¬ (col (repOf High r .matrix i) 0 .exp ≡ col (repOf High r′ .matrix i) 0 .exp)
+  unshared-blocks U r r′ h h′ ne k k′ l l′ e =
+      let (a, b, x) = U .apart r r′ h h′ ne (k * F r h .cut .width) (k′ * F r′ h′ .cut .width) (part-column r h k l) (part-column r′ h′ k′ l′)
+      (part-ref r h k l ∙ e ∙ sym (part-ref r′ h′ k′ l′)) in
+      (one-block r h k l a, one-block r′ h′ k′ l′ b, x)
+
+-- ---- The table
+
+module _ {s : Scope} {T : List ℕ} {rows : List (List ℕ)} {primes orders : List ℕ} (whole : eqb (length T % lineWords) 0 ≡ true) (W : Whole s T)
+    (A : AddsUp s orders T true) (L : LevelsFit s T rows primes (s .gens)) (modulus : getD orders (s .gens) 0 ≡ s .m) where
+  module _ (C : Accepted) (reads : Reads (C .C .P) (s .gens) primes rows) (ordered : Ordered (C .C .P) s orders) where
+    abbrev P : Presentation
+    P = C .C .P
+
+    says : (i : ℕ) → i < s .gens → Says s rows i (getD primes i 0) P
+    says i l = record { prime = reads .p-is i l; power = reads .u-is i l; word = λ j a b. reads .w-is i j a b }
+
+    squares-are : (i : ℕ) → i < s .gens
+        → sum (length (levelAt (s .gens) T (suc i))) (λ r. repOf (levelAt (s .gens) T (suc i)) r .deg * repOf (levelAt (s .gens) T (suc i)) r .deg) ≡ order P (suc i)
+    unfolding everyLevel squares
+    squares-are i l =
+        let n = ordered .gens-are in
+        let q = allBelow-elim (P .n) _ (sym (A .is P ordered)) i (subst (λ n. i < n) n l) in
+        subst (λ n. sum (length (levelAt n T (suc i))) (λ r. repOf (levelAt n T (suc i)) r .deg * repOf (levelAt n T (suc i)) r .deg) ≡ order P (suc i)) (sym n)
+        (eqb-true _ (order P (suc i)) q)
+
+    fits-at : (i : ℕ) → i < s .gens → Fits P (s .gens) (s .m) i (levelAt (s .gens) T i) (levelAt (s .gens) T (suc i))
+    fits-at i l =
+        let E = L .each i l in
+        record {
+          fit = E .fit P (says i l);
+          degree-pos = λ r h. let G = found-first s T W (suc i) r (omega arith) l h in subst (λ d. 0 < d) (G .deg) (G .positive);
+          unshared = unshared-blocks l (E .fit P (says i l)) (E .unshared);
+          squares = squares-are i l;
+        }
+
+    modulus-is : s .m ≡ order P (P .n)
+    modulus-is = sym modulus ∙ ap (λ n. getD orders n 0) (ordered .gens-are) ∙ ordered .orders-are (P .n) (le-refl (P .n))
+
+    passes : judgement P (s .m) T ≡ 0
+    passes =
+        ap (λ m. judgement P m T) modulus-is
+        ∙ fits-passes C T whole (subst (λ n. complete n T ≡ true) (ordered .gens-are) (W .all)) (λ i l.
+        subst (λ m. Fits P (P .n) m i (levelAt (P .n) T i) (levelAt (P .n) T (suc i))) modulus-is
+        (subst (λ n. Fits P n (s .m) i (levelAt n T i) (levelAt n T (suc i))) (ordered .gens-are) (fits-at i (subst (λ n. i < n) (sym (ordered .gens-are)) l))))
+
+  pub levels-pass : Passes s rows primes orders T
+  levels-pass = record { is = λ C reads ordered. passes C reads ordered }
