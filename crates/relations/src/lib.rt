@@ -214,7 +214,7 @@ fn led_to(words: &[u32], s: Scope, i: u32, d: Listed, j: u32) -> Listed
     requires { ⌜ Among s (now words) i d × (i ≤ j) × (j < s .gens) ⌝ }
     ensures { λ e. ⌜ Found (s .gens) (now (words .entry)) i (targetIn (now (words .entry)) d j) e ⌝ }
 {
-    seek::found(words, s, i, level::up(level::target(words, d, j)))
+    seek::found_near(words, s, i, level::up(level::target(words, d, j)), d.line)
 }
 
 // The intertwiner of generator j intertwines d, of level i, with the representation to which it leads.
