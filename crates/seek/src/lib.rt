@@ -2,6 +2,7 @@
 // grows with it: the lines stand in order, so a search by halves finds a representation.
 //
 //   Scope            what a table is read with
+//   LARGEST, FURTHEST     how far a guess goes
 //   find             the first line of a representation, by halves
 //   stride, onward, guess            where it would be if all between had one degree
 //   ends_at, find_near, found_near   a representation whose line a guess may tell
@@ -21,8 +22,10 @@ ghost use Rattle.heads.specs.Order.{before, Split, Splits};
 ghost use Rattle.seek.specs.Seek.{Whole, Found, Follows};
 use level::Listed;
 
-// No degree of a right table is above it.
+// No degree of a right table is above the one, and no two numbers of representations are further apart than the other.
 const LARGEST: usize = 4096;
+
+const FURTHEST: usize = 4294967295;
 
 // How many lines there are, how many generators, and the modulus of the exponents.
 pub struct Scope {
@@ -81,7 +84,7 @@ fn onward(near: usize, q: u32, r: usize, step: usize) -> usize
 {
     let from = level::up(q);
     if from <= r {
-        if r - from > 4294967295 {
+        if r - from > FURTHEST {
             return 0;
         }
         return near + (r - from) * step;

@@ -7,7 +7,7 @@ use Rattle.definitions.specs.Presentation.{maxGenerators, maxOrder}
 use Rattle.seek.proofs.onward.Statement.{statement}
 use Rattle.seek.proofs.onward.Tie as tie
 
-steps : (k step : ℕ) → k ≤ 4294967295 → step ≤ maxGenerators * maxOrder → k * step ≤ 211106232483840
+steps : (k step : ℕ) → k ≤ 4294967295 → step ≤ maxGenerators * maxOrder → k * step ≤ 4294967295 * (maxGenerators * maxOrder)
 steps k step a b = mul-le-mul a b
 
 up-requires : tie.Need-up-requires
