@@ -69,23 +69,23 @@ fn block_acts(words: &[u32], s: Scope, i: u32, d: Listed, o: u32, f: Listed) -> 
 
 // ---- One representation
 
-// The representation of level i to which the block from column o refers.
-fn block_at(words: &[u32], s: Scope, i: u32, d: Listed, o: u32) -> Listed
+// The representation of level i to which the block from column o refers, looked for near a line.
+fn block_at(words: &[u32], s: Scope, i: u32, near: usize, d: Listed, o: u32) -> Listed
     requires { ⌜ Among s (now words) (suc i) d × (0 < i) × (o < d .deg) × (wholeBlock (levelAt (s .gens) (now words) i) (repIn (now words) d) o ≡ true) ⌝ }
     ensures { λ f. ⌜ Refers s (now (words .entry)) i d o f ⌝ }
 {
     let r = level::word_at(words, d.line + level::up(o), level::REF);
-    seek::found(words, s, i, level::up(r))
+    seek::found_near(words, s, i, level::up(r), near)
 }
 
 // Every block of d, of the level above i.
-fn blocks_act(words: &[u32], s: Scope, i: u32, d: Listed) -> bool
+fn blocks_act(words: &[u32], s: Scope, i: u32, near: usize, d: Listed) -> bool
     requires { ⌜ Among s (now words) (suc i) d × (0 < i) ⌝ }
     ensures { λ r. ⌜ Tells s (now (words .entry)) (λ P. restricts P (s .m) (now (words .entry)) (suc i) (repIn (now (words .entry)) d)) r ⌝ }
 {
     let mut o: u32 = 0;
     while o < d.deg {
-        let f = block_at(words, s, i, d, o);
+        let f = block_at(words, s, i, near, d, o);
         if !block_acts(words, s, i, d, o, f) {
             return false;
         }
@@ -101,11 +101,12 @@ fn level_acts(words: &[u32], s: Scope, i: u32) -> bool
     requires { ⌜ ((P : Presentation) × Formed P s (now words)) × (0 < i) × (i < s .gens) ⌝ }
     ensures { λ r. ⌜ Tells s (now (words .entry)) (λ P. onLevel (s .gens) (now (words .entry)) (restricts P (s .m) (now (words .entry))) (suc i)) r ⌝ }
 {
+    let near = seek::start_of(words, s, i);
     let reps = seek::count_of(words, s, i + 1);
     let mut d = seek::found(words, s, i + 1, 0);
     let mut r: usize = 0;
     loop {
-        if !blocks_act(words, s, i, d) {
+        if !blocks_act(words, s, i, near, d) {
             return false;
         }
         r += 1;

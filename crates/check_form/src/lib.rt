@@ -17,8 +17,8 @@ use conditions::size::Orders;
 use level::Listed;
 use seek::Scope;
 
-// How long the block from column o is, over a level i of `low` representations, and 0 where it is none.
-fn block(words: &[u32], s: Scope, i: u32, low: usize, d: Listed, o: u32) -> u32
+// How long the block from column o is, over a level i of `low` representations, looked for near a line, and 0 where it is none.
+fn block(words: &[u32], s: Scope, i: u32, low: usize, near: usize, d: Listed, o: u32) -> u32
     requires { ⌜ Over s (now words) i low × (8 * (lineIn d 0 + d .deg) ≤ length (now words)) × (o < d .deg) ⌝ }
     ensures { λ x. ⌜ Width (levelAt (s .gens) (now (words .entry)) i) (listedRep (now (words .entry)) d) o x ⌝ }
 {
@@ -28,7 +28,7 @@ fn block(words: &[u32], s: Scope, i: u32, low: usize, d: Listed, o: u32) -> u32
     if low <= r {
         return 0;
     }
-    let f = seek::degree_of(words, s, i, r);
+    let f = seek::degree_of(words, s, i, r, near);
     if d.deg - o < f {
         return 0;
     }
@@ -39,13 +39,13 @@ fn block(words: &[u32], s: Scope, i: u32, low: usize, d: Listed, o: u32) -> u32
 }
 
 // The blocks of a representation are whole, from column 0 on.
-fn blocks_ok(words: &[u32], s: Scope, i: u32, low: usize, d: Listed) -> bool
+fn blocks_ok(words: &[u32], s: Scope, i: u32, low: usize, near: usize, d: Listed) -> bool
     requires { ⌜ Over s (now words) i low × (8 * (lineIn d 0 + d .deg) ≤ length (now words)) ⌝ }
     ensures { λ b. ⌜ b ≡ blocksOk (levelAt (s .gens) (now (words .entry)) i) (listedRep (now (words .entry)) d) ⌝ }
 {
     let mut o: u32 = 0;
     while o < d.deg {
-        let f = block(words, s, i, low, d, o);
+        let f = block(words, s, i, low, near, d, o);
         if f == 0 {
             return false;
         }
@@ -54,15 +54,16 @@ fn blocks_ok(words: &[u32], s: Scope, i: u32, low: usize, d: Listed) -> bool
     true
 }
 
-// Matrices, blocks and targets of a representation of the level above level i; they have `low` and `many`.
-fn rep_ok(words: &[u32], s: Scope, i: u32, low: usize, many: usize, d: Listed) -> bool
+// Matrices, blocks and targets of a representation of the level above level i; they have `many` and `low`, the latter looked for
+// near a line.
+fn rep_ok(words: &[u32], s: Scope, i: u32, low: usize, many: usize, near: usize, d: Listed) -> bool
     requires { ⌜ Over s (now words) i low × Over s (now words) (suc i) many × Fits s (now words) d ⌝ }
     ensures { λ b. ⌜ b ≡ body (s .gens) (s .m) (now (words .entry)) i (listedRep (now (words .entry)) d) ⌝ }
 {
     if !check_lines::matrices_ok(words, d, s.gens, s.m) {
         return false;
     }
-    if !blocks_ok(words, s, i, low, d) {
+    if !blocks_ok(words, s, i, low, near, d) {
         return false;
     }
     if !check_lines::refs_equal(words, d, i + 1) {
@@ -77,16 +78,17 @@ fn level_ok(words: &[u32], s: Scope, i: u32, low: usize, many: usize) -> bool
     ensures { λ b. ⌜ b ≡ levelOk (s .gens) (s .m) (now (words .entry)) i ⌝ }
 {
     let last = many - 1;
+    let near = seek::start_of(words, s, i);
     let mut d = seek::found(words, s, i + 1, 0);
     let mut r: usize = 0;
     while r < last {
-        if !rep_ok(words, s, i, low, many, d) {
+        if !rep_ok(words, s, i, low, many, near, d) {
             return false;
         }
         d = seek::following(words, s, d);
         r += 1;
     }
-    rep_ok(words, s, i, low, many, d)
+    rep_ok(words, s, i, low, many, near, d)
 }
 
 // Those of every level.

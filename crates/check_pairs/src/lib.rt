@@ -112,8 +112,8 @@ fn fresh_at(words: &[u32], d: Listed, o: u32) -> bool
     )
 }
 
-// The degree of the representation of level i to which column o of d refers.
-fn width(words: &[u32], s: Scope, i: u32, d: Listed, o: u32) -> u32
+// The degree of the representation of level i to which column o of d refers, looked for near a line.
+fn width(words: &[u32], s: Scope, i: u32, near: usize, d: Listed, o: u32) -> u32
     requires { ⌜ Refers s (now words) i d o ⌝ }
     ensures { λ r. ⌜ (r ≡ widthIn s (now (words .entry)) i d o) × (0 < r) ⌝ }
 {
@@ -122,22 +122,23 @@ fn width(words: &[u32], s: Scope, i: u32, d: Listed, o: u32) -> u32
         s,
         i,
         level::up(level::word_at(words, d.line + level::up(o), level::REF)),
+        near,
     )
 }
 
 // The width of the first block of d, of the level above level i.
-fn first_width(words: &[u32], s: Scope, i: u32, d: Listed) -> u32
+fn first_width(words: &[u32], s: Scope, i: u32, near: usize, d: Listed) -> u32
     requires { ⌜ ((r : ℕ) × Placed s (now words) i r d) ⌝ }
     ensures { λ r. ⌜ (r ≡ widthIn s (now (words .entry)) i d 0) × (0 < r) ⌝ }
 {
     if d.deg == 1 {
         return 1;
     }
-    width(words, s, i, d, 0)
+    width(words, s, i, near, d, 0)
 }
 
 // d, of the level above level i, has p blocks, with references of their own.
-fn blocks_differ(words: &[u32], s: Scope, i: u32, p: u32, d: Listed) -> bool
+fn blocks_differ(words: &[u32], s: Scope, i: u32, p: u32, near: usize, d: Listed) -> bool
     requires { ⌜ ((r : ℕ) × Placed s (now words) i r d) ⌝ }
     ensures { λ r. ⌜ r ≡ differ (levelAt (s .gens) (now (words .entry)) i) p (repIn (now (words .entry)) d) ⌝ }
 {
@@ -148,38 +149,38 @@ fn blocks_differ(words: &[u32], s: Scope, i: u32, p: u32, d: Listed) -> bool
         if !fresh_at(words, d, o) {
             return false;
         }
-        o += width(words, s, i, d, o);
+        o += width(words, s, i, near, d, o);
         count += 1;
     }
     count == p
 }
 
 // d, of the level above level i, is one block, or has p blocks that generator i moves, with references of their own.
-fn own(words: &[u32], s: Scope, i: u32, p: u32, d: Listed) -> bool
+fn own(words: &[u32], s: Scope, i: u32, p: u32, near: usize, d: Listed) -> bool
     requires { ⌜ ((r : ℕ) × Placed s (now words) i r d) ⌝ }
     ensures { λ r. ⌜ r ≡ ownOf (levelAt (s .gens) (now (words .entry)) i) p i (repIn (now (words .entry)) d) ⌝ }
 {
     let deg = d.deg;
-    let w = first_width(words, s, i, d);
+    let w = first_width(words, s, i, near, d);
     if w == deg {
         return true;
     }
     if level::word_at(words, level::matrix_line(d, i), level::ROW) < w {
         return false;
     }
-    blocks_differ(words, s, i, p, d)
+    blocks_differ(words, s, i, p, near, d)
 }
 
 // Representation r of the level above level i, where p is the prime of generator i: its blocks, and all before it apart from it.
-fn stands_apart(words: &[u32], s: Scope, i: u32, p: u32, r: usize) -> bool
+fn stands_apart(words: &[u32], s: Scope, i: u32, p: u32, near: usize, r: usize) -> bool
     requires { ⌜ ((P : Presentation) × Formed P s (now words)) × (i < s .gens) × (r < length (levelAt (s .gens) (now words) (i + 1))) ⌝ }
     ensures { λ b. ⌜ Stands s (now (words .entry)) i p r b ⌝ }
 {
     let e = seek::found(words, s, i + 1, r);
-    if !own(words, s, i, p, e) {
+    if !own(words, s, i, p, near, e) {
         return false;
     }
-    let w = first_width(words, s, i, e);
+    let w = first_width(words, s, i, near, e);
     earlier_apart(words, s, i, w == e.deg, e, r)
 }
 
@@ -188,9 +189,10 @@ fn pairs_apart(words: &[u32], s: Scope, i: u32, p: u32) -> bool
     requires { ⌜ ((P : Presentation) × Formed P s (now words)) × (i < s .gens) ⌝ }
     ensures { λ r. ⌜ LevelSeparated s (now (words .entry)) i p r ⌝ }
 {
+    let near = seek::start_of(words, s, i);
     let reps = seek::count_of(words, s, i + 1);
     for r in 0..reps {
-        if !stands_apart(words, s, i, p, r) {
+        if !stands_apart(words, s, i, p, near, r) {
             return false;
         }
     }
@@ -202,11 +204,12 @@ fn all_own(words: &[u32], s: Scope, i: u32, p: u32) -> bool
     requires { ⌜ ((P : Presentation) × Formed P s (now words)) × (i < s .gens) ⌝ }
     ensures { λ r. ⌜ AllOwn s (now (words .entry)) i p r ⌝ }
 {
+    let near = seek::start_of(words, s, i);
     let reps = seek::count_of(words, s, i + 1);
     let mut d = seek::found(words, s, i + 1, 0);
     let mut r: usize = 0;
     loop {
-        if !own(words, s, i, p, d) {
+        if !own(words, s, i, p, near, d) {
             return false;
         }
         r += 1;

@@ -2,3 +2,4 @@
 pub mod Kept
 pub mod Relations
 pub mod Intertwiners
+pub mod Single

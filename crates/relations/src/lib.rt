@@ -58,11 +58,15 @@ fn conjugated(words: &[u32], s: Scope, d: Listed, k: u32, w: &Row, c: u32) -> En
     level::moved(words, d, k, y, s.m)
 }
 
-// Generators k < j, whose word is w, commute on column c up to that word.
+// Generators k < j, whose word is w, commute on column c up to that word; where the degree is 1, the word has the exponent 0.
 fn commutator_at(words: &[u32], s: Scope, d: Listed, k: u32, j: u32, w: &Row, c: u32) -> bool
     requires { ⌜ Kept s (now words) d × (k < s .gens) × (j < s .gens) × (c < d .deg) ⌝ }
     ensures { λ r. ⌜ Decides (WordOf k j (now (w .entry))) (commutatorAtIn s (now (words .entry)) d k j c) r ⌝ }
 {
+    if d.deg == 1 {
+        let t = level::walked(words, d, w, level::up(k) + 1, Entry { row: c, exp: 0 }, s.m);
+        return t.exp == 0;
+    }
     let y = level::moved(words, d, j, Entry { row: c, exp: 0 }, s.m);
     let z = conjugated(words, s, d, k, w, c);
     same_entry(
@@ -71,7 +75,8 @@ fn commutator_at(words: &[u32], s: Scope, d: Listed, k: u32, j: u32, w: &Row, c:
     )
 }
 
-// The intertwiner of generator j, which leads from d to e of the same degree, and generator k < j, at column c.
+// The intertwiner of generator j, which leads from d to e of the same degree, and generator k < j, at column c; where the degree
+// is 1, the conjugate of k has the exponent of k in e.
 pub fn intertwines_at(
     words: &[u32],
     s: Scope,
@@ -85,6 +90,11 @@ pub fn intertwines_at(
     requires { ⌜ Kept s (now words) d × Kept s (now words) e × (e .deg ≡ d .deg) × (k < s .gens) × (j < s .gens) × (c < d .deg) ⌝ }
     ensures { λ r. ⌜ Decides (WordOf k j (now (w .entry))) (carriesAtIn s (now (words .entry)) d e k j c) r ⌝ }
 {
+    if d.deg == 1 {
+        let t = conjugated(words, s, d, k, w, c);
+        let u = level::moved(words, e, k, Entry { row: c, exp: 0 }, s.m);
+        return t.exp == u.exp;
+    }
     let y = level::moved(words, d, j, Entry { row: c, exp: 0 }, s.m);
     let z = conjugated(words, s, d, k, w, c);
     same_entry(
@@ -154,8 +164,8 @@ fn commutator_relation(words: &[u32], rows: &Words, s: Scope, d: Listed, k: u32,
     requires { ⌜ Kept s (now words) d × (k < j) × (j < s .gens) ⌝ }
     ensures { λ r. ⌜ Decides (WordIn k j (now (rows .entry))) (commutatorIn s (now (words .entry)) d k j) r ⌝ }
 {
-    let w = rows::word(rows, level::up(j), level::up(k));
-    commutator_holds(words, s, d, k, j, &w)
+    let at = rows::pair(level::up(j), level::up(k));
+    commutator_holds(words, s, d, k, j, &rows[at])
 }
 
 // The relations of generator j with those below it.
@@ -192,8 +202,8 @@ fn carried(words: &[u32], rows: &Words, s: Scope, d: Listed, e: Listed, k: u32, 
     requires { ⌜ Kept s (now words) d × Kept s (now words) e × (e .deg ≡ d .deg) × (k < j) × (j < s .gens) ⌝ }
     ensures { λ r. ⌜ Decides (WordIn k j (now (rows .entry))) (carriesIn s (now (words .entry)) d e k j) r ⌝ }
 {
-    let w = rows::word(rows, level::up(j), level::up(k));
-    carries_over(words, s, d, e, k, j, &w)
+    let at = rows::pair(level::up(j), level::up(k));
+    carries_over(words, s, d, e, k, j, &rows[at])
 }
 
 // The same for every generator of level i.
@@ -214,7 +224,7 @@ fn led_to(words: &[u32], s: Scope, i: u32, d: Listed, j: u32) -> Listed
     requires { ⌜ Among s (now words) i d × (i ≤ j) × (j < s .gens) ⌝ }
     ensures { λ e. ⌜ Found (s .gens) (now (words .entry)) i (targetIn (now (words .entry)) d j) e ⌝ }
 {
-    seek::found(words, s, i, level::up(level::target(words, d, j)))
+    seek::found_near(words, s, i, level::up(level::target(words, d, j)), d.line)
 }
 
 // The intertwiner of generator j intertwines d, of level i, with the representation to which it leads.

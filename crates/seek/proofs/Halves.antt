@@ -4,6 +4,7 @@
 --   Halved lo hi                      the place that is sought is between lo and hi
 --   halved-low, halved-high           one half is left out
 --   halved-all                        nothing is left between
+--   split-first, split-behind         a line that is not before, at the start or behind one that is
 --   before-first, behind-first, before-second     the test of a line
 use mathlib.Core.Path.{_≡_, sym, _∙_, ap, ap₂, subst}
 use mathlib.Core.Bool.{true, false, _&&_, _||_, false≢true}
@@ -56,6 +57,30 @@ module _ (T : List ℕ) (i r : ℕ) where
       let b = H .between (S .at) (S .is) in
       let e : S .at ≡ lo = omega (arith, b) in
       subst (Split T i r) e (S .is)
+
+  -- ---- A guess
+
+  no-later : (S : Splits T i r) (x : ℕ) → before T i r x ≡ false → S .at ≤ x
+  no-later S x h = go (decLt x (S .at))
+    where
+      go : Dec (x < S .at) → S .at ≤ x
+      go (yes k) = absurd (false≢true (sym h ∙ S .is .low x k))
+      go (no k) = omega arith
+
+  is-later : (S : Splits T i r) (x : ℕ) → x < lineCount T → before T i r x ≡ true → x < S .at
+  is-later S x l h = go (decLt x (S .at))
+    where
+      go : Dec (x < S .at) → x < S .at
+      go (yes k) = k
+      go (no k) = absurd (false≢true (sym (S .is .high x (omega arith) l) ∙ h))
+
+  pub split-first : (x : ℕ) → Splits T i r → before T i r x ≡ false → x ≡ 0 → Split T i r x
+  split-first x S h e = let z : S .at ≡ x = omega (arith, no-later S x h) in subst (Split T i r) z (S .is)
+
+  pub split-behind : (x k : ℕ) → Splits T i r → x < lineCount T → before T i r x ≡ false → k < x → x ≤ k + 1 → before T i r k ≡ true → Split T i r x
+  split-behind x k S l h a b t =
+      let z : S .at ≡ x = omega (arith, no-later S x h, is-later S k (omega arith) t) in
+      subst (Split T i r) z (S .is)
 
   -- ---- The test
 

@@ -27,8 +27,8 @@ word-at-requires c κs =
 up-requires-2 : tie.Need-up-requires-2
 up-requires-2 c κs = search needs
 
-found-requires : tie.Need-found-requires
-found-requires c κs =
+found-near-requires : tie.Need-found-near-requires
+found-near-requires c κs =
     let w = c .before in
     let u = w .before .before in
     let z = u .before .before in
@@ -46,9 +46,9 @@ returns c =
     let z = u .before .before in
     let a = z .args in
     let line = ap (λ x. a .d .line + x) (u .up .ensures) in
-    whole-refers (z .pre .0) (a .o) (z .pre .3) (v .up2 .result) _ (v .up2 .ensures ∙ w .word-at .ensures) line (c .found .ensures)
+    whole-refers (z .pre .0) (a .o) (z .pre .3) (v .up2 .result) _ (v .up2 .ensures ∙ w .word-at .ensures) line (c .found-near .ensures)
 
 pub block-at-spec : {M : Type 1} → statement M
 block-at-spec =
     tie.close
-    (tie.spec up-requires add-word-at word-at-requires up-requires-2 found-requires returns)
+    (tie.spec up-requires add-word-at word-at-requires up-requires-2 found-near-requires returns)

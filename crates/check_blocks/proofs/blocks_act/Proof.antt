@@ -8,10 +8,10 @@ use Rattle.check_blocks.proofs.blocks_act.Statement.{statement}
 use Rattle.check_blocks.proofs.blocks_act.Tie as tie
 
 abbrev Inv-loop : tie.InvT-loop
-Inv-loop words s i d o₀ o = Going s words i d o
+Inv-loop words s i near d o₀ o = Going s words i d o
 
 abbrev μ-loop : tie.MeasureT-loop
-μ-loop words s i d o₀ o = d .deg - o
+μ-loop words s i near d o₀ o = d .deg - o
 
 loop-holds : tie.Need-loop-holds Inv-loop μ-loop
 loop-holds c = let a = c .before .args in going-none (a .s) (now (a .words)) (a .i) (a .d)

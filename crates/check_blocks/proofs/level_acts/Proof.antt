@@ -17,31 +17,34 @@ use Rattle.check_blocks.proofs.level_acts.Tie as tie
 
 -- the count of the level is known
 abbrev Inv-loop : tie.InvT-loop
-Inv-loop words s i reps d₀ r₀ d r =
+Inv-loop words s i near reps d₀ r₀ d r =
     Found (s .gens) words (suc i) r d × PassingOn s words (Holding s words) (asks s words) (suc i) r × (reps ≡ length (levelAt (s .gens) words (suc i)))
 
 abbrev μ-loop : tie.MeasureT-loop
-μ-loop words s i reps d₀ r₀ d r = reps - r
+μ-loop words s i near reps d₀ r₀ d r = reps - r
+
+start-of-requires : tie.Need-start-of-requires Inv-loop μ-loop
+start-of-requires c κs = let p = c .before .pre in (p .0 .1 .whole, omega (arith, p .2))
 
 add-count-of : tie.Need-add-count-of Inv-loop μ-loop
 add-count-of c = omega arith
 
 count-of-requires : tie.Need-count-of-requires Inv-loop μ-loop
-count-of-requires c κs = let p = c .before .pre in (p .0 .1 .whole, omega (arith, p .2))
+count-of-requires c κs = let p = c .before .before .pre in (p .0 .1 .whole, omega (arith, p .2))
 
 add-found : tie.Need-add-found Inv-loop μ-loop
 add-found c = omega arith
 
 found-requires : tie.Need-found-requires Inv-loop μ-loop
 found-requires c κs =
-    let z = c .before .before in
+    let z = c .before .before .before in
     let ((P, formed), l, h) = z .pre in
     let W = formed .whole in
     (W, omega arith, omega arith, whole-some (z .args .s) (now (z .args .words)) W (z .args .i + 1) (omega arith) (omega arith))
 
 loop-holds : tie.Need-loop-holds Inv-loop μ-loop
 loop-holds c =
-    let z = c .before .before .before in
+    let z = c .before .before .before .before in
     let a = z .args in
     let e = add-one (a .i) in (
       subst (λ i. Found (a .s .gens) (now (a .words)) i 0 (c .found .result)) e (c .found .ensures),
@@ -51,14 +54,14 @@ loop-holds c =
 
 blocks-act-requires : tie.Need-blocks-act-requires Inv-loop μ-loop
 blocks-act-requires c κs =
-    let z = c .before .before .before .before in
+    let z = c .before .before .before .before .before in
     let (P, formed) = z .pre .0 in
     (record { P = P; formed = formed; r = c .loop .r; found = c .loop .inv .0 }, z .pre .1)
 
 returns : tie.Need-returns Inv-loop μ-loop
 returns c =
     let l = c .before .before in
-    let a = l .before .before .before .before .args in
+    let a = l .before .before .before .before .before .args in
     let t = c .before .blocks-act in
     let (F, passed, n) = l .loop .inv in
     let T = now (a .words) in
@@ -71,7 +74,7 @@ returns-2 : tie.Need-returns-2 Inv-loop μ-loop
 returns-2 c =
     let o = c .before in
     let l = o .before .before in
-    let a = l .before .before .before .before .args in
+    let a = l .before .before .before .before .before .args in
     let t = o .before .blocks-act in
     let (F, passed, n) = l .loop .inv in
     let T = now (a .words) in
@@ -82,7 +85,7 @@ returns-2 c =
 following-requires : tie.Need-following-requires Inv-loop μ-loop
 following-requires c κs =
     let l = c .before .before .before in
-    let z = l .before .before .before .before in
+    let z = l .before .before .before .before .before in
     let (F, passed, n) = l .loop .inv in
     (z .pre .0 .1 .whole, record { i = suc (z .args .i); r = l .loop .r; here = F; more = omega (arith, F .listed, c .if2 .left, n) })
 
@@ -93,7 +96,7 @@ loop-again : tie.Need-loop-again Inv-loop μ-loop
 loop-again c =
     let o = c .before .before in
     let l = o .before .before in
-    let a = l .before .before .before .before .args in
+    let a = l .before .before .before .before .before .args in
     let T = now (a .words) in
     let t = o .before .blocks-act in
     let r = l .loop .r in
@@ -111,6 +114,7 @@ level-acts-spec =
     (tie.spec
     Inv-loop
     μ-loop
+    start-of-requires
     add-count-of
     count-of-requires
     add-found

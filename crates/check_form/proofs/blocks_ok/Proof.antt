@@ -12,11 +12,11 @@ use Rattle.check_form.proofs.blocks_ok.Statement.{statement}
 use Rattle.check_form.proofs.blocks_ok.Tie as tie
 
 abbrev Inv-loop : tie.InvT-loop
-Inv-loop words s i low d o₀ o =
+Inv-loop words s i low near d o₀ o =
     Cutting (levelAt (s .gens) words i) (listedRep words d) (wholeBlock (levelAt (s .gens) words i) (listedRep words d)) o
 
 abbrev μ-loop : tie.MeasureT-loop
-μ-loop words s i low d o₀ o = d .deg - o
+μ-loop words s i low near d o₀ o = d .deg - o
 
 loop-holds : tie.Need-loop-holds Inv-loop μ-loop
 loop-holds c =

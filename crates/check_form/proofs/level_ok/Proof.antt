@@ -12,41 +12,44 @@ use Rattle.check_form.proofs.level_ok.Statement.{statement}
 use Rattle.check_form.proofs.level_ok.Tie as tie
 
 abbrev Inv-loop : tie.InvT-loop
-Inv-loop words s i low many last d₀ r₀ d r = (r ≤ last) × Reading s words i r d
+Inv-loop words s i low many last near d₀ r₀ d r = (r ≤ last) × Reading s words i r d
 
 abbrev μ-loop : tie.MeasureT-loop
-μ-loop words s i low many last d₀ r₀ d r = last - r
+μ-loop words s i low many last near d₀ r₀ d r = last - r
 
 sub-last : tie.Need-sub-last Inv-loop μ-loop
 sub-last c =
     let a = c .before in
     omega (arith, over-some (a .args .s) (now (a .args .words)) (a .pre .0 .whole) (a .args .i) (a .args .many) (a .pre .1))
 
+start-of-requires : tie.Need-start-of-requires Inv-loop μ-loop
+start-of-requires c κs = let a = c .before in (a .pre .0 .whole, a .pre .0 .level)
+
 add-found : tie.Need-add-found Inv-loop μ-loop
 add-found c =
-    let a = c .before in
+    let a = c .before .before in
     omega (arith, a .pre .1 .level, a .pre .0 .whole .few)
 
 found-requires : tie.Need-found-requires Inv-loop μ-loop
 found-requires c κs =
-    let a = c .before in
+    let a = c .before .before in
     let T = now (a .args .words) in
     (a .pre .0 .whole, omega arith, omega (arith, a .pre .1 .level), over-there (a .args .s) T (a .pre .0 .whole) (a .args .i) (a .args .many) (a .pre .1))
 
 loop-holds : tie.Need-loop-holds Inv-loop μ-loop
 loop-holds c =
-    let a = c .before .before in
+    let a = c .before .before .before in
     (omega arith, reading-first (a .args .s) (now (a .args .words)) (a .args .i) (c .found .result) (c .found .ensures))
 
 rep-ok-requires : tie.Need-rep-ok-requires Inv-loop μ-loop
 rep-ok-requires c κs =
-    let a = c .before .before .before .before in
+    let a = c .before .before .before .before .before in
     (a .pre .0, a .pre .1, reading-fits (a .args .s) (now (a .args .words)) (a .args .i) (c .before .loop .inv .1))
 
 returns : tie.Need-returns Inv-loop μ-loop
 returns c =
     let k = c .before .before .before in
-    let a = k .before .before .before in
+    let a = k .before .before .before .before in
     let rep-ok = c .before .rep-ok in
     let T = now (a .args .words) in
     reading-fails (a .args .s) T (a .args .i) (k .loop .inv .1) (sym (rep-ok .ensures) ∙ not-true (rep-ok .result) (c .if1 .taken))
@@ -54,7 +57,7 @@ returns c =
 following-requires : tie.Need-following-requires Inv-loop μ-loop
 following-requires c κs =
     let k = c .before .before .before in
-    let a = k .before .before .before in
+    let a = k .before .before .before .before in
     let T = now (a .args .words) in
     (a .pre .0 .whole, reading-follows (a .args .s) T (a .args .i) (k .loop .inv .1) (omega (arith, a .pre .1 .counts, c .before .before .loop-test .taken)))
 
@@ -67,7 +70,7 @@ loop-less c = omega arith
 loop-again : tie.Need-loop-again Inv-loop μ-loop
 loop-again c =
     let k = c .before .before .before in
-    let a = k .before .before .before .before in
+    let a = k .before .before .before .before .before in
     let rep-ok = c .before .before .rep-ok in
     let loop = k .before .loop in
     let T = now (a .args .words) in
@@ -80,12 +83,12 @@ loop-again c =
 
 rep-ok-requires-2 : tie.Need-rep-ok-requires-2 Inv-loop μ-loop
 rep-ok-requires-2 c κs =
-    let a = c .before .before .before .before in
+    let a = c .before .before .before .before .before in
     (a .pre .0, a .pre .1, reading-fits (a .args .s) (now (a .args .words)) (a .args .i) (c .before .loop .inv .1))
 
 returns-2 : tie.Need-returns-2 Inv-loop μ-loop
 returns-2 c =
-    let a = c .before .before .before .before .before in
+    let a = c .before .before .before .before .before .before in
     let loop = c .before .before .loop in
     let T = now (a .args .words) in
     let some = over-some (a .args .s) T (a .pre .0 .whole) (a .args .i) (a .args .many) (a .pre .1) in
@@ -99,6 +102,7 @@ level-ok-spec =
     Inv-loop
     μ-loop
     sub-last
+    start-of-requires
     add-found
     found-requires
     loop-holds

@@ -15,23 +15,26 @@ use Rattle.check_pairs.proofs.all_own.Statement.{statement}
 use Rattle.check_pairs.proofs.all_own.Tie as tie
 
 abbrev Inv-loop : tie.InvT-loop
-Inv-loop words s i p reps d₀ r₀ d r = Found (s .gens) words (i + 1) r d × Owning s words i p r × (reps ≡ length (levelAt (s .gens) words (i + 1)))
+Inv-loop words s i p near reps d₀ r₀ d r = Found (s .gens) words (i + 1) r d × Owning s words i p r × (reps ≡ length (levelAt (s .gens) words (i + 1)))
 
 abbrev μ-loop : tie.MeasureT-loop
-μ-loop words s i p reps d₀ r₀ d r = reps - r
+μ-loop words s i p near reps d₀ r₀ d r = reps - r
+
+start-of-requires : tie.Need-start-of-requires Inv-loop μ-loop
+start-of-requires c κs = let (F, l) = c .before .pre in (F .1 .whole, omega (arith, l))
 
 add-count-of : tie.Need-add-count-of Inv-loop μ-loop
-add-count-of c = let z = c .before in omega (arith, z .pre .1, z .pre .0 .1 .whole .few)
+add-count-of c = let z = c .before .before in omega (arith, z .pre .1, z .pre .0 .1 .whole .few)
 
 count-of-requires : tie.Need-count-of-requires Inv-loop μ-loop
-count-of-requires c κs = let (F, l) = c .before .pre in (F .1 .whole, omega (arith, l))
+count-of-requires c κs = let (F, l) = c .before .before .pre in (F .1 .whole, omega (arith, l))
 
 add-found : tie.Need-add-found Inv-loop μ-loop
-add-found c = let z = c .before .before in omega (arith, z .pre .1, z .pre .0 .1 .whole .few)
+add-found c = let z = c .before .before .before in omega (arith, z .pre .1, z .pre .0 .1 .whole .few)
 
 found-requires : tie.Need-found-requires Inv-loop μ-loop
 found-requires c κs =
-    let z = c .before .before in
+    let z = c .before .before .before in
     let ((P, formed), l) = z .pre in
     let W = formed .whole in
     (W, omega arith, omega arith, whole-some (z .args .s) (now (z .args .words)) W (z .args .i + 1) (omega arith) (omega arith))
@@ -41,14 +44,14 @@ loop-holds c = (c .found .ensures, passed-none, c .before .count-of .ensures)
 
 own-requires : tie.Need-own-requires Inv-loop μ-loop
 own-requires c κs =
-    let z = c .before .before .before .before in
+    let z = c .before .before .before .before .before in
     let ((P, formed), l) = z .pre in
     (c .loop .r, found-placed formed l (c .loop .inv .0))
 
 returns : tie.Need-returns Inv-loop μ-loop
 returns c =
     let l = c .before .before in
-    let z = l .before .before .before .before in
+    let z = l .before .before .before .before .before in
     let t = c .before .own in
     let (F, owning, n) = l .loop .inv in
     owns-fails (z .args .s) (now (z .args .words)) (z .args .i) (z .args .p) owning (F .listed) (own-told (z .pre .1) F (t .ensures))
@@ -61,7 +64,7 @@ returns-2 : tie.Need-returns-2 Inv-loop μ-loop
 returns-2 c =
     let o = c .before in
     let l = o .before .before in
-    let z = l .before .before .before .before in
+    let z = l .before .before .before .before .before in
     let t = o .before .own in
     let (F, owning, n) = l .loop .inv in
     owns-all (z .args .s) (now (z .args .words)) (z .args .i) (z .args .p)
@@ -70,7 +73,7 @@ returns-2 c =
 following-requires : tie.Need-following-requires Inv-loop μ-loop
 following-requires c κs =
     let l = c .before .before .before in
-    let z = l .before .before .before .before in
+    let z = l .before .before .before .before .before in
     let (F, owning, n) = l .loop .inv in
     (z .pre .0 .1 .whole, record { i = z .args .i + 1; r = l .loop .r; here = F; more = omega (arith, F .listed, c .if2 .left, n) })
 
@@ -81,7 +84,7 @@ loop-again : tie.Need-loop-again Inv-loop μ-loop
 loop-again c =
     let o = c .before .before in
     let l = o .before .before in
-    let z = l .before .before .before .before in
+    let z = l .before .before .before .before .before in
     let a = z .args in
     let t = o .before .own in
     let r = l .loop .r in
@@ -98,6 +101,7 @@ all-own-spec =
     (tie.spec
     Inv-loop
     μ-loop
+    start-of-requires
     add-count-of
     count-of-requires
     add-found

@@ -9,10 +9,10 @@ use Rattle.check_pairs.proofs.blocks_differ.Statement.{statement}
 use Rattle.check_pairs.proofs.blocks_differ.Tie as tie
 
 abbrev Inv-loop : tie.InvT-loop
-Inv-loop words s i p d deg o₀ count₀ o count = Walked (levelAt (s .gens) words i) (repIn words d) o count
+Inv-loop words s i p near d deg o₀ count₀ o count = Walked (levelAt (s .gens) words i) (repIn words d) o count
 
 abbrev μ-loop : tie.MeasureT-loop
-μ-loop words s i p d deg o₀ count₀ o count = deg - o
+μ-loop words s i p near d deg o₀ count₀ o count = deg - o
 
 loop-holds : tie.Need-loop-holds Inv-loop μ-loop
 loop-holds c = line-none (c .before .pre .1)

@@ -8,6 +8,7 @@ use lib.ListN.{length}
 use borrow.Author.Needs.{needs}
 use borrow.Author.Tests.{not-false}
 use denote.Ref.{now}
+use Rattle.definitions.specs.Presentation.{maxOrder}
 use Rattle.definitions.specs.Table.{levelAt}
 use Rattle.seek.specs.Seek.{Found}
 use Rattle.seek.proofs.Seek.{whole-some, found-fits, found-above}
@@ -18,7 +19,7 @@ use Rattle.claims.proofs.disjoint.Tie as tie
 abbrev Inv-loop : tie.InvT-loop
 Inv-loop words s i p part reps d₀ marks₀ slots₀ r₀ d marks slots r =
     Found (s .gens) words (suc i) r d × Claims i p part (levelAt (s .gens) words (suc i)) r marks slots
-    × (reps ≡ length (levelAt (s .gens) words (suc i))) × (length marks ≡ 4096) × (length slots ≡ 4096)
+    × (reps ≡ length (levelAt (s .gens) words (suc i))) × (length marks ≡ maxOrder) × (length slots ≡ maxOrder)
 
 abbrev μ-loop : tie.MeasureT-loop
 μ-loop words s i p part reps d₀ marks₀ slots₀ r₀ d marks slots r = reps - r

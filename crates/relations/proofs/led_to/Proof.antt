@@ -14,8 +14,8 @@ target-requires c κs = let z = c .before in (z .args .s .m, kept-stored (among-
 up-requires : tie.Need-up-requires
 up-requires c κs = search needs
 
-found-requires : tie.Need-found-requires
-found-requires c κs =
+found-near-requires : tie.Need-found-near-requires
+found-near-requires c κs =
     let t = c .before in
     let z = t .before .before in
     let (A, l, h) = z .pre in
@@ -27,7 +27,7 @@ returns c =
     let t = c .before .before in
     let a = t .before .before .args in
     let is = c .before .up .ensures ∙ t .target .ensures in
-    subst (λ r. Found (a .s .gens) (now (a .words)) (a .i) r (c .found .result)) is (c .found .ensures)
+    subst (λ r. Found (a .s .gens) (now (a .words)) (a .i) r (c .found-near .result)) is (c .found-near .ensures)
 
 pub led-to-spec : {M : Type 1} → statement M
-led-to-spec = tie.close (tie.spec target-requires up-requires found-requires returns)
+led-to-spec = tie.close (tie.spec target-requires up-requires found-near-requires returns)

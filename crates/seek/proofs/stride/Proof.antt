@@ -1,0 +1,36 @@
+-- `stride`: a product of numbers within the ceilings.
+use mathlib.Core.Path.{_≡_, ap₂}
+use Prim.Native.Nat.{_*_, _≤_}
+use native.Mathlib.Nat.{mul-le-mul}
+use native.Mathlib.Omega.{arith}
+use borrow.Author.Needs.{needs}
+use Rattle.definitions.specs.Presentation.{maxGenerators, maxOrder}
+use Rattle.seek.proofs.stride.Statement.{statement}
+use Rattle.seek.proofs.stride.Tie as tie
+
+up-requires : tie.Need-up-requires
+up-requires c κs = search needs
+
+returns : tie.Need-returns
+returns c = search needs
+
+up-requires-2 : tie.Need-up-requires-2
+up-requires-2 c κs = search needs
+
+up-requires-3 : tie.Need-up-requires-3
+up-requires-3 c κs = search needs
+
+mul-result : tie.Need-mul-result
+mul-result c =
+    let g : c .before .up2 .result ≤ maxGenerators = omega arith in
+    let d : c .up3 .result ≤ maxOrder = omega arith in
+    omega (arith, mul-le-mul g d)
+
+returns-2 : tie.Need-returns-2
+returns-2 c =
+    let g : c .before .up2 .result ≤ maxGenerators = omega arith in
+    let d : c .up3 .result ≤ maxOrder = omega arith in
+    mul-le-mul g d
+
+pub stride-spec : {M : Type 1} → statement M
+stride-spec = tie.close (tie.spec up-requires returns up-requires-2 up-requires-3 mul-result returns-2)
