@@ -1,6 +1,7 @@
 -- From the answers of the phases to the number of the judgement.
 --
 --   found-22, found-22-top, found-23, found-24, found-25, found-26, found-none     the answers behind 21
+--   found-fitting                                                                 a yes of the quick test
 --   found-21, sorted-of, found-formed                                             21, and what is known where it does not apply
 use mathlib.Core.Path.{_≡_, sym, _∙_, ap, subst}
 use mathlib.Core.Bool.{Bool, true, false, not}
@@ -27,6 +28,7 @@ use Rattle.check_form.specs.Form.{TellsForm}
 use Rattle.check_form.proofs.Form as form
 use Rattle.check_blocks.specs.Squares.{AddsUp}
 use Rattle.check_pairs.specs.Pairs.{PrimesOf, Separated}
+use Rattle.check_fit.specs.Fit.{Passes}
 use Rattle.checker.specs.Judged.{Task, Judged, Sorted, JudgedFormed}
 
 -- ---- Behind 21
@@ -108,6 +110,14 @@ module _ (T : List ℕ) {n m : ℕ} {rows : List (List ℕ)} {primes : List ℕ}
 
         form-ordered : Ordered (A .C .P) s orders
         form-ordered = form.ordered (A .C .P) s gens-are (λ j l. K .reads .p-is j (omega (arith, gens))) (subst (λ k. LevelOrders primes k orders) (sym gens) levels)
+
+      -- a yes of the quick test
+      pub found-fitting : Passes s rows primes orders T → Judged n m rows primes T 0
+      found-fitting F = record {
+        is = λ A K.
+            sym (ap (λ m. judgement (A .C .P) m T) (sym modulus)
+            ∙ F .is A (subst (λ k. Reads (A .C .P) k primes rows) (sym gens) (K .reads)) (form-ordered A K));
+      }
 
       pub found-21 : TellsForm s orders T false → Judged n m rows primes T 21
       found-21 F = record {

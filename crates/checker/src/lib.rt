@@ -1,5 +1,6 @@
-// The judgement of a table, whoever made it: the first of 21 to 26 that applies. The phases are asked in an order in which each
-// may use what those before it found; 23 comes before 22, since it tells which relations are enough.
+// The judgement of a table, whoever made it: the first of 21 to 26 that applies. A quick test comes first, whose yes means that
+// none does. Else the phases are asked, in an order in which each may use what those before it found; 23 comes before 22, since it
+// tells which relations are enough.
 //
 //   judge_formed     22 to 26, of a table to which 21 does not apply
 //   judge            21 to 26, of any words
@@ -46,6 +47,9 @@ pub fn judge(words: &[u32], rows: &Words, primes: &Row, n: u32, m: u32) -> u32
         m,
     };
     let orders = conditions::size::level_orders(primes, level::up(n));
+    if check_fit::fits(words, rows, primes, &orders, s) {
+        return 0;
+    }
     if !check_form::well_formed(words, &orders, s) {
         return 21;
     }

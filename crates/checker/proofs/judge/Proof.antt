@@ -1,7 +1,7 @@
--- `judge`: 21, then the others.
+-- `judge`: the quick test, then 21, then the others.
 use borrow.Author.Tests.{not-true, not-false}
 use borrow.Author.Needs.{needs}
-use mathlib.Core.Path.{refl, subst}
+use mathlib.Core.Path.{_≡_, refl, subst}
 use Prim.Native.Nat.{_/_}
 use native.Mathlib.Omega.{arith}
 use lib.ListN.{length}
@@ -9,7 +9,7 @@ use denote.Ref.{now}
 use Rattle.conditions.specs.Size.{LevelOrders}
 use Rattle.seek.specs.declared.Scope.{Scope}
 use Rattle.check_form.specs.Form.{TellsForm}
-use Rattle.checker.proofs.Phases.{counted-of, found-21, sorted-of, found-formed}
+use Rattle.checker.proofs.Phases.{counted-of, found-fitting, found-21, sorted-of, found-formed}
 use Rattle.checker.proofs.judge.Statement.{statement}
 use Rattle.checker.proofs.judge.Tie as tie
 
@@ -18,50 +18,87 @@ up-requires c κs = search needs
 
 level-orders-requires : tie.Need-level-orders-requires
 level-orders-requires c κs =
-    let (A, K) = c .before .before .pre in
+    let z = c .before .before in
+    let (A, K) = z .pre in
     (omega (arith, c .up .ensures, K .ready .few), λ j l. K .orders-fit j (omega (arith, l, c .up .ensures)))
 
-well-formed-requires : tie.Need-well-formed-requires
-well-formed-requires c κs =
+fits-requires : tie.Need-fits-requires
+fits-requires c κs =
     let z = c .before .before .before .before in
+    let a = z .args in
     let (A, K) = z .pre in
-    let s : Scope = record { lines = length (now (z .args .words)) / 8; gens = z .args .n; m = z .args .m } in
-    counted-of (now (z .args .words)) s refl refl refl A K
+    let s : Scope = record { lines = length (now (a .words)) / 8; gens = a .n; m = a .m } in
+    (counted-of (now (a .words)) s refl refl refl A K, K .modulus .0, omega (arith, K .modulus .1))
 
 returns : tie.Need-returns
 returns c =
-    let o = c .before .before .before in
-    let t = c .before .well-formed in
-    let z = o .before .before .before in
-    let T = now (z .args .words) in
-    let s : Scope = record { lines = length T / 8; gens = z .args .n; m = z .args .m } in
-    let levels = subst (λ k. LevelOrders (now (z .args .primes)) k (o .level-orders .result)) (o .before .up .ensures) (o .level-orders .ensures) in
-    found-21 T s refl refl refl levels (subst (TellsForm s (o .level-orders .result) T) (not-true (t .result) (c .if1 .taken)) (t .ensures))
+    let at-fits2 = c .before in
+    let at-level-orders = at-fits2 .before .before in
+    let at-up = at-level-orders .before in
+    let z = at-up .before .before in
+    let a = z .args in
+    let s : Scope = record { lines = length (now (a .words)) / 8; gens = a .n; m = a .m } in
+    let levels = subst (λ k. LevelOrders (now (a .primes)) k (at-level-orders .level-orders .result)) (at-up .up .ensures) (at-level-orders .level-orders .ensures) in
+    found-fitting (now (a .words)) s refl refl refl levels (at-fits2 .fits2 .ensures (c .if1 .taken))
 
-judge-formed-requires : tie.Need-judge-formed-requires
-judge-formed-requires c κs =
-    let b = c .before in
-    let o = b .before .before .before in
-    let t = b .before .well-formed in
-    let z = o .before .before .before in
+well-formed-requires : tie.Need-well-formed-requires
+well-formed-requires c κs =
+    let z = c .before .before .before .before .before .before .before in
+    let a = z .args in
     let (A, K) = z .pre in
-    let T = now (z .args .words) in
-    let s : Scope = record { lines = length T / 8; gens = z .args .n; m = z .args .m } in
-    let levels = subst (λ k. LevelOrders (now (z .args .primes)) k (o .level-orders .result)) (o .before .up .ensures) (o .level-orders .ensures) in
-    let F = subst (TellsForm s (o .level-orders .result) T) (not-false (t .result) (b .if1 .left)) (t .ensures) in
-    (A, sorted-of T s refl refl refl levels F A K)
+    let s : Scope = record { lines = length (now (a .words)) / 8; gens = a .n; m = a .m } in
+    counted-of (now (a .words)) s refl refl refl A K
 
 returns-2 : tie.Need-returns-2
 returns-2 c =
-    let b = c .before .before in
-    let o = b .before .before .before in
-    let t = b .before .well-formed in
-    let z = o .before .before .before in
-    let T = now (z .args .words) in
-    let s : Scope = record { lines = length T / 8; gens = z .args .n; m = z .args .m } in
-    let levels = subst (λ k. LevelOrders (now (z .args .primes)) k (o .level-orders .result)) (o .before .up .ensures) (o .level-orders .ensures) in
-    let F = subst (TellsForm s (o .level-orders .result) T) (not-false (t .result) (b .if1 .left)) (t .ensures) in
+    let at-well-formed = c .before in
+    let at-level-orders = at-well-formed .before .before .before .before .before in
+    let at-up = at-level-orders .before in
+    let z = at-up .before .before in
+    let a = z .args in
+    let T = now (a .words) in
+    let s : Scope = record { lines = length T / 8; gens = a .n; m = a .m } in
+    let levels = subst (λ k. LevelOrders (now (a .primes)) k (at-level-orders .level-orders .result)) (at-up .up .ensures) (at-level-orders .level-orders .ensures) in
+    found-21 T s refl refl refl levels (subst (TellsForm s (at-level-orders .level-orders .result) T) (not-true (at-well-formed .well-formed .result) (c .if2 .taken)) (at-well-formed .well-formed .ensures))
+
+judge-formed-requires : tie.Need-judge-formed-requires
+judge-formed-requires c κs =
+    let at-if2 = c .before in
+    let at-well-formed = at-if2 .before in
+    let at-level-orders = at-well-formed .before .before .before .before .before in
+    let at-up = at-level-orders .before in
+    let z = at-up .before .before in
+    let a = z .args in
+    let (A, K) = z .pre in
+    let T = now (a .words) in
+    let s : Scope = record { lines = length T / 8; gens = a .n; m = a .m } in
+    let levels = subst (λ k. LevelOrders (now (a .primes)) k (at-level-orders .level-orders .result)) (at-up .up .ensures) (at-level-orders .level-orders .ensures) in
+    let F = subst (TellsForm s (at-level-orders .level-orders .result) T) (not-false (at-well-formed .well-formed .result) (at-if2 .if2 .left)) (at-well-formed .well-formed .ensures) in
+    (A, sorted-of T s refl refl refl levels F A K)
+
+returns-3 : tie.Need-returns-3
+returns-3 c =
+    let at-if2 = c .before .before in
+    let at-well-formed = at-if2 .before in
+    let at-level-orders = at-well-formed .before .before .before .before .before in
+    let at-up = at-level-orders .before in
+    let z = at-up .before .before in
+    let a = z .args in
+    let T = now (a .words) in
+    let s : Scope = record { lines = length T / 8; gens = a .n; m = a .m } in
+    let levels = subst (λ k. LevelOrders (now (a .primes)) k (at-level-orders .level-orders .result)) (at-up .up .ensures) (at-level-orders .level-orders .ensures) in
+    let F = subst (TellsForm s (at-level-orders .level-orders .result) T) (not-false (at-well-formed .well-formed .result) (at-if2 .if2 .left)) (at-well-formed .well-formed .ensures) in
     found-formed T s refl refl refl levels F (c .judge-formed .ensures)
 
 pub judge-spec : {M : Type 1} → statement M
-judge-spec = tie.close (tie.spec up-requires level-orders-requires well-formed-requires returns judge-formed-requires returns-2)
+judge-spec =
+    tie.close
+    (tie.spec
+    up-requires
+    level-orders-requires
+    fits-requires
+    returns
+    well-formed-requires
+    returns-2
+    judge-formed-requires
+    returns-3)
