@@ -8,10 +8,12 @@
 //!     harness checks FILE..            the answer to the table that is built, and the time of its check beside that of its build
 //!     harness tables LINES..           so many lines written as table text and read back: the bytes, and the median times
 //!     harness bench FILE..             all calls on each text, nanoseconds a word
+//!     harness growth                   the same on groups of order 64 to 4,096
 //!     harness draw FILE                the character graph of a presentation text, as SVG
 //!
 //! Build: `cargo build --release --manifest-path harness/Cargo.toml`, which leaves it in target/cargo/release.
 
+mod bench;
 mod groups;
 mod naive;
 mod random;
@@ -21,7 +23,8 @@ mod times;
 
 use soak::Soak;
 
-const USAGE: &str = "usage: harness soak SECONDS [SEED] | rounds COUNT [SEED] | answers|times|builds|checks FILE.. | tables LINES..";
+const USAGE: &str =
+    "usage: harness soak SECONDS [SEED] | rounds COUNT [SEED] | answers|times|builds|checks|bench FILE.. | tables LINES.. | growth";
 
 /// A number among the arguments.
 fn number(argument: Option<&String>) -> Option<u64> {
@@ -47,6 +50,8 @@ fn main() {
         ("soak", Some(seconds)) => Soak::new(seed(rest.get(1))).run(seconds),
         ("rounds", Some(count)) => Soak::new(seed(rest.get(1))).rounds(count as usize),
         ("tables", _) => rest.iter().filter_map(|lines| lines.parse().ok()).for_each(times::tables),
+        ("bench", _) => bench::texts(rest),
+        ("growth", _) => bench::growth(),
         ("answers", _) => each(times::answers),
         ("times", _) => each(times::times),
         ("builds", _) => each(times::builds),
