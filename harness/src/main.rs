@@ -14,6 +14,7 @@
 //! Build: `cargo build --release --manifest-path harness/Cargo.toml`, which leaves it in target/cargo/release.
 
 mod bench;
+mod draw;
 mod groups;
 mod naive;
 mod random;
@@ -24,7 +25,7 @@ mod times;
 use soak::Soak;
 
 const USAGE: &str =
-    "usage: harness soak SECONDS [SEED] | rounds COUNT [SEED] | answers|times|builds|checks|bench FILE.. | tables LINES.. | growth";
+    "usage: harness soak SECONDS [SEED] | rounds COUNT [SEED] | answers|times|builds|checks|bench FILE.. | tables LINES.. | growth | draw FILE";
 
 /// A number among the arguments.
 fn number(argument: Option<&String>) -> Option<u64> {
@@ -35,6 +36,17 @@ fn number(argument: Option<&String>) -> Option<u64> {
 fn seed(argument: Option<&String>) -> u64 {
     let clock = std::time::UNIX_EPOCH.elapsed().map_or(1, |time| time.as_secs());
     number(argument).unwrap_or(clock)
+}
+
+/// Prints the picture of a text.
+fn drawn(text: &[u8], path: &str) {
+    match draw::picture(text) {
+        Ok(picture) => print!("{picture}"),
+        Err(refusal) => {
+            eprintln!("{path}: {refusal}");
+            std::process::exit(1);
+        }
+    }
 }
 
 fn main() {
@@ -52,6 +64,7 @@ fn main() {
         ("tables", _) => rest.iter().filter_map(|lines| lines.parse().ok()).for_each(times::tables),
         ("bench", _) => bench::texts(rest),
         ("growth", _) => bench::growth(),
+        ("draw", _) => each(drawn),
         ("answers", _) => each(times::answers),
         ("times", _) => each(times::times),
         ("builds", _) => each(times::builds),
