@@ -2,6 +2,7 @@
 #
 #   ChiefTablesText( G )             a record P: `gens`, generators along a chief series from the bottom up, `primes`, and
 #                                    `text`, the presentation text in them
+#   ChiefTablesGroup( text )         the pc group of a presentation text; its generators come from the top down
 #   ChiefTablesBuild( text )         the table text, made by the program `chieftables`
 #   ChiefTablesCheck( text, table )  nothing, if the table text is a table of the presentation text, whoever made it
 #   ChiefTablesRead( table )         a record: `order`, `generators`, and `levels`, for each level a list of representations,
@@ -113,6 +114,29 @@ ChiefTablesRun := function( call, texts )
     ErrorNoReturn( "chieftables: ", said );
   fi;
   return said;
+end;
+
+# The text is accepted first, so the constructor without checks is given what is consistent.
+ChiefTablesGroup := function( text )
+  local lines, n, free, primes, collector, word, line, i, j;
+  ChiefTablesRun( "accept", [ text ] );
+  lines := List( SplitString( text, "\n" ), line -> SplitString( line, " " ) );
+  n := Length( lines[1] ) - 3;
+  lines := List( lines{[ 2 .. Length( lines ) ]}, line -> List( line, Int ) );
+  primes := List( Filtered( lines, line -> line[1] = line[2] ), line -> line[3] );
+  free := FreeGroup( n );
+  collector := SingleCollector( free, Reversed( primes ) );
+  word := line -> Product( Reversed( [ 1 .. n ] ), k -> free.( n + 1 - k )^line[3+k], One( free ) );
+  for line in lines do
+    j := n + 1 - line[1];
+    i := n + 1 - line[2];
+    if i = j then
+      SetPower( collector, j, word( line ) );
+    else
+      SetConjugate( collector, i, j, free.( i ) * word( line ) );
+    fi;
+  od;
+  return GroupByRwsNC( collector );
 end;
 
 ChiefTablesBuild := function( text )

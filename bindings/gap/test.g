@@ -41,6 +41,11 @@ Expect( "a wrong exponent is 22", Refused( function() ChiefTablesCheck( s3, wron
 Expect( "no text is 11", Refused( function() ChiefTablesBuild( "" ); end ) = 11 );
 Expect( "a text that is not consistent is 15", Refused( function() ChiefTablesBuild( ReplacedString( s3, "0 1 0", "0 2 0" ) ); end ) = 15 );
 
+# The group of a text, and the text of that group.
+Expect( "the group of S3 is not abelian", Size( ChiefTablesGroup( s3 ) ) = 6 and not IsAbelian( ChiefTablesGroup( s3 ) ) );
+g128 := StringFile( "harness/data/g128.txt" );;
+Expect( "128 elements", Size( ChiefTablesGroup( g128 ) ) = 128 and ChiefTablesAgree( ChiefTablesGroup( g128 ) ) );
+
 # What is no refusal is an error all the same.
 Expect( "A4 is not supersolvable", Errs( function() ChiefTablesText( AlternatingGroup( 4 ) ); end ) );
 program := CHIEFTABLES.program;;
