@@ -3,13 +3,14 @@
     accept(text)              nothing, or raises Refusal
     measure(text)             the words that a build of the text wants
     build(text)               the Table of a presentation text
+    build_packed(text)        its words alone, as an array of 32-bit numbers
     check(text, words)        nothing, or raises Refusal: words as a table of the text, whoever made them
     read_table(text)          the words of a table text; what they say is not judged
     write_table(words)        the table text of words
     Table.checked(text, words)     a Table of words that pass
 
-A text is bytes, or a str of ASCII. A refusal is raised as Refusal, with its number and a sentence. Words are lists of numbers;
-Table.array and Representation.dense give NumPy arrays where NumPy is there.
+A text is bytes, or a str of ASCII. A refusal is raised as Refusal, with its number and a sentence. Words are lists of numbers, and
+calls take any sequence of them; an array("I") is handed over as it is, without a copy. Table.array and Representation.dense give NumPy arrays where NumPy is there.
 
 The library is a shared object, libchieftables.so, in target/staticlib, or the file that CHIEFTABLES_SO names. In the top folder
 of the repository these make it:
@@ -18,6 +19,7 @@ of the repository these make it:
     bindings/python/shared
 """
 
+import array
 import ctypes
 import os
 from collections import namedtuple
@@ -74,7 +76,8 @@ def _path():
 def _load():
     path = _path()
     if not os.path.exists(path):
-        raise LibraryMissing(f"{path} is missing: `rt staticlib chieftables`, then `bindings/python/shared` make it; CHIEFTABLES_SO names another file")
+        commands = "`rt staticlib chieftables`, then `bindings/python/shared` make it"
+        raise LibraryMissing(f"{path} is missing: {commands}; CHIEFTABLES_SO names another file")
     library = ctypes.CDLL(path)
     size, byte, word = ctypes.c_size_t, ctypes.POINTER(ctypes.c_uint8), ctypes.POINTER(ctypes.c_uint32)
     calls = {
@@ -110,6 +113,8 @@ def _bytes(text):
 
 def _words(words):
     """Words as what the library reads, and how many they are. A number that no word holds is refused as it would be in a table."""
+    if isinstance(words, array.array) and words.typecode == "I" and words:
+        return (ctypes.c_uint32 * len(words)).from_buffer(words), len(words)
     words = list(words)
     if any(not 0 <= word < 2**32 for word in words):
         raise Refusal(21)
@@ -138,10 +143,15 @@ def measure(text):
 
 def build(text):
     """The Table of the presentation text."""
+    return Table(build_packed(text))
+
+
+def build_packed(text):
+    """The words of the table of the presentation text, as array("I")."""
     wants = measure(text)
-    words = (ctypes.c_uint32 * wants)()
-    lines = _count(_call("build")(*_bytes(text), words, wants))
-    return Table(words[: LINE * lines])
+    words = array.array("I", bytes(4 * wants))
+    lines = _count(_call("build")(*_bytes(text), *_words(words)))
+    return words[: LINE * lines]
 
 
 def check(text, words):
@@ -152,7 +162,7 @@ def check(text, words):
 def read_table(text):
     """The words of a table text, as a list."""
     data, length = _bytes(text)
-    have = LINE * max(0, bytes(data[:length]).count(b"\n") - 1)
+    have = LINE * max(0, bytes(data)[:length].count(b"\n") - 1)
     words = (ctypes.c_uint32 * max(1, have))()
     lines = _count(_call("read_table")(data, length, words, have))
     return words[: LINE * lines]
@@ -163,7 +173,8 @@ def write_table(words):
     data, length = _words(words)
     room = _NAMES + _WIDEST * (length // LINE)
     out = (ctypes.c_uint8 * room)()
-    return bytes(out[: _count(_call("write_table")(data, length, out, room))])
+    count = _count(_call("write_table")(data, length, out, room))
+    return bytes(memoryview(out)[:count])
 
 
 Column = namedtuple("Column", "row exponent reference")

@@ -7,7 +7,7 @@ import sys
 import unittest
 
 sys.path.insert(0, os.path.dirname(os.path.abspath(__file__)))
-from chieftables import SENTENCES, Refusal, Table, accept, build, check, measure, read_table, write_table  # noqa: E402
+from chieftables import SENTENCES, Refusal, Table, accept, build, build_packed, check, measure, read_table, write_table  # noqa: E402
 
 try:
     import numpy
@@ -37,6 +37,10 @@ class Calls(unittest.TestCase):
         self.assertEqual(read_table(text), table.words)
         check(S3, table.words)
         self.assertEqual(Table.checked(S3, table.words).words, table.words)
+        packed = build_packed(S3)
+        check(S3, packed)
+        self.assertEqual(packed.tolist(), table.words)
+        self.assertEqual(write_table(packed), text)
 
     def test_views(self):
         table = build(S3)

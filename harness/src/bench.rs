@@ -1,9 +1,11 @@
 //! All calls on a text, and how their cost grows with the order. What is printed are tables in Markdown.
 //!
-//! A time is the median of at least eleven samples, of which each is as many calls as last a millisecond; it is divided by
+//! A time is the smallest of at least eleven samples, of which each is as many calls as last a millisecond; it is divided by
 //! the words of the table. The copy is that of `builds`.
 
-use crate::groups::{cyclic, dense};
+use crate::groups::{cyclic, grown};
+use crate::naive::Relations;
+use crate::random::Random;
 use crate::times::{copy, LINE};
 use chieftables::raw::{accept, build, check, measure, read_table, write_table};
 use std::hint::black_box;
@@ -13,8 +15,8 @@ const SAMPLE: Duration = Duration::from_millis(1);
 const SAMPLES: usize = 11;
 const ALL: Duration = Duration::from_millis(300);
 
-/// The median time of a call, in nanoseconds.
-fn median<T>(mut call: impl FnMut() -> T) -> f64 {
+/// The smallest time of a call, in nanoseconds.
+fn least<T>(mut call: impl FnMut() -> T) -> f64 {
     let mut lasts = |count: u32| {
         let start = Instant::now();
         for _ in 0..count {
@@ -31,8 +33,7 @@ fn median<T>(mut call: impl FnMut() -> T) -> f64 {
     while times.len() < SAMPLES || start.elapsed() < ALL {
         times.push(lasts(count).as_secs_f64() * 1e9 / f64::from(count));
     }
-    times.sort_by(f64::total_cmp);
-    times[times.len() / 2]
+    times.into_iter().fold(f64::INFINITY, f64::min)
 }
 
 /// The words of a text's table, and the time of each call in nanoseconds.
@@ -60,13 +61,13 @@ fn times(text: &[u8]) -> Option<Times> {
     let written = out[..bytes].to_vec();
     Some(Times {
         words: words.len(),
-        accept: median(|| accept(black_box(text))),
-        measure: median(|| measure(black_box(text))),
-        build: median(|| build(black_box(text), &mut buffer)),
-        check: median(|| check(black_box(text), black_box(&words))),
-        write: median(|| write_table(black_box(&words), &mut out)),
-        read: median(|| read_table(black_box(&written), &mut buffer)),
-        copy: median(|| copy(black_box(&words), black_box(0), black_box(0), black_box(u32::MAX), &mut buffer)),
+        accept: least(|| accept(black_box(text))),
+        measure: least(|| measure(black_box(text))),
+        build: least(|| build(black_box(text), &mut buffer)),
+        check: least(|| check(black_box(text), black_box(&words))),
+        write: least(|| write_table(black_box(&words), &mut out)),
+        read: least(|| read_table(black_box(&written), &mut buffer)),
+        copy: least(|| copy(black_box(&words), black_box(0), black_box(0), black_box(u32::MAX), &mut buffer)),
     })
 }
 
@@ -105,6 +106,13 @@ pub fn texts(paths: &[String]) {
         let name = path.rsplit('/').next().unwrap_or(path);
         line(&format!("`{name}`"), &std::fs::read(path).unwrap_or_default());
     }
+}
+
+/// A group of order 2^k in dense words, always the same: of sixteen taken at random the one with the fewest lines.
+fn dense(k: usize) -> Relations {
+    let lines = |relations: &Relations| build(&relations.text(), &mut vec![0; relations.wants()]).count;
+    let groups = (0..16).map(|seed| grown(&mut Random::new(seed), &vec![2; k]));
+    groups.min_by_key(lines).expect("there are sixteen")
 }
 
 /// All calls on groups of order 2^k, from 64 to 4,096: the cyclic ones, and ones of dense words.

@@ -2,7 +2,8 @@
 //!
 //!   shapes            every presentation of at most three generators and order at most 27 that 11 to 14 allow
 //!   random_group      a consistent presentation of order at most a bound, written in generators taken at random
-//!   cyclic, dense     groups of order 2^k: cyclic, and one of dense words that is always the same
+//!   cyclic            the cyclic group of order 2^k
+//!   grown             a consistent presentation of given primes
 //!   random_words      a presentation of given primes whose words are taken at random: seldom consistent
 
 use crate::naive::cayley::Cayley;
@@ -110,12 +111,6 @@ pub fn cyclic(k: usize) -> Relations {
     relations
 }
 
-pub fn dense(k: usize) -> Relations {
-    let mut random = Random::new(k as u64);
-    let primes = vec![2; k];
-    grown(&mut random, &primes)
-}
-
 pub fn random_group(random: &mut Random, bound: usize) -> Relations {
     let primes = random_primes(random, bound);
     grown(random, &primes)
@@ -123,7 +118,7 @@ pub fn random_group(random: &mut Random, bound: usize) -> Relations {
 
 /// Level by level: a generator whose words are taken at random and fit, or one that acts as an element of the level does, or
 /// one that commutes with all.
-fn grown(random: &mut Random, primes: &[u32]) -> Relations {
+pub fn grown(random: &mut Random, primes: &[u32]) -> Relations {
     let mut table = Cayley::trivial();
     for (j, &p) in primes.iter().enumerate() {
         table = level(random, &table, primes, j).unwrap_or_else(|| table.extended(p, &vec![vec![0; j]; j + 1]).expect("a direct factor"));

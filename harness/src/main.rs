@@ -9,6 +9,7 @@
 //!     harness tables LINES..           so many lines written as table text and read back: the bytes, and the median times
 //!     harness bench FILE..             all calls on each text, nanoseconds a word
 //!     harness growth                   the same on groups of order 64 to 4,096
+//!     harness groups FOLDER COUNT ORDER [SEED]    so many presentation texts of at most that order, taken at random, in a folder
 //!     harness draw FILE                the character graph of a presentation text, as SVG
 //!
 //! Build: `cargo build --release --manifest-path harness/Cargo.toml`, which leaves it in target/cargo/release.
@@ -22,10 +23,11 @@ mod soak;
 mod tables;
 mod times;
 
+use random::Random;
 use soak::Soak;
 
 const USAGE: &str =
-    "usage: harness soak SECONDS [SEED] | rounds COUNT [SEED] | answers|times|builds|checks|bench FILE.. | tables LINES.. | growth | draw FILE";
+    "usage: harness soak SECONDS [SEED] | rounds COUNT [SEED] | answers|times|builds|checks|bench FILE.. | tables LINES.. | growth | groups FOLDER COUNT ORDER [SEED] | draw FILE";
 
 /// A number among the arguments.
 fn number(argument: Option<&String>) -> Option<u64> {
@@ -49,6 +51,17 @@ fn drawn(text: &[u8], path: &str) {
     }
 }
 
+/// Writes presentation texts into a folder, one file each.
+fn written(arguments: &[String]) {
+    let (folder, count, order) = (&arguments[0], number(arguments.get(1)).unwrap_or(0), number(arguments.get(2)).unwrap_or(64));
+    let mut random = Random::new(seed(arguments.get(3)));
+    std::fs::create_dir_all(folder).expect("the folder can be made");
+    for k in 0..count {
+        let text = groups::random_group(&mut random, order as usize).text();
+        std::fs::write(format!("{folder}/{k:06}.txt"), text).expect("the file can be written");
+    }
+}
+
 fn main() {
     let arguments: Vec<String> = std::env::args().skip(1).collect();
     let command = arguments.first().map_or("", String::as_str);
@@ -64,6 +77,7 @@ fn main() {
         ("tables", _) => rest.iter().filter_map(|lines| lines.parse().ok()).for_each(times::tables),
         ("bench", _) => bench::texts(rest),
         ("growth", _) => bench::growth(),
+        ("groups", _) if rest.len() >= 3 => written(rest),
         ("draw", _) => each(drawn),
         ("answers", _) => each(times::answers),
         ("times", _) => each(times::times),
