@@ -15,9 +15,11 @@ use crate::tables::{damaged, instead, other_basis};
 use chieftables::raw;
 use std::time::{Duration, Instant};
 
-/// Up to this order the naive check is asked, and up to this one the naive build at every text.
+/// Up to this order the naive check is asked, up to this one the naive build at every text, and up to this one tables in other
+/// bases are checked, which pass.
 const JUDGED: usize = 64;
 const BUILT: usize = 256;
+const TURNED: usize = 1024;
 
 const FAMILIES: [&str; 4] = ["presentations", "texts", "tables", "table texts"];
 const PRESENTATIONS: usize = 0;
@@ -136,11 +138,14 @@ impl Soak {
                     self.judged_damages(&text, relations, &other, 6);
                 }
                 self.judged_damages(&text, relations, &table, 12);
+            } else if deep && relations.order() <= TURNED {
+                let other = other_basis(&mut self.random, &levels, relations.order() as u32);
+                self.checked(&text, relations, &other, Some(0));
             }
         }
     }
 
-    /// Accept and measure, and build if the text is refused.
+    /// Accept and measure, and if the text is refused check and build.
     fn accepted(&mut self, family: usize, text: &[u8], naive: &Result<Relations, u32>) {
         let answer = *naive.as_ref().err().unwrap_or(&0);
         let wants = naive.as_ref().map_or(0, Relations::wants);
@@ -148,17 +153,20 @@ impl Soak {
         self.same(family, "accept", raw::accept(text) == answer, answer, &shown);
         self.same(family, "measure", raw::measure(text) == raw::Counted { answer, count: wants }, answer, &shown);
         if answer != 0 {
+            self.same(family, "check", raw::check(text, &[1; 8]) == answer, answer, &shown);
             let expected = Expected { answer, count: 0, left: &[] };
             self.fills(family, "build", 24, &expected, &|words| raw::build(text, words), &shown);
         }
     }
 
-    /// The build of an accepted text, with words enough, with more, and with one too few.
+    /// The build of an accepted text, with words enough and more, and with one or more too few.
     fn built(&mut self, family: usize, text: &[u8], relations: &Relations, table: Option<&[u32]>) {
         let wants = relations.wants();
         let shown = || String::from_utf8_lossy(text).into_owned();
         let short = Expected { answer: 16, count: 0, left: &[] };
+        let few = self.random.below(wants);
         self.fills(family, "build", wants - 1, &short, &|words| raw::build(text, words), &shown);
+        self.fills(family, "build", few, &short, &|words| raw::build(text, words), &shown);
         if let Some(table) = table {
             let done = Expected { answer: 0, count: table.len() / 8, left: table };
             let more = self.random.below(40);
