@@ -1,7 +1,7 @@
 //! Tables to check.
 //!
 //!   other_basis       a right table made into another right one: basis vectors scaled, blocks exchanged, representations renumbered
-//!   damaged           a table with one thing changed: a word, a line, a representation
+//!   damaged           a table with one thing changed: a word, a line, a matrix, a representation
 
 use crate::naive::dense::Dense;
 use crate::naive::steps::Rep;
@@ -80,7 +80,7 @@ pub fn damaged(random: &mut Random, words: &[u32], m: u32) -> Vec<u32> {
     let lines = words.len() / 8;
     let line = random.below(lines);
     let other = random.below(lines);
-    match random.below(14) {
+    match random.below(15) {
         0 => drop(table.drain(8 * line..8 * line + 8)),
         1 => table.extend_from_slice(&words[8 * line..8 * line + 8]),
         2 => (0..8).for_each(|k| table.swap(8 * line + k, 8 * other + k)),
@@ -106,9 +106,41 @@ pub fn damaged(random: &mut Random, words: &[u32], m: u32) -> Vec<u32> {
                 l[4] = to;
             }
         }
+        11 => table = joined(random, words),
         _ => {
             let at = random.below(words.len());
             table[at] = *random.pick(&instead(words[at], m));
+        }
+    }
+    table
+}
+
+/// Some representations of the last level made into one, their direct sum.
+fn joined(random: &mut Random, words: &[u32]) -> Vec<u32> {
+    let level = words[words.len() - 8];
+    let mut reps: Vec<Vec<&[u32]>> = Vec::new();
+    for line in words.chunks(8).filter(|line| line[0] == level) {
+        reps.resize_with(reps.len().max(line[1] as usize + 1), Vec::new);
+        reps[line[1] as usize].push(line);
+    }
+    let count = (1 + random.below(3)).min(reps.len());
+    let chosen: Vec<Vec<&[u32]>> = random.order(reps.len())[..count].iter().map(|&k| std::mem::take(&mut reps[k])).collect();
+    reps.retain(|rep| !rep.is_empty());
+    let mut table: Vec<u32> = words.chunks(8).filter(|line| line[0] < level).flatten().copied().collect();
+    let degree: u32 = chosen.iter().map(|rep| rep[0][2]).sum();
+    for k in 1..=level {
+        let mut start = 0;
+        for rep in &chosen {
+            for line in rep.iter().filter(|line| line[3] == k) {
+                table.extend([level, 0, degree, k, line[4], line[5] + start, line[6] + start, line[7]]);
+            }
+            start += rep[0][2];
+        }
+    }
+    for (number, rep) in (1..).zip(&reps) {
+        for line in rep {
+            table.extend([level, number]);
+            table.extend_from_slice(&line[2..]);
         }
     }
     table
