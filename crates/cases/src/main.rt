@@ -2,6 +2,7 @@
 //
 // A case is a line, then a text, then a form feed. The line begins with the kind of the case; numbers and a title follow.
 //   accept        the text is a presentation, and is answered
+//   measure       the text is a presentation, and is measured
 //   build W       its table is built into the first W of 786,240 words, which no build exceeds
 //   read W B      the text is a table, and is read into the first W of 512 words; if it is in the form, its lines are
 //                 written back into the first B of 4,096 bytes
@@ -9,9 +10,9 @@
 //                 written into the first B of 4,096 bytes
 //   check W       the text is a presentation, a vertical tab, and at most 8,192 words as above; the first W of them are checked
 //
-// For each call its answer is printed, and of a call that fills a buffer its count and a sum over the whole buffer, what
-// is not lent too; words and bytes are sevens before the call. Behind a text that is written back stands whether it is the
-// same. The line of the case comes last.
+// For each call its answer is printed, of one that measures its count, and of one that fills a buffer its count and a sum
+// over the whole buffer, what is not lent too; words and bytes are sevens before the call. Behind a text that is written back
+// stands whether it is the same. The line of the case comes last.
 use chieftables::counted::Counted;
 ghost use Prim.Native.Nat.{_<_, _≤_};
 ghost use lib.ListN.{length};
@@ -128,6 +129,12 @@ fn accept_case(text: &[u8]) {
     print(chieftables::accept::accept(text) as u64);
 }
 
+fn measure_case(text: &[u8]) {
+    let a = chieftables::measure::measure(text);
+    print(a.answer as u64);
+    print(a.count as u64);
+}
+
 fn build_case(text: &[u8], have: u32) {
     let mut words = [7u32; BUILD];
     let a = build_first(text, &mut words, have);
@@ -165,6 +172,8 @@ fn check_case(text: &[u8], have: u32) {
 fn call(line: &[u8], text: &[u8], have: u32, room: u32) {
     if text::starts(line, 0, b"accept ") {
         accept_case(text);
+    } else if text::starts(line, 0, b"measure ") {
+        measure_case(text);
     } else if text::starts(line, 0, b"build ") {
         build_case(text, have);
     } else if text::starts(line, 0, b"read ") {

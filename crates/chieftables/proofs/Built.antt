@@ -84,7 +84,7 @@ module _ {R : Relations} {P : Presentation} (S : Sound R P) where
     size-order : s .order ≡ order (presentation R) (R .n)
     size-order = M .order-is ∙ product-is (P .n) (omega arith) ∙ ap (order (presentation R)) (S .passed .held .count)
 
-    size-words : s .words ≡ buildWords (presentation R)
+    pub size-words : s .words ≡ buildWords (presentation R)
     unfolding buildWords presentation
     size-words =
         M .words-are

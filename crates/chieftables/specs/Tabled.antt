@@ -2,6 +2,7 @@
 -- what it asks is known of some, and what it leaves is said of all that P is sound for.
 --
 --   SomeSound P                    P is sound for some relations
+--   Wants P k                      a build of P wants k words, for all relations that P is sound for
 --   Room R P m have                R is sound, m is its order, and `have` words are as many as its build wants
 --   SomeRoom P m have              the same for some relations
 --   Table R before count after     the table of R was written from the first word on, and has so many lines
@@ -20,6 +21,9 @@ use Rattle.chieftables.specs.Accepted.{Sound}
 
 abbrev pub SomeSound : Presentation → Type 0
 SomeSound P = (R : Relations) × Sound R P
+
+pub record Wants (P : Presentation) (k : ℕ) : Type 0 where
+  pub is : (R : Relations) → Sound R P → k ≡ buildWords (presentation R)
 
 pub record Room (R : Relations) (P : Presentation) (m have : ℕ) : Type 0 where
   pub sound : Sound R P

@@ -14,7 +14,7 @@
 --   readRefusals, writeRefusals      16 and 20; 21 and 16
 --   over before s              a buffer after s was written at its start
 --   Leaves                     what a call hands over and leaves in its buffers: all of a finished call, or nothing
---   Accept, Build, Check, ReadTable, WriteTable      the five calls
+--   Accept, Measure, Build, Check, ReadTable, WriteTable      the six calls
 use mathlib.Core.Path.{_≡_}
 use mathlib.Core.Logic.{_⊎_}
 use Prim.Native.Nat.{ℕ, _+_, _*_, _-_, _<_}
@@ -116,6 +116,11 @@ pub record Leaves {H B : Type 0} (Finished : H → B → Type 0) (nothing : H) (
 
 abbrev pub Accept : Bytes → ℕ → Type 0
 Accept t answer = First (presentationRefusals t) answer
+
+-- the words that a build of the text wants; there is no buffer
+pub record Measure (t : Bytes) (answer count : ℕ) : Type 0 where
+  pub answered : Accept t answer
+  pub leaves : Leaves (λ k (w : Unit {0}). says t (λ R. k ≡ buildWords (presentation R))) 0 tt answer count tt
 
 pub record Build (t : Bytes) (before : List ℕ) (answer count : ℕ) (after : List ℕ) : Type 0 where
   pub answered : First (buildRefusals t (length before)) answer

@@ -1,0 +1,125 @@
+//! How long the calls take.
+//!
+//!   answers    the answer to each text
+//!   times      the answer, and the time of a call in microseconds: of the text, and of reading it alone
+//!   builds     the answer, the lines of the table, and the time of a call, beside that of a plain copy
+//!   checks     the answer to the table that is built, and the time of its check beside that of its build
+//!   tables     so many lines written as table text and read back: the bytes, and the median times
+
+use chieftables::raw::{accept, build, check, read_table, write_table, Counted};
+use std::hint::black_box;
+use std::time::{Duration, Instant};
+
+/// Samples of which the median is taken, and how long each lasts at least.
+pub const SAMPLES: usize = 101;
+const SAMPLE: Duration = Duration::from_millis(2);
+
+/// How long `count` calls take.
+fn calls<T>(call: &mut impl FnMut() -> T, count: u32) -> Duration {
+    let start = Instant::now();
+    for _ in 0..count {
+        black_box(call());
+    }
+    start.elapsed()
+}
+
+/// The median time of a call, in microseconds.
+pub fn median<T>(mut call: impl FnMut() -> T) -> f64 {
+    let mut count = 1;
+    while calls(&mut call, count) < SAMPLE {
+        count *= 2;
+    }
+    let mut times: Vec<f64> = (0..SAMPLES).map(|_| calls(&mut call, count).as_secs_f64() * 1e6 / f64::from(count)).collect();
+    times.sort_by(f64::total_cmp);
+    times[SAMPLES / 2]
+}
+
+/// The text with its last exponent made 1, where no word may have that generator: it is read whole, and refused with 14
+/// before the consistency test.
+fn misused(text: &[u8]) -> Vec<u8> {
+    let mut changed = text.to_vec();
+    if let [.., exponent @ b'0', b'\n'] = changed.as_mut_slice() {
+        *exponent = b'1';
+    }
+    changed
+}
+
+/// The median time of one call, in microseconds.
+fn median_once(mut call: impl FnMut() -> Counted) -> f64 {
+    let mut times: Vec<f64> = (0..SAMPLES)
+        .map(|_| {
+            let start = Instant::now();
+            black_box(call());
+            start.elapsed().as_secs_f64() * 1e6
+        })
+        .collect();
+    times.sort_by(f64::total_cmp);
+    times[SAMPLES / 2]
+}
+
+/// Writes so many lines of values of one to four digits, reads them back, and times both.
+pub fn tables(lines: usize) {
+    let words: Vec<u32> = (0..8 * lines as u64).map(|i| ((i * 2654435761) % 4096) as u32 >> (i % 7)).collect();
+    let mut out = vec![0u8; 34 + 80 * lines];
+    let written = write_table(&words, &mut out);
+    let text = out[..written.count].to_vec();
+    let mut back = vec![0u32; words.len()];
+    let read = read_table(&text, &mut back);
+    assert!(written.answer == 0 && read.answer == 0 && read.count == lines && back == words);
+    let writing = median_once(|| write_table(black_box(&words), &mut out));
+    let reading = median_once(|| read_table(black_box(&text), &mut back));
+    println!("{lines} lines, {} bytes: read {reading:.1}, written {writing:.1}", text.len());
+}
+
+/// Words of a line, and those that the largest build wants.
+pub const LINE: usize = 8;
+pub const WORDS: usize = 786_240;
+
+/// Writes lines again from a copy of them. Each is made as a builder makes it from a line of the level below: `up` is added
+/// to the row and `more` to the exponent, modulo `order`, and eight words are stored.
+pub fn copy(lines: &[u32], up: u32, more: u32, order: u32, words: &mut [u32]) {
+    for (from, to) in lines.chunks_exact(LINE).zip(words.chunks_exact_mut(LINE)) {
+        let sum = from[7] + more;
+        let exponent = if sum < order { sum } else { sum - order };
+        to.copy_from_slice(&[from[0], from[1], from[2], from[3], from[4], from[5], from[6] + up, exponent]);
+    }
+}
+
+/// Builds the table of a text, and times that and the copy.
+pub fn builds(text: &[u8], path: &str) {
+    let mut words = vec![7u32; WORDS];
+    let Counted { answer, count } = build(text, &mut words);
+    let size = LINE * count;
+    assert!(words[size..].iter().all(|&word| word == 7));
+    let building = median(|| build(black_box(text), &mut words));
+    print!("{answer:2} {count:6} lines: built {building:.2} us");
+    if size > 0 {
+        let lines = words[..size].to_vec();
+        let copying = median(|| copy(black_box(&lines), black_box(0), black_box(0), black_box(u32::MAX), &mut words));
+        assert!(words[..size] == lines);
+        let word = |time: f64| time * 1e3 / size as f64;
+        print!(", {:.2} ns a word; the same lines copied by a loop in Rust", word(building));
+        print!(" {copying:.2} us, {:.2} ns a word", word(copying));
+    }
+    println!("; {path}");
+}
+
+/// Checks the table that is built of a text, and times that and the build.
+pub fn checks(text: &[u8], path: &str) {
+    let mut words = vec![7u32; WORDS];
+    let size = LINE * build(text, &mut words).count;
+    let building = median(|| build(black_box(text), &mut words));
+    let answer = check(text, &words[..size]);
+    let checking = median(|| check(black_box(text), black_box(&words[..size])));
+    println!("{answer:2} {size:7} words: built {building:.2} us, checked {checking:.2} us, {:.2} times; {path}", checking / building);
+}
+
+pub fn answers(text: &[u8], path: &str) {
+    println!("{} {path}", accept(text));
+}
+
+pub fn times(text: &[u8], path: &str) {
+    let read = misused(text);
+    let reading = if accept(&read) == 14 { median(|| accept(black_box(&read))) } else { f64::NAN };
+    println!("{:2} {:10.2} {reading:10.2} {path}", accept(text), median(|| accept(black_box(text))));
+}
