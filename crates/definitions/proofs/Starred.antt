@@ -23,6 +23,7 @@ use Rattle.definitions.specs.Table.{lineOf, repWords, levelWords, wordAt
 use Rattle.definitions.specs.Steps.{lift, fixed, orbit, leader, position, made, start, s, extended, l, a, extension, along, lastBlock, blockDiagonal, blockCycle, blockIntertwiner, leftSide, rightSide, nextBlock, blockAfter, scalarAfter, c, induction, givenBy, nextLevel, levels, tableWith, tableOf}
 use Rattle.definitions.specs.Judgement.{allForms, cutsFrom, cuts, wholeBlock, everywhere, everyLevel, matricesValid, blocksWhole, targetsListed, malformed, powerHolds, commutatorHolds, relationsHold, relationFails, blockRestricts, restricts, restrictionFails, intertwines, intertwinersHold, intertwinerFails, reaches, tells, separates, notSeparated, squares, squaresFail}
 use Rattle.definitions.specs.Answers.{firstOf, relationTests, judgement}
+use Rattle.definitions.specs.Programs.{answerNames, answerText}
 use Rattle.definitions.proofs.Groups.{equal, bytes, numbersFrom, words, row, wordIn, relations, table, change, S3-line, S3-with, S3, V4, C4, Q8, C2-cubed, S3-C2, dense12, dense20, dense54, long-carry, twisted, twisted-table, rooted, rooted-table, affine, affine-table, linked, linked-table, wide-S3, swapped-C4, unequal-C2-cubed, diagonal-V4, exchanging-V4, doubled-V4, cut-V4, short-block, mixed-block, shifted}
 
 -- ---- Rows
@@ -44,6 +45,8 @@ pub data Star : Type 0 where
   has-degrees : Relations → (i : ℕ) → List ℕ → Star
   -- generator g (from 1) in representation r of the built level i: row and exponent, column by column
   has-matrix : Relations → (i r g : ℕ) → List ℕ → Star
+  -- the text of an answer
+  prints : ℕ → String → Star
   -- the check's number for a table
   judged : Relations → List ℕ → ℕ → Star
 
@@ -67,6 +70,7 @@ holds (writes T b) = cond b (writable T) (not (writable T))
 holds (has-degrees R i ds) = equal (map (λ (D : Rep). D .deg) (built R i)) ds
 holds (has-matrix R i r zero xs) = false
 holds (has-matrix R i r (suc g) xs) = equal (flat (repOf (built R i) r .matrix g)) xs
+holds (prints a t) = equal (answerText a) (bytes t)
 holds (judged R T a) = eqb (judgement (presentation R) (order (presentation R) (R .n)) T) a
 
 -- the starred groups, and the examples of the refusal table
@@ -84,6 +88,7 @@ groups =
     ∷ reads (relations (4099 ∷ []) []) "j i p e1\n1 1 4099 0\n" 13
     ∷ reads (relations (3 ∷ []) ((1, 1, 1 ∷ []) ∷ [])) "j i p e1\n1 1 3 1\n" 14
     ∷ reads (S3-with 2) "j i p e1 e2\n1 1 3 0 0\n2 2 2 0 0\n2 1 0 2 0\n" 15
+    ∷ prints 15 "answer\n15\n"
     ∷ judged S3 [] 21
     ∷ judged S3 (change 13 7 1 (table S3)) 22
     ∷ judged S3 (change 10 7 4 (change 11 7 2 (table S3))) 23
@@ -214,5 +219,5 @@ unfolding starred every groups presentations tables checks holds refusal flat bu
     blockDiagonal blockCycle blockIntertwiner leftSide rightSide nextBlock blockAfter scalarAfter c induction givenBy nextLevel levels tableWith
     tableOf allForms cutsFrom cuts wholeBlock everywhere everyLevel matricesValid blocksWhole targetsListed malformed powerHolds commutatorHolds
     relationsHold relationFails blockRestricts restricts restrictionFails intertwines intertwinersHold intertwinerFails reaches tells separates
-    notSeparated squares squaresFail firstOf judgement
+    notSeparated squares squaresFail firstOf judgement answerNames answerText
 starred-hold = (refl, not-consistent)

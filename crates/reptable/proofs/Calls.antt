@@ -5,6 +5,7 @@
 --   text-is, text-within     what a finished write_table leaves
 --   written             a finished build, whose words are always written
 --   file-long, file-short     the bytes of a file: too many, and not too many
+--   reply-table, reply-refusal     what is printed: the text of the table, and that of the answer of a refusal
 use mathlib.Core.Path.{_≡_, refl, sym, ap, ap₂, _∙_, subst}
 use mathlib.Core.Logic.{inl, inr}
 use mathlib.Core.List.{List}
@@ -21,7 +22,7 @@ use Rattle.definitions.specs.Steps.{tableOf}
 use Rattle.definitions.specs.Answers.{First, buildRefusals, over, Build, WriteTable}
 use Rattle.clifford.proofs.Calls.{left-behind}
 use Rattle.table.proofs.Calls.{over-within, over-take}
-use Rattle.definitions.specs.Programs.{lentWords, groupBytes, Reptable}
+use Rattle.definitions.specs.Programs.{lentWords, groupBytes, answerText, reptableRefusals, Reptable}
 use Rattle.reptable.specs.Tabulated.{room, Tabulated}
 use Rattle.reptable.proofs.Finished.{accepts, never-refused}
 
@@ -33,7 +34,7 @@ lines-within {before = before} e B =
 
 pub refused :
     {t : Bytes} {before after : List ℕ} {answer count : ℕ} (out : Bytes) → length before ≡ lentWords → ¬ (answer ≡ 0) → Build t before answer count after
-    → Tabulated t answer (take count out) × Counts count out
+    → Tabulated (buildRefusals t lentWords) t answer (take count out) × Counts count out
 refused {t} {answer = answer} {count} out l ne B =
     let z : count ≡ 0 = B .leaves .refused ne .0 in
     (record { answered = subst (λ k. First (buildRefusals t k) answer) l (B .answered); written = λ e. absurd (ne e) }, counts count out (omega arith))
@@ -49,7 +50,7 @@ text-within {T} {out} W e = let (k, w) = W .leaves .finished e in omega (arith, 
 
 pub written :
     {t : Bytes} {before after : List ℕ} {status lines answer count : ℕ} {out text : Bytes} → length before ≡ lentWords → room ≤ length out → status ≡ 0
-    → Build t before status lines after → WriteTable (take (8 * lines) after) out answer count text → Tabulated t answer (take count text) × Counts count text
+    → Build t before status lines after → WriteTable (take (8 * lines) after) out answer count text → Tabulated (buildRefusals t lentWords) t answer (take count text) × Counts count text
 unfolding lineWords
 written {t} {before} {after} {status} {lines} {answer} {count} {out} {text} l b z B W =
     let (R, s, (k, w)) = B .leaves .finished z in
@@ -61,8 +62,16 @@ written {t} {before} {after} {status} {lines} {answer} {count} {out} {text} l b 
 
 -- ---- Files
 
-pub file-long : {t : Bytes} (out : Bytes) → groupBytes < length t → Reptable t 11 (take 0 out) × Counts 0 out
-file-long out l = (record { answered = inl (l, refl); printed = λ e. absurd (omega (arith, e)) }, counts 0 out (omega arith))
+pub file-long : {t : Bytes} (out : Bytes) → groupBytes < length t → Tabulated (reptableRefusals t) t 11 (take 0 out) × Counts 0 out
+file-long out l = (record { answered = inl (l, refl); written = λ e. absurd (omega (arith, e)) }, counts 0 out (omega arith))
 
-pub file-short : {t o : Bytes} {answer : ℕ} → length t ≤ groupBytes → Tabulated t answer o → Reptable t answer o
-file-short l T = record { answered = inr (λ h. omega arith, T .answered); printed = T .written }
+pub file-short :
+    {t o : Bytes} {answer : ℕ} → length t ≤ groupBytes → Tabulated (buildRefusals t lentWords) t answer o → Tabulated (reptableRefusals t) t answer o
+file-short l T = record { answered = inr (λ h. omega arith, T .answered); written = T .written }
+
+pub reply-table : {t o : Bytes} {answer : ℕ} → answer ≡ 0 → Tabulated (reptableRefusals t) t answer o → Reptable t answer o
+reply-table e T = record { answered = T .answered; printed = T .written; refused = λ ne. absurd (ne e) }
+
+pub reply-refusal :
+    {t o out : Bytes} {answer : ℕ} → ¬ (answer ≡ 0) → Tabulated (reptableRefusals t) t answer o → out ≡ answerText answer → Reptable t answer out
+reply-refusal ne T q = record { answered = T .answered; printed = λ e. absurd (ne e); refused = λ _. q }

@@ -5,7 +5,8 @@ use libc::STDOUT_FILENO;
 ghost use Prim.Native.Nat.{_≤_};
 ghost use lib.ListN.{length, take};
 ghost use Rattle.io.specs.Counts.{Counts};
-ghost use Rattle.definitions.specs.Programs.{Reptable};
+ghost use Rattle.definitions.specs.Answers.{buildRefusals};
+ghost use Rattle.definitions.specs.Programs.{lentWords, reptableRefusals, Reptable};
 ghost use Rattle.reptable.specs.Tabulated.{room, Tabulated};
 
 // Bytes of a presentation text, at most.
@@ -21,7 +22,7 @@ const ROOM: usize = 34 + 80 * (WORDS / 8);
 // of bytes. Every table that is built finds room.
 fn tabulate(text: &[u8], out: &mut [u8]) -> Counted
     requires { ⌜ room ≤ length (now out) ⌝ }
-    ensures { λ r. ⌜ Tabulated (now (text .entry)) (r .answer) (take (r .count) (now (out .exit))) ⌝ }
+    ensures { λ r. ⌜ Tabulated (buildRefusals (now (text .entry)) lentWords) (now (text .entry)) (r .answer) (take (r .count) (now (out .exit))) ⌝ }
     ensures { λ r. ⌜ Counts (r .count) (now (out .exit)) ⌝ }
 {
     let mut words = [0u32; WORDS];
@@ -36,7 +37,7 @@ fn tabulate(text: &[u8], out: &mut [u8]) -> Counted
 // The same for the bytes of a file, of which there may be too many.
 fn tabulate_file(bytes: &[u8], out: &mut [u8]) -> Counted
     requires { ⌜ room ≤ length (now out) ⌝ }
-    ensures { λ r. ⌜ Reptable (now (bytes .entry)) (r .answer) (take (r .count) (now (out .exit))) ⌝ }
+    ensures { λ r. ⌜ Tabulated (reptableRefusals (now (bytes .entry))) (now (bytes .entry)) (r .answer) (take (r .count) (now (out .exit))) ⌝ }
     ensures { λ r. ⌜ Counts (r .count) (now (out .exit)) ⌝ }
 {
     if bytes.len() > TEXT {
@@ -48,16 +49,29 @@ fn tabulate_file(bytes: &[u8], out: &mut [u8]) -> Counted
     tabulate(bytes, out)
 }
 
-// Prints the table that the bytes of a file ask for, or the answer of a refusal.
-fn print_table(bytes: &[u8]) {
-    let mut out = [0u8; ROOM];
-    let written = tabulate_file(bytes, &mut out);
-    let number = written.answer;
-    if number != 0 {
-        program::print_answer(number);
-        return;
+// Writes what the program prints of the bytes of a file: the text of the table, or that of the answer of a refusal.
+fn reply(bytes: &[u8], out: &mut [u8]) -> Counted
+    requires { ⌜ room ≤ length (now out) ⌝ }
+    ensures { λ r. ⌜ Reptable (now (bytes .entry)) (r .answer) (take (r .count) (now (out .exit))) ⌝ }
+    ensures { λ r. ⌜ Counts (r .count) (now (out .exit)) ⌝ }
+{
+    let made = tabulate_file(bytes, out);
+    let number = made.answer;
+    if number == 0 {
+        return made;
     }
-    let count = written.count;
+    let count = program::put_answer(out, number);
+    Counted {
+        answer: number,
+        count: count,
+    }
+}
+
+// Prints it.
+fn print_reply(bytes: &[u8]) {
+    let mut out = [0u8; ROOM];
+    let made = reply(bytes, &mut out);
+    let count = made.count;
     io::write_all(STDOUT_FILENO, &out[..count]);
 }
 
@@ -65,5 +79,5 @@ fn print_table(bytes: &[u8]) {
 fn main() {
     let mut text = [0u8; TEXT + 1];
     let count = program::read_file(b"group.txt", &mut text);
-    print_table(&text[..count]);
+    print_reply(&text[..count]);
 }

@@ -9,11 +9,11 @@ use native.Mathlib.Nat.{le-refl}
 use borrow.Author.Needs.{needs}
 use Rattle.lines.proofs.Appending.{Going, going-none, going-more}
 use Rattle.survey.specs.Below.{sourceIn}
 use Rattle.turns.specs.Turns.{turnWords}
 use Rattle.turns.proofs.Turns.{turn-room}
 use Rattle.turns.proofs.InWords.{turns-wrote}
-use Rattle.builder.proofs.append_turns.Statement.{statement}
-use Rattle.builder.proofs.append_turns.Tie as tie
+use Rattle.turns.proofs.append_turns.Statement.{statement}
+use Rattle.turns.proofs.append_turns.Tie as tie
 
 abbrev Inv-loop : tie.InvT-loop
 Inv-loop words₀ first rows leaders places numbers shifts orbit₀ c₀ f pos₀ reps r₀ words orbit c pos r = (r ≤ reps) × (reps ≡ f .reps) × (length orbit ≡ length orbit₀) × (length c ≡ length c₀) × Going (f .end) (turnWords (f .gens) (sourceIn f (take (8 * f .end) words₀) rows)) words₀ (f .end) r words pos

@@ -9,10 +9,10 @@ use lib.Seq.{length-take-le}
 use Rattle.text.proofs.Writing.{wrote-as, wrote-none}
 use Rattle.survey.specs.Below.{targetOf, leaderIn}
 use Rattle.survey.proofs.Level.{located-stored, located-target}
 use Rattle.turns.proofs.InWords.{turn-extensions, turn-induction, turn-nothing, extensions-length, induction-length}
 use borrow.Author.Needs.{needs}
-use Rattle.builder.proofs.append_turn.Statement.{statement}
-use Rattle.builder.proofs.append_turn.Tie as tie
+use Rattle.turns.proofs.append_turn.Statement.{statement}
+use Rattle.turns.proofs.append_turn.Tie as tie
 
 mul-n : tie.Need-mul-n
 mul-n c = let z = c .before .before .before .before .before .before .before .before .before in omega (arith, z .pre .2, z .pre .3)

@@ -1,0 +1,37 @@
+-- `put_answer` meets its contract: name, number and the end of a line, one behind the other.
+use native.Mathlib.Omega.{arith}
+use borrow.Author.Needs.{needs}
+use Rattle.text.proofs.Writing.{wrote-length}
+use Rattle.program.proofs.Answered.{number-short, answered}
+use Rattle.program.proofs.put_answer.Statement.{statement}
+use Rattle.program.proofs.put_answer.Tie as tie
+
+slice-aggregate-put-bytes : tie.Need-slice-aggregate-put-bytes
+slice-aggregate-put-bytes c = search needs
+
+put-bytes-requires : tie.Need-put-bytes-requires
+put-bytes-requires c κs = search needs
+
+put-value-requires : tie.Need-put-value-requires
+put-value-requires c κs =
+    let name = c .before .before .before .put-bytes .ensures in
+    let start = c .before .before .before .before .before .before .before in
+    omega (arith, name .end, wrote-length name, number-short (start .args .number) (omega arith))
+
+put-byte-requires : tie.Need-put-byte-requires
+put-byte-requires c κs =
+    let name = c .before .before .before .before .before .before .before .put-bytes .ensures in
+    let number = c .before .before .before .put-value .ensures in
+    let start = c .before .before .before .before .before .before .before .before .before .before .before in
+    omega (arith, name .end, wrote-length name, number .end, wrote-length number, number-short (start .args .number) (omega arith))
+
+same-length : tie.Need-same-length
+same-length c = search needs
+
+returns : tie.Need-returns
+returns c =
+    let start = c .before .before .before .before .before .before .before .before .before .before .before .before .before .before in
+    answered (start .args .number) (c .before .before .before .before .before .before .before .before .before .before .put-bytes .ensures) (c .before .before .before .before .before .before .put-value .ensures) (c .before .before .put-byte .ensures)
+
+pub put-answer-spec : {M : Type 1} → statement M
+put-answer-spec = tie.close (tie.spec slice-aggregate-put-bytes put-bytes-requires put-value-requires put-byte-requires same-length returns)
