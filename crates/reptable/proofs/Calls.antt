@@ -19,7 +19,7 @@ use Rattle.definitions.specs.Text.{Bytes}
 use Rattle.definitions.specs.Presentation.{lineWords, presentation}
 use Rattle.definitions.specs.Table.{lineCount, tableText}
 use Rattle.definitions.specs.Steps.{tableOf}
-use Rattle.definitions.specs.Answers.{First, buildRefusals, over, Build, WriteTable}
+use Rattle.definitions.specs.Answers.{First, buildRefusals, Build, WriteTable}
 use Rattle.clifford.proofs.Calls.{left-behind}
 use Rattle.table.proofs.Calls.{over-within, over-take}
 use Rattle.definitions.specs.Programs.{lentWords, groupBytes, answerText, reptableRefusals, Reptable}

@@ -1,4 +1,4 @@
--- `check_case` is safe: the text before the vertical tab, and as many words as there are, at most, are lent.
+-- `check_case` is safe: the text before the vertical tab, and the bytes behind it, are lent.
 use mathlib.Core.Path.{sym}
 use native.Mathlib.Omega.{arith}
 use lib.Seq.{length-take-le}
@@ -12,47 +12,29 @@ find-requires c κs = search needs
 behind-requires : tie.Need-behind-requires
 behind-requires c κs = search needs
 
-sub-parse : tie.Need-sub-parse
-sub-parse c = search needs
+slice-aggregate-check-parsed : tie.Need-slice-aggregate-check-parsed
+slice-aggregate-check-parsed c = sym (length-take-le _ _ (omega arith))
 
-part-parse-start : tie.Need-part-parse-start
-part-parse-start c = search needs
+sub-check-parsed : tie.Need-sub-check-parsed
+sub-check-parsed c = search needs
 
-part-parse-end : tie.Need-part-parse-end
-part-parse-end c = search needs
+part-check-parsed-start : tie.Need-part-check-parsed-start
+part-check-parsed-start c = search needs
 
-slice-aggregate-parse : tie.Need-slice-aggregate-parse
-slice-aggregate-parse c = search needs
+part-check-parsed-end : tie.Need-part-check-parsed-end
+part-check-parsed-end c = search needs
 
-parse-requires : tie.Need-parse-requires
-parse-requires c κs = search needs
-
-slice-aggregate-words-lent : tie.Need-slice-aggregate-words-lent
-slice-aggregate-words-lent c = search needs
-
-words-lent-requires : tie.Need-words-lent-requires
-words-lent-requires c κs = search needs
-
-slice-aggregate-check : tie.Need-slice-aggregate-check
-slice-aggregate-check c = sym (length-take-le _ _ (omega arith))
-
-array-share-prefix-words : tie.Need-array-share-prefix-words
-array-share-prefix-words c = search needs
-
-slice-aggregate-check-2 : tie.Need-slice-aggregate-check-2
-slice-aggregate-check-2 c = sym (length-take-le _ _ (omega arith))
-
-check-requires : tie.Need-check-requires
-check-requires c κs = search needs
+check-parsed-requires : tie.Need-check-parsed-requires
+check-parsed-requires c κs = tt
 
 cast-print : tie.Need-cast-print
 cast-print c = search needs
 
 print-requires : tie.Need-print-requires
-print-requires c κs = search needs
+print-requires c κs = tt
 
 returns : tie.Need-returns
-returns c = search needs
+returns c = tt
 
 pub check-case-spec : {M : Type 1} → statement M
 check-case-spec =
@@ -60,17 +42,11 @@ check-case-spec =
     (tie.spec
     find-requires
     behind-requires
-    sub-parse
-    part-parse-start
-    part-parse-end
-    slice-aggregate-parse
-    parse-requires
-    slice-aggregate-words-lent
-    words-lent-requires
-    slice-aggregate-check
-    array-share-prefix-words
-    slice-aggregate-check-2
-    check-requires
+    slice-aggregate-check-parsed
+    sub-check-parsed
+    part-check-parsed-start
+    part-check-parsed-end
+    check-parsed-requires
     cast-print
     print-requires
     returns)

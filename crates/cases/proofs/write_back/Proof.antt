@@ -13,16 +13,16 @@ slice-aggregate-write : tie.Need-slice-aggregate-write
 slice-aggregate-write c = sym (length-take-le _ _ (omega arith))
 
 write-requires : tie.Need-write-requires
-write-requires c κs = search needs
+write-requires c κs = tt
 
 report-same-requires : tie.Need-report-same-requires
-report-same-requires c κs = search needs
+report-same-requires c κs = tt
 
 returns : tie.Need-returns
-returns c = search needs
+returns c = tt
 
 returns-2 : tie.Need-returns-2
-returns-2 c = search needs
+returns-2 c = tt
 
 pub write-back-spec : {M : Type 1} → statement M
 write-back-spec =

@@ -10,13 +10,13 @@ slice-aggregate-parse : tie.Need-slice-aggregate-parse
 slice-aggregate-parse c = search needs
 
 parse-requires : tie.Need-parse-requires
-parse-requires c κs = search needs
+parse-requires c κs = tt
 
 slice-aggregate-words-lent : tie.Need-slice-aggregate-words-lent
 slice-aggregate-words-lent c = search needs
 
 words-lent-requires : tie.Need-words-lent-requires
-words-lent-requires c κs = search needs
+words-lent-requires c κs = tt
 
 array-share-prefix-words : tie.Need-array-share-prefix-words
 array-share-prefix-words c = search needs
@@ -25,10 +25,10 @@ slice-aggregate-write : tie.Need-slice-aggregate-write
 slice-aggregate-write c = sym (length-take-le _ _ (omega arith))
 
 write-requires : tie.Need-write-requires
-write-requires c κs = search needs
+write-requires c κs = tt
 
 returns : tie.Need-returns
-returns c = search needs
+returns c = tt
 
 pub write-case-spec : {M : Type 1} → statement M
 write-case-spec =

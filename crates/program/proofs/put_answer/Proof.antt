@@ -30,8 +30,10 @@ same-length c = search needs
 
 returns : tie.Need-returns
 returns c =
-    let start = c .before .before .before .before .before .before .before .before .before .before .before .before .before .before in
-    answered (start .args .number) (c .before .before .before .before .before .before .before .before .before .before .put-bytes .ensures) (c .before .before .before .before .before .before .put-value .ensures) (c .before .before .put-byte .ensures)
+    let byte = c .before .before in
+    let value = byte .before .before .before .before in
+    let name = value .before .before .before .before in
+    answered (name .before .before .before .before .args .number) (name .put-bytes .ensures) (value .put-value .ensures) (byte .put-byte .ensures)
 
 pub put-answer-spec : {M : Type 1} → statement M
 put-answer-spec = tie.close (tie.spec slice-aggregate-put-bytes put-bytes-requires put-value-requires put-byte-requires same-length returns)

@@ -25,7 +25,8 @@ same-length-2 c = search needs
 returns-2 : tie.Need-returns-2
 returns-2 c =
     let answer = c .before .before .put-answer .ensures in
-    (reply-refusal (c .before .before .before .before .if1 .left) (c .before .before .before .before .before .before .before .tabulate-file .ensures .0) (answer .0), answer .1)
+    let refused = c .before .before .before .before in
+    (reply-refusal (refused .if1 .left) (refused .before .before .before .tabulate-file .ensures .0) (answer .0), answer .1)
 
 pub reply-spec : {M : Type 1} → statement M
 reply-spec = tie.close (tie.spec tabulate-file-requires same-length returns put-answer-requires same-length-2 returns-2)

@@ -1,10 +1,12 @@
--- `write_first` is safe: as many bytes are lent as there are, at most.
-use mathlib.Core.Path.{sym}
+-- `write_first`: as many are lent as there are, at most, and the others are kept.
+use mathlib.Core.Path.{sym, _∙_}
 use native.Mathlib.Omega.{arith}
 use lib.Seq.{length-take-le}
+use Rattle.definitions.specs.Answers.{WriteTable}
+use Rattle.case_calls.proofs.Lent.{lent-first}
 use borrow.Author.Needs.{needs}
-use Rattle.cases.proofs.write_first.Statement.{statement}
-use Rattle.cases.proofs.write_first.Tie as tie
+use Rattle.case_calls.proofs.write_first.Statement.{statement}
+use Rattle.case_calls.proofs.write_first.Tie as tie
 
 bytes-lent-requires : tie.Need-bytes-lent-requires
 bytes-lent-requires c κs = search needs
@@ -22,7 +24,11 @@ same-length : tie.Need-same-length
 same-length c = search needs
 
 returns : tie.Need-returns
-returns c = search needs
+returns c =
+    let z = c .before .before .before .before .before .before .before .before in
+    let call = c .before .before .write-table in
+    let part = c .before .before .before .before .bytes-lent .ensures in
+    lent-first (WriteTable (z .args .words .now)) part (call .kept .1 .0 ∙ length-take-le _ _ (part .within)) (call .ensures)
 
 pub write-first-spec : {M : Type 1} → statement M
 write-first-spec =

@@ -1,10 +1,10 @@
--- `build_case` is safe: the buffer keeps its length, which a law tells, since computing it takes too long.
+-- `build_sevens`: the buffer keeps its length, which a law tells, since computing it takes too long.
 use mathlib.Core.Path.{sym, _∙_}
 use Prim.Native.Nat.{ℕ}
 use lib.ListN.{length-replicate}
 use borrow.Author.Needs.{needs}
-use Rattle.cases.proofs.build_case.Statement.{statement}
-use Rattle.cases.proofs.build_case.Tie as tie
+use Rattle.case_calls.proofs.build_sevens.Statement.{statement}
+use Rattle.case_calls.proofs.build_sevens.Tie as tie
 
 slice-aggregate-build-first : tie.Need-slice-aggregate-build-first
 slice-aggregate-build-first c = sym (length-replicate {0} {A = ℕ} 786240 7)
@@ -18,19 +18,15 @@ slice-aggregate-mix-words c = sym (c .before .before .build-first .kept .1 .0 �
 mix-words-requires : tie.Need-mix-words-requires
 mix-words-requires c κs = search needs
 
-report-requires : tie.Need-report-requires
-report-requires c κs = search needs
-
 returns : tie.Need-returns
 returns c = search needs
 
-pub build-case-spec : {M : Type 1} → statement M
-build-case-spec =
+pub build-sevens-spec : {M : Type 1} → statement M
+build-sevens-spec =
     tie.close
     (tie.spec
     slice-aggregate-build-first
     build-first-requires
     slice-aggregate-mix-words
     mix-words-requires
-    report-requires
     returns)

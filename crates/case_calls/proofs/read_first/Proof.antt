@@ -1,10 +1,12 @@
--- `read_first` is safe: as many words are lent as there are, at most.
-use mathlib.Core.Path.{sym}
+-- `read_first`: as many are lent as there are, at most, and the others are kept.
+use mathlib.Core.Path.{sym, _∙_}
 use native.Mathlib.Omega.{arith}
 use lib.Seq.{length-take-le}
+use Rattle.definitions.specs.Answers.{ReadTable}
+use Rattle.case_calls.proofs.Lent.{lent-first}
 use borrow.Author.Needs.{needs}
-use Rattle.cases.proofs.read_first.Statement.{statement}
-use Rattle.cases.proofs.read_first.Tie as tie
+use Rattle.case_calls.proofs.read_first.Statement.{statement}
+use Rattle.case_calls.proofs.read_first.Tie as tie
 
 words-lent-requires : tie.Need-words-lent-requires
 words-lent-requires c κs = search needs
@@ -22,7 +24,11 @@ same-length : tie.Need-same-length
 same-length c = search needs
 
 returns : tie.Need-returns
-returns c = search needs
+returns c =
+    let z = c .before .before .before .before .before .before .before .before in
+    let call = c .before .before .read-table in
+    let part = c .before .before .before .before .words-lent .ensures in
+    lent-first (ReadTable (z .args .text .now)) part (call .kept .1 .0 ∙ length-take-le _ _ (part .within)) (call .ensures)
 
 pub read-first-spec : {M : Type 1} → statement M
 read-first-spec =

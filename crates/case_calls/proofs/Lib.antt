@@ -1,0 +1,2 @@
+-- Laws of calls on lent parts of buffers.
+pub mod Lent

@@ -1,0 +1,2 @@
+-- Calls on lent parts of buffers.
+pub mod Lent

@@ -1,0 +1,50 @@
+-- `parse`: after i bytes, the words with these added.
+use mathlib.Core.Path.{_≡_, refl, _∙_}
+use Prim.Native.Nat.{_-_}
+use native.Mathlib.Omega.{arith}
+use lib.ListN.{length}
+use borrow.Author.Needs.{needs}
+use Rattle.case_input.proofs.Parsed.{Parsing, parsing-none, parsing-more, parsing-all}
+use Rattle.case_input.proofs.parse.Statement.{statement}
+use Rattle.case_input.proofs.parse.Tie as tie
+
+abbrev Inv-loop : tie.InvT-loop
+Inv-loop s words₀ k₀ i₀ words k i = Parsing s words₀ words k i × (length words ≡ length words₀)
+
+abbrev μ-loop : tie.MeasureT-loop
+μ-loop s words₀ k₀ i₀ words k i = length s - i
+
+loop-holds : tie.Need-loop-holds Inv-loop μ-loop
+loop-holds c = (parsing-none, refl)
+
+shared-slice-read-b : tie.Need-shared-slice-read-b Inv-loop μ-loop
+shared-slice-read-b c = search needs
+
+add-byte-requires : tie.Need-add-byte-requires Inv-loop μ-loop
+add-byte-requires c κs = search needs
+
+word-behind-requires : tie.Need-word-behind-requires Inv-loop μ-loop
+word-behind-requires c κs = omega (arith, c .before .before .before .before .before .before .loop .inv .0 .few)
+
+add-i : tie.Need-add-i Inv-loop μ-loop
+add-i c = search needs
+
+loop-less : tie.Need-loop-less Inv-loop μ-loop
+loop-less c = search needs
+
+loop-again : tie.Need-loop-again Inv-loop μ-loop
+loop-again c =
+    let loop = c .before .before .before .before .before .before .before .loop in
+    let add = c .before .before .before .add-byte in
+    (parsing-more (loop .inv .0) (omega arith) (add .ensures) (c .word-behind .ensures), add .kept .0 ∙ loop .inv .1)
+
+same-length : tie.Need-same-length Inv-loop μ-loop
+same-length c = c .before .loop .inv .1
+
+returns : tie.Need-returns Inv-loop μ-loop
+returns c = parsing-all (c .before .loop .inv .0) (omega arith)
+
+pub parse-spec : {M : Type 1} → statement M
+parse-spec =
+    tie.close
+    (tie.spec Inv-loop μ-loop loop-holds shared-slice-read-b add-byte-requires word-behind-requires add-i loop-less loop-again same-length returns)
