@@ -21,13 +21,13 @@ use Rattle.separation.specs.Relations.{topRelations}
 use Rattle.separation.specs.Decision.{pairwise}
 use Rattle.separation.proofs.Verdict.{judged-21, judged-22, judged-22-top, judged-23, judged-24, judged-25, judged-26, judged-0}
 use Rattle.seek.specs.declared.Scope.{Scope}
-use Rattle.seek.specs.Formed.{Formed, Ordered, Posed, Tells, TellsOf}
+use Rattle.seek.specs.Formed.{Ordered, Tells, TellsOf}
 use Rattle.check_heads.specs.Places.{Counted}
 use Rattle.check_heads.proofs.Places.{counted}
 use Rattle.check_form.specs.Form.{TellsForm}
 use Rattle.check_form.proofs.Form as form
 use Rattle.check_blocks.specs.Squares.{AddsUp}
-use Rattle.check_pairs.specs.Pairs.{PrimesOf, Separated}
+use Rattle.check_pairs.specs.Pairs.{Separated}
 use Rattle.check_fit.specs.Fit.{Passes}
 use Rattle.checker.specs.Judged.{Task, Judged, Sorted, JudgedFormed}
 

@@ -1,6 +1,4 @@
 -- `level_separated` asks for pairs only where claims do not decide.
-use native.Mathlib.Omega.{arith}
-use borrow.Author.Needs.{needs}
 use denote.Ref.{now}
 use Rattle.check_pairs.proofs.Levels.{level-claimed}
 use Rattle.check_pairs.proofs.level_separated.Statement.{statement}

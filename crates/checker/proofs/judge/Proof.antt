@@ -1,7 +1,7 @@
 -- `judge`: the quick test, then 21, then the others.
 use borrow.Author.Tests.{not-true, not-false}
 use borrow.Author.Needs.{needs}
-use mathlib.Core.Path.{_≡_, refl, subst}
+use mathlib.Core.Path.{refl, subst}
 use Prim.Native.Nat.{_/_}
 use native.Mathlib.Omega.{arith}
 use lib.ListN.{length}
@@ -32,14 +32,14 @@ fits-requires c κs =
 
 returns : tie.Need-returns
 returns c =
-    let at-fits2 = c .before in
-    let at-level-orders = at-fits2 .before .before in
-    let at-up = at-level-orders .before in
-    let z = at-up .before .before in
+    let fi2 = c .before in
+    let lo = fi2 .before .before in
+    let up = lo .before in
+    let z = up .before .before in
     let a = z .args in
     let s : Scope = record { lines = length (now (a .words)) / 8; gens = a .n; m = a .m } in
-    let levels = subst (λ k. LevelOrders (now (a .primes)) k (at-level-orders .level-orders .result)) (at-up .up .ensures) (at-level-orders .level-orders .ensures) in
-    found-fitting (now (a .words)) s refl refl refl levels (at-fits2 .fits2 .ensures (c .if1 .taken))
+    let levels = subst (λ k. LevelOrders (now (a .primes)) k (lo .level-orders .result)) (up .up .ensures) (lo .level-orders .ensures) in
+    found-fitting (now (a .words)) s refl refl refl levels (fi2 .fits2 .ensures (c .if1 .taken))
 
 well-formed-requires : tie.Need-well-formed-requires
 well-formed-requires c κs =
@@ -51,43 +51,44 @@ well-formed-requires c κs =
 
 returns-2 : tie.Need-returns-2
 returns-2 c =
-    let at-well-formed = c .before in
-    let at-level-orders = at-well-formed .before .before .before .before .before in
-    let at-up = at-level-orders .before in
-    let z = at-up .before .before in
+    let wf = c .before in
+    let lo = wf .before .before .before .before .before in
+    let up = lo .before in
+    let z = up .before .before in
     let a = z .args in
     let T = now (a .words) in
     let s : Scope = record { lines = length T / 8; gens = a .n; m = a .m } in
-    let levels = subst (λ k. LevelOrders (now (a .primes)) k (at-level-orders .level-orders .result)) (at-up .up .ensures) (at-level-orders .level-orders .ensures) in
-    found-21 T s refl refl refl levels (subst (TellsForm s (at-level-orders .level-orders .result) T) (not-true (at-well-formed .well-formed .result) (c .if2 .taken)) (at-well-formed .well-formed .ensures))
+    let levels = subst (λ k. LevelOrders (now (a .primes)) k (lo .level-orders .result)) (up .up .ensures) (lo .level-orders .ensures) in
+    found-21 T s refl refl refl levels (subst (TellsForm s (lo .level-orders .result) T) (not-true (wf .well-formed .result) (c .if2 .taken))
+    (wf .well-formed .ensures))
 
 judge-formed-requires : tie.Need-judge-formed-requires
 judge-formed-requires c κs =
-    let at-if2 = c .before in
-    let at-well-formed = at-if2 .before in
-    let at-level-orders = at-well-formed .before .before .before .before .before in
-    let at-up = at-level-orders .before in
-    let z = at-up .before .before in
+    let if2 = c .before in
+    let wf = if2 .before in
+    let lo = wf .before .before .before .before .before in
+    let up = lo .before in
+    let z = up .before .before in
     let a = z .args in
     let (A, K) = z .pre in
     let T = now (a .words) in
     let s : Scope = record { lines = length T / 8; gens = a .n; m = a .m } in
-    let levels = subst (λ k. LevelOrders (now (a .primes)) k (at-level-orders .level-orders .result)) (at-up .up .ensures) (at-level-orders .level-orders .ensures) in
-    let F = subst (TellsForm s (at-level-orders .level-orders .result) T) (not-false (at-well-formed .well-formed .result) (at-if2 .if2 .left)) (at-well-formed .well-formed .ensures) in
+    let levels = subst (λ k. LevelOrders (now (a .primes)) k (lo .level-orders .result)) (up .up .ensures) (lo .level-orders .ensures) in
+    let F = subst (TellsForm s (lo .level-orders .result) T) (not-false (wf .well-formed .result) (if2 .if2 .left)) (wf .well-formed .ensures) in
     (A, sorted-of T s refl refl refl levels F A K)
 
 returns-3 : tie.Need-returns-3
 returns-3 c =
-    let at-if2 = c .before .before in
-    let at-well-formed = at-if2 .before in
-    let at-level-orders = at-well-formed .before .before .before .before .before in
-    let at-up = at-level-orders .before in
-    let z = at-up .before .before in
+    let if2 = c .before .before in
+    let wf = if2 .before in
+    let lo = wf .before .before .before .before .before in
+    let up = lo .before in
+    let z = up .before .before in
     let a = z .args in
     let T = now (a .words) in
     let s : Scope = record { lines = length T / 8; gens = a .n; m = a .m } in
-    let levels = subst (λ k. LevelOrders (now (a .primes)) k (at-level-orders .level-orders .result)) (at-up .up .ensures) (at-level-orders .level-orders .ensures) in
-    let F = subst (TellsForm s (at-level-orders .level-orders .result) T) (not-false (at-well-formed .well-formed .result) (at-if2 .if2 .left)) (at-well-formed .well-formed .ensures) in
+    let levels = subst (λ k. LevelOrders (now (a .primes)) k (lo .level-orders .result)) (up .up .ensures) (lo .level-orders .ensures) in
+    let F = subst (TellsForm s (lo .level-orders .result) T) (not-false (wf .well-formed .result) (if2 .if2 .left)) (wf .well-formed .ensures) in
     found-formed T s refl refl refl levels F (c .judge-formed .ensures)
 
 pub judge-spec : {M : Type 1} → statement M

@@ -1,6 +1,5 @@
 -- `stride`: a product of numbers within the ceilings.
-use mathlib.Core.Path.{_≡_, ap₂}
-use Prim.Native.Nat.{_*_, _≤_}
+use Prim.Native.Nat.{_≤_}
 use native.Mathlib.Nat.{mul-le-mul}
 use native.Mathlib.Omega.{arith}
 use borrow.Author.Needs.{needs}
