@@ -36,7 +36,7 @@ use Rattle.compare.specs.declared.Stage.{Stage}
 use Rattle.compare.specs.Blocks.{Inside}
 use Rattle.compare.proofs.Staged.{found-inside, lined-found, lined-place}
 use Rattle.compare.proofs.Blocks.{inside-matrix}
-use Rattle.check_fit.specs.Relates.{Says, Carries, ledTo, Leads, Reached, RepRelates}
+use Rattle.check_columns.specs.Relates.{Says, Carries, ledTo, Leads, Reached, RepRelates}
 use Rattle.check_fit.specs.Fit.{repAtLevel, LevelFits, Character, Characters, CharactersRelate, FirstStaged}
 use Rattle.check_fit.proofs.Compared.{found-head, found-first-ref, found-target}
 use Rattle.check_fit.proofs.Level.{found-is}

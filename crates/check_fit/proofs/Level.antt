@@ -27,7 +27,7 @@ use Rattle.compare.specs.Staged.{Staged}
 use Rattle.compare.specs.Blocks.{block, Inside, Upper, refAt, BlockFits, RepFits}
 use Rattle.compare.proofs.Staged.{found-inside, high-at, high-place}
 use Rattle.compare.proofs.Stored.{fits-stored}
-use Rattle.check_fit.specs.Relates.{Says, ledTo, Leads, Reached, RepRelates}
+use Rattle.check_columns.specs.Relates.{Says, ledTo, Leads, Reached, RepRelates}
 use Rattle.check_fit.specs.Fit.{repAtLevel, widthBelow, Compares, Relates, LevelFits}
 use Rattle.check_fit.proofs.Compared.{found-target, compared}
 

@@ -1,7 +1,6 @@
 -- Laws of the quick yes.
 pub mod Compared
 pub mod Lines
-pub mod Carrying
 pub mod Level
 pub mod First
 pub mod Levels

@@ -29,7 +29,7 @@ use Rattle.seek.specs.Formed.{Ordered}
 use Rattle.seek.proofs.Seek.{found-first}
 use Rattle.claims.specs.Claims.{OneReference, Unshared}
 use Rattle.check_blocks.specs.Squares.{AddsUp}
-use Rattle.check_fit.specs.Relates.{Says}
+use Rattle.check_columns.specs.Relates.{Says}
 use Rattle.check_fit.specs.Fit.{LevelsFit, Passes}
 
 -- ---- References

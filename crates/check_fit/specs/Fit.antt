@@ -36,7 +36,7 @@ use Rattle.check_lines.specs.Lines.{targetOk}
 use Rattle.compare.specs.declared.Stage.{Stage}
 use Rattle.compare.specs.Staged.{maxLines, Lined}
 use Rattle.compare.specs.Blocks.{RepFits}
-use Rattle.check_fit.specs.Relates.{Says, RepRelates}
+use Rattle.check_columns.specs.Relates.{Says, RepRelates}
 
 abbrev pub repAtLevel : Scope → List ℕ → (i r : ℕ) → Listed
 repAtLevel s T i r = listedIn T (firstLine (s .gens) T i r)

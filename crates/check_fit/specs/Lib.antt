@@ -1,4 +1,3 @@
 -- What a quick yes asks and says.
 pub mod Lines
-pub mod Relates
 pub mod Fit

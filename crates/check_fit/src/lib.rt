@@ -3,7 +3,6 @@
 // says true the table passes, and nothing else is said.
 //
 //   first_lines                          the first lines of a level, in a list
-//   carries, carries_all, rep_relates    the relations of a representation, in single columns
 //   level_compares, level_relates        all representations of a level above the first
 //   level_fits                           such a level
 //   character_ok, characters_ok, characters_relate, first_fits     level 1
@@ -15,15 +14,12 @@ ghost use Prim.Native.Nat.{suc, _≤_, _<_};
 ghost use lib.ListN.{length, getD};
 ghost use Rattle.definitions.specs.Presentation.{Presentation, maxGenerators, pairNumber};
 ghost use Rattle.seek.specs.Seek.{Whole};
-ghost use Rattle.relations.specs.Kept.{Kept};
-ghost use Rattle.relations.specs.Said.{WordOf};
 ghost use Rattle.compare.specs.Staged.{maxLines, Staged};
 ghost use Rattle.compare.specs.Blocks.{Inside};
 ghost use Rattle.check_heads.specs.Places.{Counted};
 ghost use Rattle.check_fit.specs.Lines.{FirstLines};
 ghost use Rattle.check_fit.specs.Fit.{Compares, Relates, LevelFits, LevelOne, LevelsFit, Passes};
 ghost use Rattle.check_fit.specs.Fit.{FirstStaged, Character, Characters, CharactersRelate};
-ghost use Rattle.check_fit.specs.Relates.{Carries, CarriesAll, Reached, RepRelates};
 use compare::Stage;
 use conditions::size::Orders;
 use level::Listed;
@@ -56,75 +52,6 @@ fn first_lines(words: &[u32], s: Scope, i: u32, firsts: &mut [u32], at: usize) -
     }
 }
 
-// ---- The relations of the generator on top
-
-// The intertwiner of generator j, whose word with generator i is w, carries generator i from d to e, of the same degree, in every
-// v-th column.
-fn carries(words: &[u32], s: Scope, d: Listed, e: Listed, i: u32, j: u32, w: &Row, v: u32) -> bool
-    requires { ⌜ Kept s (now words) d × Kept s (now words) e × (e .deg ≡ d .deg) × (i < j) × (j < s .gens) × (0 < v) × (v ≤ maxLines) × (d .deg ≤ maxLines) ⌝ }
-    ensures { λ r. ⌜ (r ≡ true → (P : Presentation) → WordOf i j (now (w .entry)) P → Carries s (now (words .entry)) d e i j v P) ⌝ }
-{
-    let deg = d.deg;
-    let mut o: u32 = 0;
-    while o < deg {
-        if !relations::intertwines_at(words, s, d, e, i, j, w, o) {
-            return false;
-        }
-        o += v;
-    }
-    true
-}
-
-// So do those of all generators above the top.
-fn carries_all(
-    words: &[u32],
-    firsts: &[u32],
-    rows: &Words,
-    s: Scope,
-    g: Stage,
-    d: Listed,
-    v: u32,
-) -> bool
-    requires { ⌜ Reached s (now words) (now firsts) g d × (0 < v) × (v ≤ maxLines) ⌝ }
-    ensures { λ r. ⌜ (r ≡ true → CarriesAll s (now (words .entry)) (now (firsts .entry)) g d (now (rows .entry)) v) ⌝ }
-{
-    let gens = s.gens;
-    let top = g.top;
-    for j in top + 1..gens {
-        let e = compare::rep_at(
-            words,
-            firsts,
-            g.high + level::up(level::target(words, d, j)),
-        );
-        let w = rows::word(rows, level::up(j), level::up(top));
-        if !carries(words, s, d, e, top, j, &w, v) {
-            return false;
-        }
-    }
-    true
-}
-
-// The power relation of the generator on top holds in column 0 of d, and the intertwiners carry it over in every v-th column.
-fn rep_relates(
-    words: &[u32],
-    firsts: &[u32],
-    rows: &Words,
-    s: Scope,
-    g: Stage,
-    d: Listed,
-    v: u32,
-) -> bool
-    requires { ⌜ Reached s (now words) (now firsts) g d × (0 < v) × (v ≤ maxLines) ⌝ }
-    ensures { λ r. ⌜ (r ≡ true → RepRelates s (now (words .entry)) (now (firsts .entry)) g d (now (rows .entry)) v) ⌝ }
-{
-    let t = level::up(g.top);
-    let u = rows::word(rows, t, t);
-    if !relations::power_at(words, s, d, g.top, g.p, &u, 0) {
-        return false;
-    }
-    carries_all(words, firsts, rows, s, g, d, v)
-}
-
 // ---- A level above the first
 
 // Every representation of the level is compared with those below.
@@ -147,12 +74,13 @@ fn level_relates(words: &[u32], firsts: &[u32], rows: &Words, s: Scope, g: Stage
     requires { ⌜ Staged s (now words) (now firsts) g × Compares s (now words) g ⌝ }
     ensures { λ r. ⌜ (r ≡ true → Relates s (now (words .entry)) (now (firsts .entry)) g (now (rows .entry))) ⌝ }
 {
+    let reach = commuting::reaches(rows, level::up(s.gens));
     let above = g.above;
     for r in 0..above {
         let d = compare::rep_at(words, firsts, g.high + r);
         let x = level::up(level::word_at(words, d.line, level::REF));
         let f = compare::rep_at(words, firsts, g.low + x);
-        if !rep_relates(words, firsts, rows, s, g, d, f.deg) {
+        if !check_columns::rep_relates(words, firsts, rows, &reach, s, g, d, f.deg) {
             return false;
         }
     }
@@ -212,10 +140,11 @@ fn characters_relate(words: &[u32], firsts: &[u32], rows: &Words, s: Scope, g: S
     requires { ⌜ FirstStaged s (now words) (now firsts) g × Characters s (now words) g ⌝ }
     ensures { λ r. ⌜ (r ≡ true → CharactersRelate s (now (words .entry)) (now (firsts .entry)) g (now (rows .entry))) ⌝ }
 {
+    let reach = commuting::reaches(rows, level::up(s.gens));
     let above = g.above;
     for r in 0..above {
         let d = compare::rep_at(words, firsts, g.high + r);
-        if !rep_relates(words, firsts, rows, s, g, d, 1) {
+        if !check_columns::rep_relates(words, firsts, rows, &reach, s, g, d, 1) {
             return false;
         }
     }

@@ -2,7 +2,7 @@
 --
 --   counted                        how many lines there are, by a division
 --   head-last                      the head of a line, by its last field
---   matrix-is                      the lines of a generator
+--   matrix-is, single-is           the lines of a generator, and its line where the degree is 1
 --   product-fits                   a product of two words
 --   Sizes, size-told, size-last    what is asked of a size, and its last test
 --   place-small, place-heads, place-room      a place by the size of its representation, and then by its heads
@@ -50,6 +50,10 @@ head-last T l i r d g c a b e f =
 pub matrix-is : (T : List ℕ) (l i r d g at : ℕ) → at ≡ l + g * d → allBelow d (λ c. headIs T (at + c) i r d g c) ≡ matrixHeads T l i r d g
 unfolding matrixHeads
 matrix-is T l i r d g at e = ap (λ a. allBelow d (λ c. headIs T (a + c) i r d g c)) e
+
+pub single-is : (T : List ℕ) (l i r g : ℕ) → headIs T (l + g) i r 1 g 0 ≡ matrixHeads T l i r 1 g
+unfolding matrixHeads allBelow
+single-is T l i r g = let e : l + g ≡ l + g * 1 + 0 = omega arith in ap (λ a. headIs T a i r 1 g 0) e
 
 -- ---- The size of a representation
 

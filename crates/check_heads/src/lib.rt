@@ -3,7 +3,8 @@
 //
 //   Place            where a walk is
 //   times            a product of two words
-//   head_is, matrix_heads, rep_heads     the head of a line, of the lines of a generator, of those of a representation
+//   head_is, matrix_heads, single_heads, rep_heads     the head of a line, of the lines of a generator, of those of a
+//                    representation of degree 1, and of any
 //   size_ok          whether a level and a degree are possible, and their lines are there
 //   place_ok         whether a representation stands at a place
 //   turned, onward   the level of a place, and the place behind a representation
@@ -69,11 +70,29 @@ fn matrix_heads(words: &[u32], p: Place, d: Listed, g: u32) -> bool
     true
 }
 
+// The lines of all n generators of a representation of degree 1: line after line.
+fn single_heads(words: &[u32], p: Place, at: usize, n: u32) -> bool
+    requires { ⌜ (8 * (at + n) ≤ length (now words)) × (n ≤ maxGenerators) ⌝ }
+    ensures { λ r. ⌜ r ≡ allBelow n (λ (g : ℕ). matrixHeads (now (words .entry)) at (p .level) (p .rep) 1 g) ⌝ }
+{
+    let mut g: u32 = 0;
+    while g < n {
+        if !head_is(words, at + level::up(g), p, 1, g, 0) {
+            return false;
+        }
+        g += 1;
+    }
+    true
+}
+
 // The lines of all n generators.
 fn rep_heads(words: &[u32], p: Place, d: Listed, n: u32) -> bool
     requires { ⌜ (8 * lineIn d n ≤ length (now words)) × (n ≤ maxGenerators) ⌝ }
     ensures { λ r. ⌜ r ≡ allBelow n (λ (g : ℕ). matrixHeads (now (words .entry)) (d .line) (p .level) (p .rep) (d .deg) g) ⌝ }
 {
+    if d.deg == 1 {
+        return single_heads(words, p, d.line, n);
+    }
     let mut g: u32 = 0;
     while g < n {
         if !matrix_heads(words, p, d, g) {

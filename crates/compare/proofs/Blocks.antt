@@ -4,6 +4,7 @@
 --   block-lines, block-shift         so are those of a block, and its rows can be moved
 --   Lowering                         the first k generators act on the block as on what it refers to
 --   lowering-none, lowering-more, lowering-all      the steps of the loop
+--   single-lines, lower-single       the lines of a representation of degree 1, and generators whose lines are the same
 --   row-single                       a row of one block
 --   carried                          a generator, by what is compared
 --   Raising                          the generators above the top and below k
@@ -30,8 +31,9 @@ use Rattle.seek.specs.Seek.{Found}
 use Rattle.seek.proofs.Halves.{lines-there}
 use Rattle.compare.specs.declared.Stage.{Stage}
 use Rattle.compare.specs.declared.Block.{Block}
-use Rattle.compare.specs.Shifted.{shift, Shifted}
+use Rattle.compare.specs.Shifted.{shift, LineShifted, Shifted, LineSame, LinesSame}
 use Rattle.compare.specs.Staged.{Staged}
+use Rattle.compare.proofs.Shifted.{same-shifted}
 use Rattle.compare.specs.Blocks.{block, Inside, Over, Lower, rowTo, Carried, Upper, Uppers, refAt, BlockFits, Wide, Sound, RepFits}
 
 -- ---- Lines that are there
@@ -67,6 +69,29 @@ module _ {s : Scope} {T : List ℕ} {D : Listed} {B : Block} where
 
   pub lowering-all : {k top : ℕ} → Lowering s T D B k → top ≤ k → Lower s T D B top
   lowering-all h l = record { each = λ g b. h .each g (omega arith) }
+
+module _ {s : Scope} {T : List ℕ} {D : Listed} {B : Block} (O : Over s T D B) (one : D .deg ≡ 1) {top : ℕ} (low : top < s .gens) where
+  width-one : B .part .deg ≡ 1
+  width-one = omega (arith, O .within, O .stored .positive)
+
+  pub single-lines : (8 * (D .line + top) ≤ length T) × (8 * (B .part .line + top) ≤ length T)
+  single-lines = (
+    lines-there T (D .line + top) (omega (arith, O .inside .room, ap (λ d. s .gens * d) one)),
+    omega (arith, O .stored .holds top low .fits, ap (λ d. top * d) width-one),
+  )
+
+  pub lower-single : LinesSame T (D .line) (B .part .line) top (B .refn) → Lower s T D B top
+  lower-single h = record { each = λ g l. record { each = λ c b. line g c l b } }
+    where
+      line : (g c : ℕ) → g < top → c < B .part .deg
+          → LineShifted (s .m) T (lineIn D g + B .start + c) (lineIn (B .part) g + c) (shift (B .refn) (B .start) 0)
+      line g c l b =
+          let first : B .start ≡ 0 = omega (arith, O .within, O .stored .positive) in
+          let at : D .line + g ≡ lineIn D g + B .start + c = omega (arith, ap (λ d. g * d) one, width-one) in
+          let src : B .part .line + g ≡ lineIn (B .part) g + c = omega (arith, ap (λ d. g * d) width-one, width-one) in
+          same-shifted (s .m) T (lineIn D g + B .start + c) (lineIn (B .part) g + c) (B .refn) (B .start)
+          (subst (λ a. LineSame T a (lineIn (B .part) g + c) (B .refn)) at (subst (λ a. LineSame T (D .line + g) a (B .refn)) src (h .each g l)))
+          (O .stored .holds g (omega (arith, low)) .valid c b .exp) first
 
 -- ---- A generator that takes the block to a block
 

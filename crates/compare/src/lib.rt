@@ -4,6 +4,7 @@
 //
 //   Stage, Block, Shift              a level over the level below; a block; what moves a matrix to a block
 //   line_shifted, lines_shifted      lines that are other lines, shifted
+//   line_same, lines_same            lines that are other lines, but for their references
 //   rep_at                           a representation by its place in a list of first lines
 //   lower_fits                       the generators below the top, on a block
 //   block_row, generator_fits        a generator that takes a block to a block
@@ -15,7 +16,7 @@ ghost use mathlib.Core.Bool.{true};
 ghost use Prim.Native.Nat.{ℕ, suc, _+_, _*_, _/_, _≤_, _<_};
 ghost use lib.ListN.{length, getD};
 ghost use Rattle.level.specs.Stored.{entryIn, Holds, listedIn};
-ghost use Rattle.compare.specs.Shifted.{LineShifted, Shifted};
+ghost use Rattle.compare.specs.Shifted.{LineShifted, Shifted, LineSame, LinesSame};
 ghost use Rattle.compare.specs.Staged.{Staged};
 ghost use Rattle.compare.specs.Blocks.{Inside, Over, Lower, Carried, Upper, Uppers, BlockFits, Wide, Sound, RepFits};
 use level::Listed;
@@ -81,6 +82,38 @@ fn lines_shifted(words: &[u32], at: usize, src: usize, d: u32, t: Shift, m: u32)
     true
 }
 
+// The line `at` refers to x, and has row and exponent of the line src.
+fn line_same(words: &[u32], at: usize, src: usize, x: u32) -> bool
+    requires { ⌜ (8 * at + 8 ≤ length (now words)) × (8 * src + 8 ≤ length (now words)) ⌝ }
+    ensures { λ r. ⌜ (r ≡ true → LineSame (now (words .entry)) at src x) ⌝ }
+{
+    if level::word_at(words, at, level::REF) != x {
+        return false;
+    }
+    let y = level::entry_at(words, src);
+    let z = level::entry_at(words, at);
+    if z.row != y.row {
+        return false;
+    }
+    z.exp == y.exp
+}
+
+// So do n lines from `at` on, with those from src on.
+fn lines_same(words: &[u32], at: usize, src: usize, n: u32, x: u32) -> bool
+    requires { ⌜ (8 * (at + n) ≤ length (now words)) × (8 * (src + n) ≤ length (now words)) ⌝ }
+    ensures { λ r. ⌜ (r ≡ true → LinesSame (now (words .entry)) at src n x) ⌝ }
+{
+    let mut k: u32 = 0;
+    while k < n {
+        let c = level::up(k);
+        if !line_same(words, at + c, src + c, x) {
+            return false;
+        }
+        k += 1;
+    }
+    true
+}
+
 // ---- Representations by number
 
 // The representation whose first line stands at a place of a list.
@@ -93,12 +126,15 @@ pub fn rep_at(words: &[u32], firsts: &[u32], at: usize) -> Listed
 
 // ---- One block
 
-// Each generator below the top acts on the block as on what it refers to.
+// Each generator below the top acts on the block as on what it refers to; where the degree is 1, line by line.
 fn lower_fits(words: &[u32], s: Scope, top: u32, d: Listed, b: Block) -> bool
-    requires { ⌜ Over s (now words) d b × (top ≤ s .gens) ⌝ }
+    requires { ⌜ Over s (now words) d b × (top < s .gens) ⌝ }
     ensures { λ r. ⌜ (r ≡ true → Lower s (now (words .entry)) d b top) ⌝ }
 {
     let f = b.part;
+    if d.deg == 1 {
+        return lines_same(words, d.line, f.line, top, b.refn);
+    }
     for g in 0..top {
         let at = level::matrix_line(d, g) + level::up(b.start);
         let t = Shift {

@@ -2,21 +2,31 @@
 use borrow.Author.Needs.{needs}
 use borrow.Author.Count.{below-more}
 use borrow.Author.Tests.{not-false}
+use mathlib.Core.Path.{subst}
 use mathlib.Core.Bool.{false≢true}
 use Prim.Native.Nat.{ℕ, _-_, _<_}
 use native.Mathlib.Omega.{arith}
 use denote.Ref.{now}
-use Rattle.check_fit.specs.Relates.{RepRelates}
+use Rattle.commuting.specs.Commuting.{Quiet}
+use Rattle.check_columns.specs.Relates.{RepRelates}
 use Rattle.check_fit.specs.Fit.{repAtLevel}
 use Rattle.check_fit.proofs.First.{first-place, first-reached, first-relates}
 use Rattle.check_fit.proofs.characters_relate.Statement.{statement}
 use Rattle.check_fit.proofs.characters_relate.Tie as tie
 
 abbrev Inv-loop : tie.InvT-loop
-Inv-loop words firsts rows s g above r₀ r = (q : ℕ) → q < r → RepRelates s words firsts g (repAtLevel s words 1 q) rows 1
+Inv-loop words firsts rows s g reach above r₀ r = (q : ℕ) → q < r → RepRelates s words firsts g (repAtLevel s words 1 q) rows 1
 
 abbrev μ-loop : tie.MeasureT-loop
-μ-loop words firsts rows s g above r₀ r = above - r
+μ-loop words firsts rows s g reach above r₀ r = above - r
+
+up-requires : tie.Need-up-requires Inv-loop μ-loop
+up-requires c κs = search needs
+
+reaches-requires : tie.Need-reaches-requires Inv-loop μ-loop
+reaches-requires c κs =
+    let z = c .before .before .before in
+    omega (arith, c .up .ensures, z .pre .0 .whole .few)
 
 loop-holds : tie.Need-loop-holds Inv-loop μ-loop
 loop-holds c = λ q l. absurd (omega arith)
@@ -24,20 +34,27 @@ loop-holds c = λ q l. absurd (omega arith)
 add-rep-at : tie.Need-add-rep-at Inv-loop μ-loop
 add-rep-at c =
     let at-loop = c .before .before in
-    let z = at-loop .before .before .before in
+    let z = at-loop .before .before .before .before .before in
     omega (arith, first-place (z .pre .0) (at-loop .loop .r) (omega arith) .0, z .good)
 
 rep-at-requires : tie.Need-rep-at-requires Inv-loop μ-loop
 rep-at-requires c κs =
     let at-loop = c .before .before in
-    let z = at-loop .before .before .before in
+    let z = at-loop .before .before .before .before .before in
     first-place (z .pre .0) (at-loop .loop .r) (omega arith)
 
 rep-relates-requires : tie.Need-rep-relates-requires Inv-loop μ-loop
 rep-relates-requires c κs =
-    let at-loop = c .before .before .before in
-    let z = at-loop .before .before .before in
-    (first-reached (z .pre .0) (z .pre .1) (at-loop .loop .r) (omega arith) (c .rep-at .ensures), omega arith, omega arith)
+    let at-rep-at = c .before in
+    let at-loop = at-rep-at .before .before .before in
+    let at-reaches = at-loop .before in
+    let at-up = at-reaches .before in
+    let z = at-up .before .before .before in (
+      first-reached (z .pre .0) (z .pre .1) (at-loop .loop .r) (omega arith) (at-rep-at .rep-at .ensures),
+      omega arith,
+      omega arith,
+      subst (λ n. Quiet n (now (z .args .rows)) (at-reaches .reaches .result)) (at-up .up .ensures) (at-reaches .reaches .ensures),
+    )
 
 returns : tie.Need-returns Inv-loop μ-loop
 returns c = λ e. absurd (false≢true e)
@@ -51,9 +68,9 @@ loop-less c = omega arith
 loop-again : tie.Need-loop-again Inv-loop μ-loop
 loop-again c =
     let at-rep-relates = c .before in
-    let at-rep-at = at-rep-relates .before in
+    let at-rep-at = at-rep-relates .before .before in
     let at-loop = at-rep-at .before .before .before in
-    let z = at-loop .before .before .before in
+    let z = at-loop .before .before .before .before .before in
     let a = z .args in
     let T = now (a .words) in
     below-more (λ q. RepRelates (a .s) T (now (a .firsts)) (a .g) (repAtLevel (a .s) T 1 q) (now (a .rows)) 1) (at-loop .loop .r) (at-loop .loop .inv)
@@ -70,6 +87,8 @@ characters-relate-spec =
     (tie.spec
     Inv-loop
     μ-loop
+    up-requires
+    reaches-requires
     loop-holds
     add-rep-at
     rep-at-requires

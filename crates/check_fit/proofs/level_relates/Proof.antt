@@ -2,7 +2,7 @@
 use borrow.Author.Needs.{needs}
 use borrow.Author.Count.{below-more}
 use borrow.Author.Tests.{not-false}
-use mathlib.Core.Path.{_≡_, refl, _∙_, ap}
+use mathlib.Core.Path.{_≡_, refl, _∙_, ap, subst}
 use mathlib.Core.Bool.{false≢true}
 use Prim.Native.Nat.{ℕ, suc, _+_, _-_, _<_}
 use native.Mathlib.Omega.{arith}
@@ -12,18 +12,27 @@ use Rattle.definitions.specs.Table.{DEG, wordAt}
 use Rattle.level.specs.declared.Listed.{Listed}
 use Rattle.compare.proofs.Staged.{found-inside, low-at, high-place, low-place}
 use Rattle.compare.proofs.Blocks.{inside-matrix}
-use Rattle.check_fit.specs.Relates.{RepRelates}
+use Rattle.commuting.specs.Commuting.{Quiet}
+use Rattle.check_columns.specs.Relates.{RepRelates}
 use Rattle.check_fit.specs.Fit.{repAtLevel, widthBelow}
 use Rattle.check_fit.proofs.Level.{listed-inside, listed-refers, listed-reached, listed-relates}
 use Rattle.check_fit.proofs.level_relates.Statement.{statement}
 use Rattle.check_fit.proofs.level_relates.Tie as tie
 
 abbrev Inv-loop : tie.InvT-loop
-Inv-loop words firsts rows s g above r₀ r = (q : ℕ) → q < r
+Inv-loop words firsts rows s g reach above r₀ r = (q : ℕ) → q < r
     → RepRelates s words firsts g (repAtLevel s words (suc (g .top)) q) rows (widthBelow words firsts g (repAtLevel s words (suc (g .top)) q))
 
 abbrev μ-loop : tie.MeasureT-loop
-μ-loop words firsts rows s g above r₀ r = above - r
+μ-loop words firsts rows s g reach above r₀ r = above - r
+
+up-requires : tie.Need-up-requires Inv-loop μ-loop
+up-requires c κs = search needs
+
+reaches-requires : tie.Need-reaches-requires Inv-loop μ-loop
+reaches-requires c κs =
+    let z = c .before .before .before in
+    omega (arith, c .up .ensures, z .pre .0 .whole .few)
 
 loop-holds : tie.Need-loop-holds Inv-loop μ-loop
 loop-holds c = λ q l. absurd (omega arith)
@@ -31,59 +40,66 @@ loop-holds c = λ q l. absurd (omega arith)
 add-rep-at : tie.Need-add-rep-at Inv-loop μ-loop
 add-rep-at c =
     let at-loop = c .before .before in
-    let z = at-loop .before .before .before in
+    let z = at-loop .before .before .before .before .before in
     omega (arith, high-place (z .pre .0) (at-loop .loop .r) (omega arith) .0, z .good)
 
 rep-at-requires : tie.Need-rep-at-requires Inv-loop μ-loop
 rep-at-requires c κs =
     let at-loop = c .before .before in
-    let z = at-loop .before .before .before in
+    let z = at-loop .before .before .before .before .before in
     high-place (z .pre .0) (at-loop .loop .r) (omega arith)
 
 word-at-requires : tie.Need-word-at-requires Inv-loop μ-loop
 word-at-requires c κs =
     let at-loop = c .before .before .before in
-    let z = at-loop .before .before .before in
+    let z = at-loop .before .before .before .before .before in
     let S = z .pre .0 in
     let I = listed-inside S (z .pre .1) (at-loop .loop .r) (omega arith) (c .rep-at .ensures) in
     (omega (arith, inside-matrix I 0 (S .whole .some), I .positive), omega arith)
 
-up-requires : tie.Need-up-requires Inv-loop μ-loop
-up-requires c κs = search needs
+up-requires-2 : tie.Need-up-requires-2 Inv-loop μ-loop
+up-requires-2 c κs = search needs
 
 add-rep-at-2 : tie.Need-add-rep-at-2 Inv-loop μ-loop
 add-rep-at-2 c =
-    let at-up = c .before in
-    let at-word-at = at-up .before in
+    let at-up2 = c .before in
+    let at-word-at = at-up2 .before in
     let at-rep-at = at-word-at .before in
     let at-loop = at-rep-at .before .before .before in
-    let z = at-loop .before .before .before in
+    let z = at-loop .before .before .before .before .before in
     let S = z .pre .0 in
     let b = listed-refers S (z .pre .1) (at-loop .loop .r) (omega arith) (at-rep-at .rep-at .ensures) in
-    omega (arith, low-place S (at-up .up .result) (omega (arith, b, at-up .up .ensures, at-word-at .word-at .ensures)) .0, z .good)
+    omega (arith, low-place S (at-up2 .up2 .result) (omega (arith, b, at-up2 .up2 .ensures, at-word-at .word-at .ensures)) .0, z .good)
 
 rep-at-requires-2 : tie.Need-rep-at-requires-2 Inv-loop μ-loop
 rep-at-requires-2 c κs =
-    let at-up = c .before in
-    let at-word-at = at-up .before in
+    let at-up2 = c .before in
+    let at-word-at = at-up2 .before in
     let at-rep-at = at-word-at .before in
     let at-loop = at-rep-at .before .before .before in
-    let z = at-loop .before .before .before in
+    let z = at-loop .before .before .before .before .before in
     let S = z .pre .0 in
     let b = listed-refers S (z .pre .1) (at-loop .loop .r) (omega arith) (at-rep-at .rep-at .ensures) in
-    low-place S (at-up .up .result) (omega (arith, b, at-up .up .ensures, at-word-at .word-at .ensures))
+    low-place S (at-up2 .up2 .result) (omega (arith, b, at-up2 .up2 .ensures, at-word-at .word-at .ensures))
 
 rep-relates-requires : tie.Need-rep-relates-requires Inv-loop μ-loop
 rep-relates-requires c κs =
-    let at-up = c .before .before in
-    let at-word-at = at-up .before in
+    let at-rep-at2 = c .before in
+    let at-up2 = at-rep-at2 .before .before in
+    let at-word-at = at-up2 .before in
     let at-rep-at = at-word-at .before in
     let at-loop = at-rep-at .before .before .before in
-    let z = at-loop .before .before .before in
+    let at-reaches = at-loop .before in
+    let at-up = at-reaches .before in
+    let z = at-up .before .before .before in
     let S = z .pre .0 in
     let b = listed-refers S (z .pre .1) (at-loop .loop .r) (omega arith) (at-rep-at .rep-at .ensures) in
-    let F = low-at S (at-up .up .result) (omega (arith, b, at-up .up .ensures, at-word-at .word-at .ensures)) (c .rep-at2 .ensures) refl in
-    (listed-reached S (z .pre .1) (at-loop .loop .r) (omega arith) (at-rep-at .rep-at .ensures), F .positive, found-inside (S .whole) (S .short) F .narrow)
+    let F = low-at S (at-up2 .up2 .result) (omega (arith, b, at-up2 .up2 .ensures, at-word-at .word-at .ensures)) (at-rep-at2 .rep-at2 .ensures) refl in (
+      listed-reached S (z .pre .1) (at-loop .loop .r) (omega arith) (at-rep-at .rep-at .ensures),
+      F .positive,
+      found-inside (S .whole) (S .short) F .narrow,
+      subst (λ n. Quiet n (now (z .args .rows)) (at-reaches .reaches .result)) (at-up .up .ensures) (at-reaches .reaches .ensures),
+    )
 
 returns : tie.Need-returns Inv-loop μ-loop
 returns c = λ e. absurd (false≢true e)
@@ -97,17 +113,17 @@ loop-less c = omega arith
 loop-again : tie.Need-loop-again Inv-loop μ-loop
 loop-again c =
     let at-rep-relates = c .before in
-    let at-rep-at2 = at-rep-relates .before in
-    let at-up = at-rep-at2 .before .before in
-    let at-word-at = at-up .before in
+    let at-rep-at2 = at-rep-relates .before .before in
+    let at-up2 = at-rep-at2 .before .before in
+    let at-word-at = at-up2 .before in
     let at-rep-at = at-word-at .before in
     let at-loop = at-rep-at .before .before .before in
-    let z = at-loop .before .before .before in
+    let z = at-loop .before .before .before .before .before in
     let a = z .args in
     let T = now (a .words) in
     let firsts = now (a .firsts) in
     let v : at-rep-at2 .rep-at2 .result .deg ≡ widthBelow T firsts (a .g) (at-rep-at .rep-at .result)
-    = ap (λ (F : Listed). F .deg) (at-rep-at2 .rep-at2 .ensures) ∙ ap (λ x. wordAt T (getD firsts (a .g .low + x) 0) DEG) (at-up .up .ensures ∙ at-word-at .word-at .ensures) in
+    = ap (λ (F : Listed). F .deg) (at-rep-at2 .rep-at2 .ensures) ∙ ap (λ x. wordAt T (getD firsts (a .g .low + x) 0) DEG) (at-up2 .up2 .ensures ∙ at-word-at .word-at .ensures) in
     below-more (λ q. let D = repAtLevel (a .s) T (suc (a .g .top)) q in RepRelates (a .s) T firsts (a .g) D (now (a .rows)) (widthBelow T firsts (a .g) D))
     (at-loop .loop .r) (at-loop .loop .inv)
     (listed-relates (z .pre .0) (z .pre .1) (at-loop .loop .r) (omega arith) (at-rep-at .rep-at .ensures) v (at-rep-relates .rep-relates .ensures (not-false (at-rep-relates .rep-relates .result) (c .if1 .left))))
@@ -123,11 +139,13 @@ level-relates-spec =
     (tie.spec
     Inv-loop
     μ-loop
+    up-requires
+    reaches-requires
     loop-holds
     add-rep-at
     rep-at-requires
     word-at-requires
-    up-requires
+    up-requires-2
     add-rep-at-2
     rep-at-requires-2
     rep-relates-requires

@@ -1,4 +1,4 @@
--- `lower_fits` compares generator by generator.
+-- `lower_fits` compares line by line where the degree is 1, else generator by generator.
 use borrow.Author.Needs.{needs}
 use borrow.Author.Tests.{not-false}
 use mathlib.Core.Path.{sym, _∙_, ap, ap₂, subst}
@@ -8,7 +8,7 @@ use denote.Ref.{now}
 use Rattle.level.specs.Stored.{lineIn, Holds}
 use Rattle.compare.specs.Shifted.{shift, Shifted}
 use Rattle.compare.proofs.Shifted.{never}
-use Rattle.compare.proofs.Blocks.{inside-matrix, block-lines, block-shift, Lowering, lowering-none, lowering-more, lowering-all}
+use Rattle.compare.proofs.Blocks.{inside-matrix, block-lines, block-shift, Lowering, lowering-none, lowering-more, lowering-all, single-lines, lower-single}
 use Rattle.compare.proofs.lower_fits.Statement.{statement}
 use Rattle.compare.proofs.lower_fits.Tie as tie
 
@@ -18,13 +18,24 @@ Inv-loop words s top d b f g₀ g = Lowering s words d b g
 abbrev μ-loop : tie.MeasureT-loop
 μ-loop words s top d b f g₀ g = top - g
 
+lines-same-requires : tie.Need-lines-same-requires Inv-loop μ-loop
+lines-same-requires c κs =
+    let z = c .before .before .before .before in
+    single-lines (z .pre .0) (c .if1 .taken) (z .pre .1)
+
+returns : tie.Need-returns Inv-loop μ-loop
+returns c = λ e.
+    let at-if1 = c .before in
+    let z = at-if1 .before .before .before .before in
+    lower-single (z .pre .0) (at-if1 .if1 .taken) (z .pre .1) (c .lines-same .ensures e)
+
 loop-holds : tie.Need-loop-holds Inv-loop μ-loop
 loop-holds c = lowering-none
 
 matrix-line-requires : tie.Need-matrix-line-requires Inv-loop μ-loop
 matrix-line-requires c κs =
     let at-loop = c .before in
-    let z = at-loop .before .before .before in
+    let z = at-loop .before .before .before .before .before in
     omega (arith, inside-matrix (z .pre .0 .inside) (at-loop .loop .g) (omega (arith, z .pre .1)), z .good)
 
 up-requires : tie.Need-up-requires Inv-loop μ-loop
@@ -34,13 +45,13 @@ add-at : tie.Need-add-at Inv-loop μ-loop
 add-at c =
     let at-matrix-line = c .before in
     let at-loop = at-matrix-line .before .before in
-    let z = at-loop .before .before .before in
+    let z = at-loop .before .before .before .before .before in
     omega (arith, block-lines (z .pre .0) (at-loop .loop .g) (omega (arith, z .pre .1)), at-matrix-line .matrix-line .ensures, c .up .ensures, z .good)
 
 matrix-line-requires-2 : tie.Need-matrix-line-requires-2 Inv-loop μ-loop
 matrix-line-requires-2 c κs =
     let at-loop = c .before .before .before in
-    let z = at-loop .before .before .before in
+    let z = at-loop .before .before .before .before .before in
     omega (arith, z .pre .0 .stored .holds (at-loop .loop .g) (omega (arith, z .pre .1)) .fits, z .good)
 
 lines-shifted-requires : tie.Need-lines-shifted-requires Inv-loop μ-loop
@@ -48,7 +59,7 @@ lines-shifted-requires c κs =
     let at-up = c .before in
     let at-matrix-line = at-up .before in
     let at-loop = at-matrix-line .before .before in
-    let z = at-loop .before .before .before in
+    let z = at-loop .before .before .before .before .before in
     let a = z .args in
     let O = z .pre .0 in
     let l : at-loop .loop .g < a .s .gens = omega (arith, z .pre .1) in (
@@ -58,8 +69,8 @@ lines-shifted-requires c κs =
       block-shift O (a .b .start) (omega (arith, O .within, O .stored .positive)),
     )
 
-returns : tie.Need-returns Inv-loop μ-loop
-returns c = never
+returns-2 : tie.Need-returns-2 Inv-loop μ-loop
+returns-2 c = never
 
 add-g : tie.Need-add-g Inv-loop μ-loop
 add-g c = search needs
@@ -74,16 +85,16 @@ loop-again c =
     let at-up = at-matrix-line2 .before in
     let at-matrix-line = at-up .before in
     let at-loop = at-matrix-line .before .before in
-    let z = at-loop .before .before .before in
+    let z = at-loop .before .before .before .before .before in
     let a = z .args in
-    let H = at-lines-shifted .lines-shifted .ensures (not-false (at-lines-shifted .lines-shifted .result) (c .if1 .left)) in
+    let H = at-lines-shifted .lines-shifted .ensures (not-false (at-lines-shifted .lines-shifted .result) (c .if2 .left)) in
     lowering-more (at-loop .loop .inv) (
     subst (λ l. Shifted (a .s .m) (now (a .words)) (lineIn (a .d) (at-loop .loop .g) + a .b .start) l (a .b .part .deg) (shift (a .b .refn) (a .b .start) 0)) (at-matrix-line2 .matrix-line2 .ensures) (
     subst (λ l. Shifted (a .s .m) (now (a .words)) l (at-matrix-line2 .matrix-line2 .result) (a .b .part .deg) (shift (a .b .refn) (a .b .start) 0))
     (ap₂ _+_ (at-matrix-line .matrix-line .ensures) (at-up .up .ensures)) H))
 
-returns-2 : tie.Need-returns-2 Inv-loop μ-loop
-returns-2 c = λ e.
+returns-3 : tie.Need-returns-3 Inv-loop μ-loop
+returns-3 c = λ e.
     let at-loop = c .before in
     lowering-all (at-loop .loop .inv) (omega arith)
 
@@ -93,14 +104,16 @@ lower-fits-spec =
     (tie.spec
     Inv-loop
     μ-loop
+    lines-same-requires
+    returns
     loop-holds
     matrix-line-requires
     up-requires
     add-at
     matrix-line-requires-2
     lines-shifted-requires
-    returns
+    returns-2
     add-g
     loop-less
     loop-again
-    returns-2)
+    returns-3)

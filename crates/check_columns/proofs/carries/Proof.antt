@@ -5,9 +5,9 @@ use mathlib.Core.Path.{sym, _∙_}
 use mathlib.Core.Bool.{false≢true}
 use Prim.Native.Nat.{_-_}
 use native.Mathlib.Omega.{arith}
-use Rattle.check_fit.proofs.Carrying.{Carrying, carrying-none, carrying-more, carrying-all}
-use Rattle.check_fit.proofs.carries.Statement.{statement}
-use Rattle.check_fit.proofs.carries.Tie as tie
+use Rattle.check_columns.proofs.Carrying.{Carrying, carrying-none, carrying-more, carrying-all}
+use Rattle.check_columns.proofs.carries.Statement.{statement}
+use Rattle.check_columns.proofs.carries.Tie as tie
 
 abbrev Inv-loop : tie.InvT-loop
 Inv-loop words s d e i j w v deg o₀ o = Carrying s words d e i j w v o

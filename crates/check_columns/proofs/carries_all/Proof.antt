@@ -3,6 +3,8 @@ use borrow.Author.Needs.{needs}
 use borrow.Author.Tests.{not-false}
 use mathlib.Core.Path.{_≡_, sym, _∙_, ap, subst}
 use mathlib.Core.Bool.{false≢true}
+use mathlib.Core.Logic.{⊎-elim}
+use mathlib.Core.List.{[]}
 use Prim.Native.Nat.{suc, _+_, _*_, _-_, _≤_, _<_}
 use native.Mathlib.Omega.{arith}
 use lib.ListN.{length, getD}
@@ -11,16 +13,16 @@ use Rattle.level.specs.declared.Listed.{Listed}
 use Rattle.level.specs.Stored.{listedIn}
 use Rattle.level.proofs.Laws.{stored-fewer}
 use Rattle.relations.specs.Kept.{Kept}
-use Rattle.check_fit.specs.Relates.{Carries, ledTo}
-use Rattle.check_fit.proofs.Carrying.{Rising, rising-none, rising-more, rising-all, says-word}
-use Rattle.check_fit.proofs.carries_all.Statement.{statement}
-use Rattle.check_fit.proofs.carries_all.Tie as tie
+use Rattle.check_columns.specs.Relates.{Carries, ledTo}
+use Rattle.check_columns.proofs.Carrying.{Rising, rising-none, rising-more, rising-all, says-word, says-quiet}
+use Rattle.check_columns.proofs.carries_all.Statement.{statement}
+use Rattle.check_columns.proofs.carries_all.Tie as tie
 
 abbrev Inv-loop : tie.InvT-loop
-Inv-loop words firsts rows s g d v gens top j₀ j = Rising s words firsts g d rows v j
+Inv-loop words firsts rows reach s g d v gens top j₀ j = Rising s words firsts g d rows v j
 
 abbrev μ-loop : tie.MeasureT-loop
-μ-loop words firsts rows s g d v gens top j₀ j = gens - j
+μ-loop words firsts rows reach s g d v gens top j₀ j = gens - j
 
 add-j : tie.Need-add-j Inv-loop μ-loop
 add-j c =
@@ -68,15 +70,21 @@ up-requires-2 c κs = search needs
 up-requires-3 : tie.Need-up-requires-3 Inv-loop μ-loop
 up-requires-3 c κs = search needs
 
-word-requires : tie.Need-word-requires Inv-loop μ-loop
-word-requires c κs =
+mul-if1 : tie.Need-mul-if1 Inv-loop μ-loop
+mul-if1 c =
     let at-up2 = c .before in
-    let at-loop = at-up2 .before .before .before .before .before .before in
-    let z = at-loop .before .before .before in
-    (omega (arith, c .up3 .ensures, at-up2 .up2 .ensures, at-loop .loop .inv .from), omega (arith, at-up2 .up2 .ensures, z .pre .0 .kept .few))
+    let z = at-up2 .before .before .before .before .before .before .before .before .before in
+    omega (arith, at-up2 .up2 .ensures, z .pre .0 .kept .few)
 
-carries-requires : tie.Need-carries-requires Inv-loop μ-loop
-carries-requires c κs =
+element-copy-out-if1 : tie.Need-element-copy-out-if1 Inv-loop μ-loop
+element-copy-out-if1 c =
+    let at-up2 = c .before in
+    let at-loop-test = at-up2 .before .before .before .before .before in
+    let z = at-loop-test .before .before .before .before in
+    omega (arith, at-up2 .up2 .ensures, at-loop-test .loop-test .taken, z .pre .0 .kept .few)
+
+commutes-requires : tie.Need-commutes-requires Inv-loop μ-loop
+commutes-requires c κs =
     let at-rep-at = c .before .before .before .before in
     let at-up = at-rep-at .before .before in
     let at-target = at-up .before in
@@ -100,6 +108,46 @@ carries-requires c κs =
 returns : tie.Need-returns Inv-loop μ-loop
 returns c = λ e. absurd (false≢true e)
 
+pair-requires : tie.Need-pair-requires Inv-loop μ-loop
+pair-requires c κs =
+    let at-up3 = c .before .before in
+    let at-up2 = at-up3 .before in
+    let at-loop-test = at-up2 .before .before .before .before .before in
+    let at-loop = at-loop-test .before in
+    let z = at-loop .before .before .before in
+    (omega (arith, at-up3 .up3 .ensures, at-up2 .up2 .ensures, at-loop .loop .inv .from), omega (arith, at-up2 .up2 .ensures, at-loop-test .loop-test .taken, z .pre .0 .kept .few))
+
+mul-carries : tie.Need-mul-carries Inv-loop μ-loop
+mul-carries c = search needs
+
+index-1-carries : tie.Need-index-1-carries Inv-loop μ-loop
+index-1-carries c = search needs
+
+carries-requires : tie.Need-carries-requires Inv-loop μ-loop
+carries-requires c κs =
+    let at-rep-at = c .before .before .before .before .before .before in
+    let at-up = at-rep-at .before .before in
+    let at-target = at-up .before in
+    let at-loop = at-target .before .before in
+    let z = at-loop .before .before .before in
+    let a = z .args in
+    let R = z .pre .0 in
+    let L = R .leads (at-loop .loop .j) (at-loop .loop .inv .from) (omega arith) in
+    let e : at-rep-at .rep-at .result ≡ ledTo (now (a .words)) (now (a .firsts)) (a .g) (a .d) (at-loop .loop .j)
+    = at-rep-at .rep-at .ensures ∙ ap (λ x. listedIn (now (a .words)) (getD (now (a .firsts)) (a .g .high + x) 0)) (at-up .up .ensures ∙ at-target .target .ensures) in (
+      R .kept,
+      subst (Kept (a .s) (now (a .words))) (sym e) (L .kept),
+      ap (λ (E : Listed). E .deg) e ∙ L .degree,
+      at-loop .loop .inv .from,
+      omega arith,
+      z .pre .1,
+      z .pre .2,
+      R .narrow,
+    )
+
+returns-2 : tie.Need-returns-2 Inv-loop μ-loop
+returns-2 c = λ e. absurd (false≢true e)
+
 add-j-2 : tie.Need-add-j-2 Inv-loop μ-loop
 add-j-2 c = search needs
 
@@ -108,9 +156,7 @@ loop-less c = omega arith
 
 loop-again : tie.Need-loop-again Inv-loop μ-loop
 loop-again c =
-    let at-carries = c .before in
-    let at-word = at-carries .before .before in
-    let at-up3 = at-word .before in
+    let at-up3 = c .before .before in
     let at-up2 = at-up3 .before in
     let at-rep-at = at-up2 .before in
     let at-up = at-rep-at .before .before in
@@ -118,14 +164,23 @@ loop-again c =
     let at-loop = at-target .before .before in
     let z = at-loop .before .before .before in
     let a = z .args in
+    let j = at-loop .loop .j in
+    let l = at-loop .loop .inv .from in
+    let rows = now (a .rows) in
     let e : at-rep-at .rep-at .result ≡ ledTo (now (a .words)) (now (a .firsts)) (a .g) (a .d) (at-loop .loop .j)
     = at-rep-at .rep-at .ensures ∙ ap (λ x. listedIn (now (a .words)) (getD (now (a .firsts)) (a .g .high + x) 0)) (at-up .up .ensures ∙ at-target .target .ensures) in
-    rising-more (at-loop .loop .inv) (λ P S. subst (λ (E : Listed). Carries (a .s) (now (a .words)) (a .d) E (a .g .top) (at-loop .loop .j) (a .v) P) e (
-    at-carries .carries .ensures (not-false (at-carries .carries .result) (c .if1 .left)) P
-    (says-word S (at-loop .loop .j) (at-loop .loop .inv .from) (omega arith) (at-word .word .result) (at-up2 .up2 .result) (at-up3 .up3 .result) (at-word .word .ensures) (at-up2 .up2 .ensures) (at-up3 .up3 .ensures))))
+    rising-more (at-loop .loop .inv) (λ P S. subst (λ (E : Listed). Carries (a .s) (now (a .words)) (a .d) E (a .g .top) j (a .v) P) e (
+    ⊎-elim
+    (λ (if1, t, f).
+    let r : getD (now (a .reach)) (at-up2 .up2 .result) 0 ≤ a .g .top = omega (arith, if1 .taken, at-up3 .up3 .ensures) in
+    t .ensures (not-false (t .result) (f .left)) P
+    (says-quiet S (z .pre .3) j l (omega arith) (subst (λ x. getD (now (a .reach)) x 0 ≤ a .g .top) (at-up2 .up2 .ensures) r)))
+    (λ (if1, pair, x, t, f). t .ensures (not-false (t .result) (f .left)) P
+    (says-word S j l (omega arith) (getD rows (pair .result) []) (at-up2 .up2 .result) (at-up3 .up3 .result) (ap (λ t. getD rows t []) (pair .ensures .0)) (at-up2 .up2 .ensures) (at-up3 .up3 .ensures)))
+    (c .if1 .came)))
 
-returns-2 : tie.Need-returns-2 Inv-loop μ-loop
-returns-2 c = λ e.
+returns-3 : tie.Need-returns-3 Inv-loop μ-loop
+returns-3 c = λ e.
     let at-loop = c .before in
     rising-all (at-loop .loop .inv) (omega arith)
 
@@ -143,10 +198,16 @@ carries-all-spec =
     rep-at-requires
     up-requires-2
     up-requires-3
-    word-requires
-    carries-requires
+    mul-if1
+    element-copy-out-if1
+    commutes-requires
     returns
+    pair-requires
+    mul-carries
+    index-1-carries
+    carries-requires
+    returns-2
     add-j-2
     loop-less
     loop-again
-    returns-2)
+    returns-3)

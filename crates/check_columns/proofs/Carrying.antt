@@ -5,23 +5,36 @@
 --   Rising                           so do the intertwiners of the generators above the top and below k
 --   rising-none, rising-more, rising-all            the steps of the loop
 --   says-word, says-power            the words that the rows say
-use mathlib.Core.Path.{_≡_, _∙_, ap, ap₂, subst}
+--   says-quiet                       a word that is empty
+--   walk-empty, plain-conjugated     an empty word moves nothing, and its conjugate is the generator
+use mathlib.Core.Path.{_≡_, refl, sym, _∙_, ap, ap₂, subst}
 use mathlib.Core.Bool.{true}
 use mathlib.Core.List.{List, []}
-use Prim.Native.Nat.{ℕ, suc, _+_, _*_, _≤_, _<_}
+use Prim.Native.Nat.{ℕ, zero, suc, _+_, _*_, _≤_, _<_}
 use native.Mathlib.Nat.{mul-le-mul-right}
 use native.Mathlib.Omega.{arith}
 use native.Mathlib.Decide.{decLt}
 use lib.ListN.{getD}
 use borrow.Author.Count.{below-more}
+use Rattle.definitions.specs.declared.Entry.{Entry}
 use Rattle.definitions.specs.Presentation.{Presentation, toNF, pairNumber}
+use Rattle.definitions.specs.Monomial.{Matrix, entry, act}
+use Rattle.numbers.proofs.Lists.{iter-zero}
+use Rattle.group.proofs.Clauses.{sameForm-eq}
+use Rattle.group.proofs.Rows.{toNF-trivial}
+use Rattle.formulas.specs.Formulas.{walk}
+use Rattle.commuting.specs.Commuting.{Quiet}
+use Rattle.commuting.proofs.Skips.{keeps-empty}
 use Rattle.columns.specs.Columns.{intertwinesAt}
 use Rattle.level.specs.declared.Listed.{Listed}
 use Rattle.seek.specs.declared.Scope.{Scope}
 use Rattle.seek.specs.Among.{repIn}
+use Rattle.level.specs.Stored.{Below, generatorIn}
 use Rattle.relations.specs.Said.{PowerOf, WordOf}
+use Rattle.relations.specs.Tests.{Conjugated}
+use Rattle.relations.proofs.Kept.{conjugate-moved}
 use Rattle.compare.specs.declared.Stage.{Stage}
-use Rattle.check_fit.specs.Relates.{Says, Carries, ledTo, CarriesAll}
+use Rattle.check_columns.specs.Relates.{Says, Carries, ledTo, CarriesAll}
 
 pub record Carrying (s : Scope) (T : List ℕ) (D E : Listed) (i j : ℕ) (w : List ℕ) (v o : ℕ) : Type 0 where
   pub many : ℕ
@@ -80,3 +93,22 @@ module _ {s : Scope} {rows : List (List ℕ)} {i p : ℕ} {P : Presentation} (S 
 
   pub says-power : (u : List ℕ) (a : ℕ) → u ≡ getD rows (pairNumber a a) [] → a ≡ i → PowerOf i p u P
   says-power u a is ai = record { prime = S .prime; word = ap (toNF i) (is ∙ ap (λ a. getD rows (pairNumber a a) []) ai) ∙ S .power }
+
+  pub says-quiet : {reach : List ℕ} → Quiet (s .gens) rows reach → (j : ℕ) → i < j → j < s .gens → getD reach j 0 ≤ i → WordOf i j [] P
+  says-quiet Q j l h r = record {
+    word = toNF-trivial (suc i) [] (λ k b. refl) ∙ sym (sameForm-eq (suc i) _ _ (keeps-empty rows j i (Q .at j h .rest i 1 r l))) ∙ S .word j l h;
+  }
+
+-- ---- The empty word
+
+walk-empty : (m : ℕ) (M : ℕ → Matrix) (i : ℕ) (x : Entry) → walk m M i (toNF i []) x ≡ x
+unfolding walk toNF
+walk-empty m M zero x = refl
+walk-empty m M (suc i) x = iter-zero (act m (M i)) _ ∙ walk-empty m M i x
+
+pub plain-conjugated : (m : ℕ) (T : List ℕ) (D : Listed) (k c : ℕ) (z : Entry) → z ≡ act m (generatorIn T D k) (entry c 0) → Below m (D .deg) z
+    → Conjugated m T D k [] c z
+plain-conjugated m T D k c z q b = record {
+  below = b;
+  is = λ P j. conjugate-moved m T D P k j (suc k) c [] (entry c 0) z refl (sym (walk-empty m (generatorIn T D) (suc k) (entry c 0))) q;
+}

@@ -1,0 +1,2 @@
+-- Laws of the relations in single columns.
+pub mod Carrying

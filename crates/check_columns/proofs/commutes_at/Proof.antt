@@ -1,0 +1,91 @@
+-- `commutes_at` moves a column both ways, or where the degree is 1 compares exponents.
+use mathlib.Core.Path.{sym, _∙_, subst}
+use Prim.Native.Nat.{_<_}
+use denote.Ref.{now}
+use mathlib.Core.List.{[]}
+use Rattle.level.specs.Stored.{Below}
+use Rattle.relations.proofs.Kept.{kept-stored, kept-column, entries-row, entries-exp, intertwiner-moved}
+use Rattle.relations.proofs.Single.{single-intertwiner}
+use Rattle.check_columns.proofs.Carrying.{plain-conjugated}
+use Rattle.check_columns.proofs.commutes_at.Statement.{statement}
+use Rattle.check_columns.proofs.commutes_at.Tie as tie
+
+moved-requires : tie.Need-moved-requires
+moved-requires c κs =
+    let z = c .before in
+    let (K, L, e, i, j, h) = z .pre in (kept-stored K _ i, kept-column K _ h)
+
+moved-requires-2 : tie.Need-moved-requires-2
+moved-requires-2 c κs =
+    let z = c .before .before .before .before in
+    let (K, L, e, i, j, h) = z .pre in
+    (kept-stored L _ i, kept-column L _ (subst (λ d. z .args .c < d) (sym e) h))
+
+returns : tie.Need-returns
+returns c = λ P is.
+    let at-moved2 = c .before .before in
+    let at-if1 = at-moved2 .before in
+    let at-moved = at-if1 .before .before in
+    let z = at-moved .before .before in
+    let a = z .args in
+    let (K, L, e, i, j, h) = z .pre in
+    let z = plain-conjugated (a .s .m) (now (a .words)) (a .d) (a .i) (a .c) (at-moved .moved .result) (at-moved .moved .ensures .0) (at-moved .moved .ensures .1) in
+    single-intertwiner K (at-if1 .if1 .taken) P (a .i) (a .j) (a .c) i j h [] is L e (at-moved2 .moved2 .result) (at-moved .moved .result) z (at-moved2 .moved2 .ensures .0)
+
+moved-requires-3 : tie.Need-moved-requires-3
+moved-requires-3 c κs =
+    let z = c .before .before .before .before in
+    let (K, L, e, i, j, h) = z .pre in (kept-stored K _ j, kept-column K _ h)
+
+moved-requires-4 : tie.Need-moved-requires-4
+moved-requires-4 c κs =
+    let at-moved = c .before .before .before in
+    let z = at-moved .before .before in
+    let (K, L, e, i, j, h) = z .pre in (kept-stored K _ j, at-moved .moved .ensures .1)
+
+moved-requires-5 : tie.Need-moved-requires-5
+moved-requires-5 c κs =
+    let at-moved3 = c .before in
+    let z = at-moved3 .before .before .before .before .before in
+    let (K, L, e, i, j, h) = z .pre in
+    (kept-stored L _ i, subst (λ d. Below (z .args .s .m) d (at-moved3 .moved3 .result)) (sym e) (at-moved3 .moved3 .ensures .1))
+
+returns-2 : tie.Need-returns-2
+returns-2 c = λ P is.
+    let at-moved5 = c .before .before .before in
+    let at-moved4 = at-moved5 .before in
+    let at-moved3 = at-moved4 .before in
+    let at-moved = at-moved3 .before .before .before in
+    let z = at-moved .before .before in
+    let x = z .args in
+    let z = plain-conjugated (x .s .m) (now (x .words)) (x .d) (x .i) (x .c) (at-moved .moved .result) (at-moved .moved .ensures .0) (at-moved .moved .ensures .1) in
+    entries-row (at-moved4 .moved4 .result) (at-moved5 .moved5 .result) (c .if2 .taken)
+    ∙ intertwiner-moved (x .s .m) (now (x .words)) (x .d) P (x .i) (x .j) (x .c) [] (at-moved3 .moved3 .result) (at-moved .moved .result) (at-moved4 .moved4 .result) (at-moved5 .moved5 .result)
+    (at-moved3 .moved3 .ensures .0) z is (x .e) (at-moved4 .moved4 .ensures .0) (at-moved5 .moved5 .ensures .0)
+
+returns-3 : tie.Need-returns-3
+returns-3 c = λ P is.
+    let at-if2 = c .before .before in
+    let at-moved5 = at-if2 .before .before .before in
+    let at-moved4 = at-moved5 .before in
+    let at-moved3 = at-moved4 .before in
+    let at-moved = at-moved3 .before .before .before in
+    let z = at-moved .before .before in
+    let x = z .args in
+    let z = plain-conjugated (x .s .m) (now (x .words)) (x .d) (x .i) (x .c) (at-moved .moved .result) (at-moved .moved .ensures .0) (at-moved .moved .ensures .1) in
+    entries-exp (at-moved4 .moved4 .result) (at-moved5 .moved5 .result) (at-if2 .if2 .left)
+    ∙ intertwiner-moved (x .s .m) (now (x .words)) (x .d) P (x .i) (x .j) (x .c) [] (at-moved3 .moved3 .result) (at-moved .moved .result) (at-moved4 .moved4 .result) (at-moved5 .moved5 .result)
+    (at-moved3 .moved3 .ensures .0) z is (x .e) (at-moved4 .moved4 .ensures .0) (at-moved5 .moved5 .ensures .0)
+
+pub commutes-at-spec : {M : Type 1} → statement M
+commutes-at-spec =
+    tie.close
+    (tie.spec
+    moved-requires
+    moved-requires-2
+    returns
+    moved-requires-3
+    moved-requires-4
+    moved-requires-5
+    returns-2
+    returns-3)

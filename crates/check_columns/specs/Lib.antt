@@ -1,0 +1,2 @@
+-- The relations of the generator on top, in single columns.
+pub mod Relates
