@@ -6,7 +6,9 @@
 --   rising-none, rising-more, rising-all            the steps of the loop
 --   says-word, says-power            the words that the rows say
 --   says-quiet                       a word that is empty
+--   led-is                           where an intertwiner leads, by its place in the list
 --   walk-empty, plain-conjugated     an empty word moves nothing, and its conjugate is the generator
+--   plain-moved                      an intertwiner at a column, where the word is empty
 use mathlib.Core.Path.{_≡_, refl, sym, _∙_, ap, ap₂, subst}
 use mathlib.Core.Bool.{true}
 use mathlib.Core.List.{List, []}
@@ -25,14 +27,14 @@ use Rattle.group.proofs.Rows.{toNF-trivial}
 use Rattle.formulas.specs.Formulas.{walk}
 use Rattle.commuting.specs.Commuting.{Quiet}
 use Rattle.commuting.proofs.Skips.{keeps-empty}
-use Rattle.columns.specs.Columns.{intertwinesAt}
+use Rattle.columns.specs.Columns.{sameAt, intertwinesAt}
 use Rattle.level.specs.declared.Listed.{Listed}
 use Rattle.seek.specs.declared.Scope.{Scope}
 use Rattle.seek.specs.Among.{repIn}
-use Rattle.level.specs.Stored.{Below, generatorIn}
+use Rattle.level.specs.Stored.{Below, generatorIn, listedIn, targetIn}
 use Rattle.relations.specs.Said.{PowerOf, WordOf}
 use Rattle.relations.specs.Tests.{Conjugated}
-use Rattle.relations.proofs.Kept.{conjugate-moved}
+use Rattle.relations.proofs.Kept.{conjugate-moved, intertwiner-moved}
 use Rattle.compare.specs.declared.Stage.{Stage}
 use Rattle.check_columns.specs.Relates.{Says, Carries, ledTo, CarriesAll}
 
@@ -99,6 +101,12 @@ module _ {s : Scope} {rows : List (List ℕ)} {i p : ℕ} {P : Presentation} (S 
     word = toNF-trivial (suc i) [] (λ k b. refl) ∙ sym (sameForm-eq (suc i) _ _ (keeps-empty rows j i (Q .at j h .rest i 1 r l))) ∙ S .word j l h;
   }
 
+-- ---- Where an intertwiner leads
+
+pub led-is : (T firsts : List ℕ) (g : Stage) (D : Listed) (j : ℕ) {E : Listed} {x t : ℕ} → E ≡ listedIn T (getD firsts (g .high + x) 0) → x ≡ t → t ≡ targetIn T D j
+    → E ≡ ledTo T firsts g D j
+led-is T firsts g D j here up is = here ∙ ap (λ x. listedIn T (getD firsts (g .high + x) 0)) (up ∙ is)
+
 -- ---- The empty word
 
 walk-empty : (m : ℕ) (M : ℕ → Matrix) (i : ℕ) (x : Entry) → walk m M i (toNF i []) x ≡ x
@@ -112,3 +120,9 @@ plain-conjugated m T D k c z q b = record {
   below = b;
   is = λ P j. conjugate-moved m T D P k j (suc k) c [] (entry c 0) z refl (sym (walk-empty m (generatorIn T D) (suc k) (entry c 0))) q;
 }
+
+pub plain-moved : (m : ℕ) (T : List ℕ) (D E : Listed) (P : Presentation) (i j c : ℕ) {z y a b : Entry} → z ≡ act m (generatorIn T D i) (entry c 0)
+    → Below m (D .deg) z → y ≡ act m (generatorIn T D j) (entry c 0) → a ≡ act m (generatorIn T D j) z → b ≡ act m (generatorIn T E i) y → WordOf i j [] P
+    → sameAt a b ≡ intertwinesAt P m (repIn T D) (repIn T E) i j c
+plain-moved m T D E P i j c {z} {y} {a} {b} q l first left right is =
+    intertwiner-moved m T D P i j c [] y z a b first (plain-conjugated m T D i c z q l) is E left right

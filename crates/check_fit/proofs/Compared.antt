@@ -11,7 +11,6 @@ use Prim.Native.Nat.{ℕ, suc, _+_, _*_, _/_, _%_, _≤_, _<_}
 use native.Mathlib.Nat.{mod-eq-of-lt, mod-lt, div-add-mod', mul-le-mul-right, mul-lt-mul-of-pos-right, div-lt-iff-lt-mul}
 use native.Mathlib.Omega.{arith}
 use native.Mathlib.Decide.{decLt}
-use lib.ListN.{length}
 use Rattle.definitions.specs.declared.Entry.{Entry}
 use Rattle.definitions.specs.Presentation.{Presentation}
 use Rattle.definitions.specs.Monomial.{entry, col, less, Rep, Level, repOf}
@@ -25,7 +24,6 @@ use Rattle.level.specs.Stored.{entryIn, lineIn, targetIn}
 use Rattle.seek.specs.declared.Scope.{Scope}
 use Rattle.seek.specs.Seek.{Found}
 use Rattle.compare.specs.declared.Stage.{Stage}
-use Rattle.compare.specs.Shifted.{shift, Shifted}
 use Rattle.compare.specs.Staged.{Staged}
 use Rattle.compare.specs.Blocks.{block, Carried, rowTo, Upper, refAt, BlockFits, Wide, RepFits}
 

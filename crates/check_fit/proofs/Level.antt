@@ -7,12 +7,12 @@
 use mathlib.Core.Path.{_≡_, refl, sym, _∙_, ap, subst}
 use mathlib.Core.Bool.{true}
 use mathlib.Core.List.{List}
-use Prim.Native.Nat.{ℕ, suc, _+_, _*_, _≤_, _<_}
+use Prim.Native.Nat.{ℕ, suc, _+_, _*_, _<_}
 use native.Mathlib.Omega.{arith}
 use lib.ListN.{length, getD}
 use Rattle.definitions.specs.Presentation.{Presentation}
 use Rattle.definitions.specs.Monomial.{Rep, repOf}
-use Rattle.definitions.specs.Table.{DEG, REF, wordAt, firstLine, levelAt}
+use Rattle.definitions.specs.Table.{DEG, REF, wordAt, levelAt}
 use Rattle.columns.specs.Columns.{powerAt, intertwinesAt}
 use Rattle.fitting.specs.Fits.{Fitting}
 use Rattle.level.specs.declared.Listed.{Listed}

@@ -3,7 +3,7 @@
 --   Reaching                     the first i levels fit, and the first lines of level i stand in the list
 --   reaching-none, reaching-staged, reaching-more, reaching-all      the steps of the loop
 --   first-staged, level-one      level 1, before and behind its test
-use mathlib.Core.Path.{_≡_, refl, sym, _∙_, ap, subst}
+use mathlib.Core.Path.{_≡_, refl, _∙_, subst}
 use mathlib.Core.List.{List}
 use Prim.Native.Nat.{ℕ, zero, suc, _+_, _≤_, _<_}
 use native.Mathlib.Omega.{arith}
@@ -14,7 +14,6 @@ use Rattle.level.specs.declared.Listed.{Listed}
 use Rattle.level.specs.Stored.{Stored}
 use Rattle.seek.specs.declared.Scope.{Scope}
 use Rattle.seek.specs.Seek.{Whole, Found}
-use Rattle.compare.specs.declared.Stage.{Stage}
 use Rattle.compare.specs.Staged.{maxLines, Lined, Staged}
 use Rattle.check_fit.specs.Lines.{FirstLines}
 use Rattle.check_fit.specs.Fit.{LevelFits, FirstStaged, LevelOne, LevelsFit}

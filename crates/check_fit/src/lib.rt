@@ -10,9 +10,8 @@
 //   small_fits, large_fits, fits         a table, with a list as long as it wants
 ghost use mathlib.Core.Path.{_≡_};
 ghost use mathlib.Core.Bool.{true};
-ghost use Prim.Native.Nat.{suc, _≤_, _<_};
-ghost use lib.ListN.{length, getD};
-ghost use Rattle.definitions.specs.Presentation.{Presentation, maxGenerators, pairNumber};
+ghost use Prim.Native.Nat.{_≤_, _<_};
+ghost use lib.ListN.{length};
 ghost use Rattle.seek.specs.Seek.{Whole};
 ghost use Rattle.compare.specs.Staged.{maxLines, Staged};
 ghost use Rattle.compare.specs.Blocks.{Inside};

@@ -12,11 +12,11 @@
 --   over, fitting-block              a block over what it refers to, and all generators on it
 --   Blocking                         the blocks before a column
 --   blocking-none, blocking-more, blocking-all, blocking-room       the steps of the loop
-use mathlib.Core.Path.{_≡_, refl, sym, _∙_, ap, ap₂, subst}
+use mathlib.Core.Path.{_≡_, sym, _∙_, ap, ap₂, subst}
 use mathlib.Core.Logic.{_⊎_, inl, inr}
 use mathlib.Core.List.{List}
 use Prim.Native.Nat.{ℕ, suc, _+_, _*_, _/_, _≤_, _<_}
-use native.Mathlib.Nat.{mul-le-mul-right, div-eq-of-lt, div-mul-le-self}
+use native.Mathlib.Nat.{mul-le-mul-right, div-eq-of-lt}
 use native.Mathlib.Omega.{arith}
 use native.Mathlib.Decide.{decLt}
 use lib.ListN.{length}

@@ -4,13 +4,12 @@
 --   lined-found, lined-place   a representation of a level whose first lines are listed
 --   low-place, high-place      where its first line stands
 --   low-at, high-at            it is found there
-use mathlib.Core.Path.{_≡_, sym, ap, subst}
+use mathlib.Core.Path.{_≡_, sym, subst}
 use mathlib.Core.List.{List}
 use Prim.Native.Nat.{ℕ, suc, _+_, _*_, _≤_, _<_}
 use native.Mathlib.Nat.{mul-le-mul-right}
 use native.Mathlib.Omega.{arith}
 use lib.ListN.{length, getD}
-use Rattle.definitions.specs.Table.{firstLine, levelAt}
 use Rattle.level.specs.declared.Listed.{Listed}
 use Rattle.level.specs.Stored.{listedIn}
 use Rattle.seek.specs.declared.Scope.{Scope}

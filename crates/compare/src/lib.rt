@@ -13,7 +13,7 @@
 //   width, sound, rep_fits           all blocks of a representation
 ghost use mathlib.Core.Path.{_≡_};
 ghost use mathlib.Core.Bool.{true};
-ghost use Prim.Native.Nat.{ℕ, suc, _+_, _*_, _/_, _≤_, _<_};
+ghost use Prim.Native.Nat.{_+_, _*_, _/_, _≤_, _<_};
 ghost use lib.ListN.{length, getD};
 ghost use Rattle.level.specs.Stored.{entryIn, Holds, listedIn};
 ghost use Rattle.compare.specs.Shifted.{LineShifted, Shifted, LineSame, LinesSame};

@@ -1,7 +1,7 @@
 -- `carries_all` goes through the generators above the top.
 use borrow.Author.Needs.{needs}
 use borrow.Author.Tests.{not-false}
-use mathlib.Core.Path.{_≡_, sym, _∙_, ap, subst}
+use mathlib.Core.Path.{sym, _∙_, ap, subst}
 use mathlib.Core.Bool.{false≢true}
 use mathlib.Core.Logic.{⊎-elim}
 use mathlib.Core.List.{[]}
@@ -10,11 +10,10 @@ use native.Mathlib.Omega.{arith}
 use lib.ListN.{length, getD}
 use denote.Ref.{now}
 use Rattle.level.specs.declared.Listed.{Listed}
-use Rattle.level.specs.Stored.{listedIn}
 use Rattle.level.proofs.Laws.{stored-fewer}
 use Rattle.relations.specs.Kept.{Kept}
-use Rattle.check_columns.specs.Relates.{Carries, ledTo}
-use Rattle.check_columns.proofs.Carrying.{Rising, rising-none, rising-more, rising-all, says-word, says-quiet}
+use Rattle.check_columns.specs.Relates.{Carries}
+use Rattle.check_columns.proofs.Carrying.{Rising, rising-none, rising-more, rising-all, says-word, says-quiet, led-is}
 use Rattle.check_columns.proofs.carries_all.Statement.{statement}
 use Rattle.check_columns.proofs.carries_all.Tie as tie
 
@@ -93,8 +92,7 @@ commutes-requires c κs =
     let a = z .args in
     let R = z .pre .0 in
     let L = R .leads (at-loop .loop .j) (at-loop .loop .inv .from) (omega arith) in
-    let e : at-rep-at .rep-at .result ≡ ledTo (now (a .words)) (now (a .firsts)) (a .g) (a .d) (at-loop .loop .j)
-    = at-rep-at .rep-at .ensures ∙ ap (λ x. listedIn (now (a .words)) (getD (now (a .firsts)) (a .g .high + x) 0)) (at-up .up .ensures ∙ at-target .target .ensures) in (
+    let e = led-is (now (a .words)) (now (a .firsts)) (a .g) (a .d) (at-loop .loop .j) (at-rep-at .rep-at .ensures) (at-up .up .ensures) (at-target .target .ensures) in (
       R .kept,
       subst (Kept (a .s) (now (a .words))) (sym e) (L .kept),
       ap (λ (E : Listed). E .deg) e ∙ L .degree,
@@ -133,8 +131,7 @@ carries-requires c κs =
     let a = z .args in
     let R = z .pre .0 in
     let L = R .leads (at-loop .loop .j) (at-loop .loop .inv .from) (omega arith) in
-    let e : at-rep-at .rep-at .result ≡ ledTo (now (a .words)) (now (a .firsts)) (a .g) (a .d) (at-loop .loop .j)
-    = at-rep-at .rep-at .ensures ∙ ap (λ x. listedIn (now (a .words)) (getD (now (a .firsts)) (a .g .high + x) 0)) (at-up .up .ensures ∙ at-target .target .ensures) in (
+    let e = led-is (now (a .words)) (now (a .firsts)) (a .g) (a .d) (at-loop .loop .j) (at-rep-at .rep-at .ensures) (at-up .up .ensures) (at-target .target .ensures) in (
       R .kept,
       subst (Kept (a .s) (now (a .words))) (sym e) (L .kept),
       ap (λ (E : Listed). E .deg) e ∙ L .degree,
@@ -167,8 +164,7 @@ loop-again c =
     let j = at-loop .loop .j in
     let l = at-loop .loop .inv .from in
     let rows = now (a .rows) in
-    let e : at-rep-at .rep-at .result ≡ ledTo (now (a .words)) (now (a .firsts)) (a .g) (a .d) (at-loop .loop .j)
-    = at-rep-at .rep-at .ensures ∙ ap (λ x. listedIn (now (a .words)) (getD (now (a .firsts)) (a .g .high + x) 0)) (at-up .up .ensures ∙ at-target .target .ensures) in
+    let e = led-is (now (a .words)) (now (a .firsts)) (a .g) (a .d) (at-loop .loop .j) (at-rep-at .rep-at .ensures) (at-up .up .ensures) (at-target .target .ensures) in
     rising-more (at-loop .loop .inv) (λ P S. subst (λ (E : Listed). Carries (a .s) (now (a .words)) (a .d) E (a .g .top) j (a .v) P) e (
     ⊎-elim
     (λ (if1, t, f).
@@ -176,7 +172,8 @@ loop-again c =
     t .ensures (not-false (t .result) (f .left)) P
     (says-quiet S (z .pre .3) j l (omega arith) (subst (λ x. getD (now (a .reach)) x 0 ≤ a .g .top) (at-up2 .up2 .ensures) r)))
     (λ (if1, pair, x, t, f). t .ensures (not-false (t .result) (f .left)) P
-    (says-word S j l (omega arith) (getD rows (pair .result) []) (at-up2 .up2 .result) (at-up3 .up3 .result) (ap (λ t. getD rows t []) (pair .ensures .0)) (at-up2 .up2 .ensures) (at-up3 .up3 .ensures)))
+    (says-word S j l (omega arith) (getD rows (pair .result) []) (at-up2 .up2 .result) (at-up3 .up3 .result)
+    (ap (λ t. getD rows t []) (pair .ensures .0)) (at-up2 .up2 .ensures) (at-up3 .up3 .ensures)))
     (c .if1 .came)))
 
 returns-3 : tie.Need-returns-3 Inv-loop μ-loop

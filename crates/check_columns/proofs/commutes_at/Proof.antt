@@ -4,9 +4,9 @@ use Prim.Native.Nat.{_<_}
 use denote.Ref.{now}
 use mathlib.Core.List.{[]}
 use Rattle.level.specs.Stored.{Below}
-use Rattle.relations.proofs.Kept.{kept-stored, kept-column, entries-row, entries-exp, intertwiner-moved}
+use Rattle.relations.proofs.Kept.{kept-stored, kept-column, entries-row, entries-exp}
 use Rattle.relations.proofs.Single.{single-intertwiner}
-use Rattle.check_columns.proofs.Carrying.{plain-conjugated}
+use Rattle.check_columns.proofs.Carrying.{plain-conjugated, plain-moved}
 use Rattle.check_columns.proofs.commutes_at.Statement.{statement}
 use Rattle.check_columns.proofs.commutes_at.Tie as tie
 
@@ -30,7 +30,8 @@ returns c = λ P is.
     let a = z .args in
     let (K, L, e, i, j, h) = z .pre in
     let z = plain-conjugated (a .s .m) (now (a .words)) (a .d) (a .i) (a .c) (at-moved .moved .result) (at-moved .moved .ensures .0) (at-moved .moved .ensures .1) in
-    single-intertwiner K (at-if1 .if1 .taken) P (a .i) (a .j) (a .c) i j h [] is L e (at-moved2 .moved2 .result) (at-moved .moved .result) z (at-moved2 .moved2 .ensures .0)
+    single-intertwiner K (at-if1 .if1 .taken) P (a .i) (a .j) (a .c) i j h [] is L e (at-moved2 .moved2 .result) (at-moved .moved .result) z
+    (at-moved2 .moved2 .ensures .0)
 
 moved-requires-3 : tie.Need-moved-requires-3
 moved-requires-3 c κs =
@@ -58,10 +59,9 @@ returns-2 c = λ P is.
     let at-moved = at-moved3 .before .before .before in
     let z = at-moved .before .before in
     let x = z .args in
-    let z = plain-conjugated (x .s .m) (now (x .words)) (x .d) (x .i) (x .c) (at-moved .moved .result) (at-moved .moved .ensures .0) (at-moved .moved .ensures .1) in
     entries-row (at-moved4 .moved4 .result) (at-moved5 .moved5 .result) (c .if2 .taken)
-    ∙ intertwiner-moved (x .s .m) (now (x .words)) (x .d) P (x .i) (x .j) (x .c) [] (at-moved3 .moved3 .result) (at-moved .moved .result) (at-moved4 .moved4 .result) (at-moved5 .moved5 .result)
-    (at-moved3 .moved3 .ensures .0) z is (x .e) (at-moved4 .moved4 .ensures .0) (at-moved5 .moved5 .ensures .0)
+    ∙ plain-moved (x .s .m) (now (x .words)) (x .d) (x .e) P (x .i) (x .j) (x .c) (at-moved .moved .ensures .0) (at-moved .moved .ensures .1) (at-moved3 .moved3 .ensures .0)
+    (at-moved4 .moved4 .ensures .0) (at-moved5 .moved5 .ensures .0) is
 
 returns-3 : tie.Need-returns-3
 returns-3 c = λ P is.
@@ -72,10 +72,9 @@ returns-3 c = λ P is.
     let at-moved = at-moved3 .before .before .before in
     let z = at-moved .before .before in
     let x = z .args in
-    let z = plain-conjugated (x .s .m) (now (x .words)) (x .d) (x .i) (x .c) (at-moved .moved .result) (at-moved .moved .ensures .0) (at-moved .moved .ensures .1) in
     entries-exp (at-moved4 .moved4 .result) (at-moved5 .moved5 .result) (at-if2 .if2 .left)
-    ∙ intertwiner-moved (x .s .m) (now (x .words)) (x .d) P (x .i) (x .j) (x .c) [] (at-moved3 .moved3 .result) (at-moved .moved .result) (at-moved4 .moved4 .result) (at-moved5 .moved5 .result)
-    (at-moved3 .moved3 .ensures .0) z is (x .e) (at-moved4 .moved4 .ensures .0) (at-moved5 .moved5 .ensures .0)
+    ∙ plain-moved (x .s .m) (now (x .words)) (x .d) (x .e) P (x .i) (x .j) (x .c) (at-moved .moved .ensures .0) (at-moved .moved .ensures .1) (at-moved3 .moved3 .ensures .0)
+    (at-moved4 .moved4 .ensures .0) (at-moved5 .moved5 .ensures .0) is
 
 pub commutes-at-spec : {M : Type 1} → statement M
 commutes-at-spec =

@@ -1,5 +1,4 @@
 -- `character_ok`: degree, reference, matrices, targets.
-use borrow.Author.Needs.{needs}
 use borrow.Author.Tests.{not-false}
 use mathlib.Core.Path.{sym, _∙_}
 use mathlib.Core.Bool.{false≢true}

@@ -1,12 +1,10 @@
 -- `first_lines` walks the representations of the level.
-use borrow.Author.Needs.{needs}
-use mathlib.Core.Path.{_≡_, refl, sym, _∙_, ap, subst}
-use Prim.Native.Nat.{suc, _+_, _-_, _≤_, _<_}
+use mathlib.Core.Path.{sym, _∙_, subst}
+use Prim.Native.Nat.{suc, _+_, _-_, _<_}
 use native.Mathlib.Omega.{arith}
 use native.Mathlib.Numerals.{add-one}
 use lib.ListN.{length, length-set}
 use denote.Ref.{now}
-use Rattle.definitions.specs.Table.{levelAt}
 use Rattle.seek.specs.Seek.{Found}
 use Rattle.seek.proofs.Seek.{whole-some}
 use Rattle.check_fit.proofs.Lines.{Noted, noted-none, noted-more, noted-all, not-noted}

@@ -1,5 +1,4 @@
 -- `level_fits` compares, asks the relations, and sees to it that no reference is claimed twice.
-use borrow.Author.Needs.{needs}
 use borrow.Author.Tests.{not-false}
 use mathlib.Core.Bool.{false≢true}
 use Rattle.check_fit.proofs.Level as level

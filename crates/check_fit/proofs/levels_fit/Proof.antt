@@ -4,7 +4,6 @@ use borrow.Author.Tests.{not-false}
 use mathlib.Core.Path.{_∙_}
 use mathlib.Core.Bool.{false≢true}
 use native.Mathlib.Omega.{arith}
-use denote.Ref.{now}
 use Rattle.check_fit.proofs.Levels.{first-staged, level-one}
 use Rattle.check_fit.proofs.levels_fit.Statement.{statement}
 use Rattle.check_fit.proofs.levels_fit.Tie as tie

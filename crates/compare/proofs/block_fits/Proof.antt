@@ -8,7 +8,7 @@ use denote.Ref.{now}
 use Rattle.definitions.specs.Table.{REF, wordAt}
 use Rattle.compare.specs.Blocks.{refAt}
 use Rattle.compare.proofs.Shifted.{never}
-use Rattle.compare.proofs.Staged.{found-inside, low-at, low-place}
+use Rattle.compare.proofs.Staged.{low-at, low-place}
 use Rattle.compare.proofs.Blocks.{inside-column, over, fitting-block}
 use Rattle.compare.proofs.block_fits.Statement.{statement}
 use Rattle.compare.proofs.block_fits.Tie as tie

@@ -1,7 +1,6 @@
 -- `led_to` finds where the generator leads, compares degree and width, and then the block.
 use borrow.Author.Needs.{needs}
-use mathlib.Core.Path.{_≡_, sym, _∙_, ap, subst}
-use Prim.Native.Nat.{_+_, _<_}
+use mathlib.Core.Path.{_≡_, _∙_, ap, subst}
 use native.Mathlib.Omega.{arith}
 use denote.Ref.{now}
 use Rattle.definitions.specs.Table.{REF, wordAt}

@@ -1,7 +1,7 @@
 -- `lines_shifted` compares line by line.
 use borrow.Author.Needs.{needs}
-use borrow.Author.Tests.{not-true, not-false}
-use mathlib.Core.Path.{ap, subst}
+use borrow.Author.Tests.{not-false}
+use mathlib.Core.Path.{subst}
 use Prim.Native.Nat.{_+_, _-_}
 use native.Mathlib.Omega.{arith}
 use denote.Ref.{now}

@@ -1,7 +1,7 @@
 -- `lower_fits` compares line by line where the degree is 1, else generator by generator.
 use borrow.Author.Needs.{needs}
 use borrow.Author.Tests.{not-false}
-use mathlib.Core.Path.{sym, _∙_, ap, ap₂, subst}
+use mathlib.Core.Path.{sym, ap₂, subst}
 use Prim.Native.Nat.{_+_, _-_, _<_}
 use native.Mathlib.Omega.{arith}
 use denote.Ref.{now}

@@ -1,5 +1,4 @@
 -- `rep_fits` goes from block to block.
-use borrow.Author.Needs.{needs}
 use borrow.Author.Tests.{not-false}
 use Prim.Native.Nat.{_-_}
 use native.Mathlib.Omega.{arith}

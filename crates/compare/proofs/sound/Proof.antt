@@ -1,5 +1,4 @@
 -- `sound` asks for valid matrices where there are several blocks.
-use borrow.Author.Needs.{needs}
 use mathlib.Core.Path.{sym, _∙_}
 use Rattle.seek.proofs.Halves.{lines-there}
 use Rattle.compare.proofs.sound.Statement.{statement}

@@ -7,7 +7,6 @@ use native.Mathlib.Nat.{mul-le-mul-left}
 use native.Mathlib.Omega.{arith}
 use denote.Ref.{now}
 use Rattle.definitions.specs.Table.{REF, wordAt}
-use Rattle.level.specs.Stored.{targetIn}
 use Rattle.compare.proofs.Staged.{found-inside, low-at, low-place}
 use Rattle.compare.proofs.Blocks.{inside-matrix}
 use Rattle.compare.proofs.width.Statement.{statement}
