@@ -36,7 +36,7 @@ use Rattle.relations.specs.Said.{PowerOf, WordOf}
 use Rattle.relations.specs.Tests.{Conjugated}
 use Rattle.relations.proofs.Kept.{conjugate-moved, intertwiner-moved}
 use Rattle.compare.specs.declared.Stage.{Stage}
-use Rattle.check_columns.specs.Relates.{Says, Carries, ledTo, CarriesAll}
+use Rattle.check_columns.specs.Relates.{SaysTop, Carries, ledTo, CarriesAll}
 
 pub record Carrying (s : Scope) (T : List ℕ) (D E : Listed) (i j : ℕ) (w : List ℕ) (v o : ℕ) : Type 0 where
   pub many : ℕ
@@ -68,19 +68,19 @@ module _ {s : Scope} {T : List ℕ} {D E : Listed} {i j : ℕ} {w : List ℕ} {v
 
 pub record Rising (s : Scope) (T firsts : List ℕ) (g : Stage) (D : Listed) (rows : List (List ℕ)) (v k : ℕ) : Type 0 where
   pub from : g .top < k
-  pub each : (j : ℕ) → g .top < j → j < k → (P : Presentation) → Says s rows (g .top) (g .p) P
+  pub each : (j : ℕ) → g .top < j → j < k → (P : Presentation) → SaysTop s rows (g .top) (g .p) P
       → Carries s T D (ledTo T firsts g D j) (g .top) j v P
 
 pub rising-none : (s : Scope) (T firsts : List ℕ) (g : Stage) (D : Listed) (rows : List (List ℕ)) (v : ℕ) → Rising s T firsts g D rows v (g .top + 1)
 rising-none s T firsts g D rows v = record { from = omega arith; each = λ j l h. absurd (omega arith) }
 
 module _ {s : Scope} {T firsts : List ℕ} {g : Stage} {D : Listed} {rows : List (List ℕ)} {v k : ℕ} (h : Rising s T firsts g D rows v k) where
-  pub rising-more : ((P : Presentation) → Says s rows (g .top) (g .p) P → Carries s T D (ledTo T firsts g D k) (g .top) k v P)
+  pub rising-more : ((P : Presentation) → SaysTop s rows (g .top) (g .p) P → Carries s T D (ledTo T firsts g D k) (g .top) k v P)
       → Rising s T firsts g D rows v (k + 1)
   rising-more q = record {
     from = omega (arith, h .from);
     each = λ j a b.
-        below-more (λ j. g .top < j → (P : Presentation) → Says s rows (g .top) (g .p) P → Carries s T D (ledTo T firsts g D j) (g .top) j v P) k
+        below-more (λ j. g .top < j → (P : Presentation) → SaysTop s rows (g .top) (g .p) P → Carries s T D (ledTo T firsts g D j) (g .top) j v P) k
         (λ j b a. h .each j a b) (λ a. q) j b a;
   }
 
@@ -89,7 +89,7 @@ module _ {s : Scope} {T firsts : List ℕ} {g : Stage} {D : Listed} {rows : List
 
 -- ---- Words
 
-module _ {s : Scope} {rows : List (List ℕ)} {i p : ℕ} {P : Presentation} (S : Says s rows i p P) where
+module _ {s : Scope} {rows : List (List ℕ)} {i p : ℕ} {P : Presentation} (S : SaysTop s rows i p P) where
   pub says-word : (j : ℕ) → i < j → j < s .gens → (w : List ℕ) (a b : ℕ) → w ≡ getD rows (pairNumber a b) [] → a ≡ j → b ≡ i → WordOf i j w P
   says-word j l h w a b is ja bi = record { word = ap (toNF (suc i)) (is ∙ ap₂ (λ a b. getD rows (pairNumber a b) []) ja bi) ∙ S .word j l h }
 

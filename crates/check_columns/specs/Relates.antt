@@ -1,6 +1,6 @@
 -- The relations of the generator on top, in single columns.
 --
---   Says s rows i p P              p is the prime of generator i of P, and rows are its words with the generators above it
+--   SaysTop s rows i p P              p is the prime of generator i of P, and rows are its words with the generators above it
 --   Carries s T D E i j v P        the intertwiner of generator j carries generator i from D to E, in every v-th column
 --   ledTo T firsts g D j           where the intertwiner of generator j leads from D
 --   Leads s T firsts g D j         it leads to lines that hold matrices of the same degree
@@ -21,7 +21,7 @@ use Rattle.seek.specs.Among.{repIn}
 use Rattle.relations.specs.Kept.{Kept}
 use Rattle.compare.specs.declared.Stage.{Stage}
 
-pub record Says (s : Scope) (rows : List (List ℕ)) (i p : ℕ) (P : Presentation) : Type 0 where
+pub record SaysTop (s : Scope) (rows : List (List ℕ)) (i p : ℕ) (P : Presentation) : Type 0 where
   pub prime : p ≡ P .p i
   pub power : toNF i (getD rows (pairNumber i i) []) ≡ P .u i
   pub word : (j : ℕ) → i < j → j < s .gens → toNF (suc i) (getD rows (pairNumber j i) []) ≡ P .w i j
@@ -45,9 +45,9 @@ module _ (s : Scope) (T firsts : List ℕ) (g : Stage) (D : Listed) where
     pub leads : (j : ℕ) → g .top < j → j < s .gens → Leads j
 
   pub record CarriesAll (rows : List (List ℕ)) (v : ℕ) : Type 0 where
-    pub each : (j : ℕ) → g .top < j → j < s .gens → (P : Presentation) → Says s rows (g .top) (g .p) P
+    pub each : (j : ℕ) → g .top < j → j < s .gens → (P : Presentation) → SaysTop s rows (g .top) (g .p) P
         → Carries s T D (ledTo T firsts g D j) (g .top) j v P
 
   pub record RepRelates (rows : List (List ℕ)) (v : ℕ) : Type 0 where
-    pub power : (P : Presentation) → Says s rows (g .top) (g .p) P → powerAt P (s .m) (repIn T D) (g .top) 0 ≡ true
+    pub power : (P : Presentation) → SaysTop s rows (g .top) (g .p) P → powerAt P (s .m) (repIn T D) (g .top) 0 ≡ true
     pub carries : CarriesAll rows v

@@ -1,7 +1,7 @@
 -- What is compared of a representation is what fitting asks of it.
 --
 --   found-column, found-ref, found-first-ref     a representation that is found, read off its lines
---   Cut, cut-of                                  how many blocks it has
+--   BlockCount, cut-of                                  how many blocks it has
 --   compared                                     the fields of `Fitting` that are comparisons
 use mathlib.Core.Path.{_≡_, refl, sym, _∙_, ap, ap₂, subst}
 use mathlib.Core.Logic.{_⊎_, inl, inr}
@@ -25,7 +25,7 @@ use Rattle.seek.specs.declared.Scope.{Scope}
 use Rattle.seek.specs.Seek.{Found}
 use Rattle.compare.specs.declared.Stage.{Stage}
 use Rattle.compare.specs.Staged.{Staged}
-use Rattle.compare.specs.Blocks.{block, Carried, rowTo, Upper, refAt, BlockFits, Wide, RepFits}
+use Rattle.compare.specs.Blocks.{block, TakesBlock, rowTo, Upper, refAt, BlockFits, Wide, RepFits}
 
 -- ---- A representation that is found
 
@@ -49,16 +49,16 @@ module _ {n : ℕ} {T : List ℕ} {i r : ℕ} {D : Listed} (G : Found n T i r D)
 
 -- ---- How many blocks
 
-pub record Cut (T : List ℕ) (g : Stage) (D : Listed) (w : ℕ) (F : Listed) : Type 0 where
+pub record BlockCount (T : List ℕ) (g : Stage) (D : Listed) (w : ℕ) (F : Listed) : Type 0 where
   pub count : ℕ
   pub is : D .deg ≡ count * w
   pub one-or-p : (count ≡ 1) ⊎ (count ≡ g .p)
   pub moved : ¬ (count ≡ 1) → ¬ (targetIn T F (g .top) ≡ wordAt T (D .line) REF)
 
-pub cut-of : {s : Scope} {T : List ℕ} {g : Stage} {D : Listed} {w : ℕ} (W : Wide s T g D w) → Cut T g D w (W .first)
+pub cut-of : {s : Scope} {T : List ℕ} {g : Stage} {D : Listed} {w : ℕ} (W : Wide s T g D w) → BlockCount T g D w (W .first)
 cut-of {s} {T} {g} {D} {w} W = go (W .split)
   where
-    go : (D .deg ≡ w) ⊎ ((D .deg ≡ g .p * w) × ¬ (targetIn T (W .first) (g .top) ≡ wordAt T (D .line) REF)) → Cut T g D w (W .first)
+    go : (D .deg ≡ w) ⊎ ((D .deg ≡ g .p * w) × ¬ (targetIn T (W .first) (g .top) ≡ wordAt T (D .line) REF)) → BlockCount T g D w (W .first)
     go (inl e) = record { count = 1; is = omega (arith, e); one-or-p = inl refl; moved = λ n. absurd (n refl) }
     go (inr (e, n)) = record { count = g .p; is = e; one-or-p = inr refl; moved = λ a. n }
 
@@ -84,7 +84,7 @@ module _ {s : Scope} {T firsts : List ℕ} {g : Stage} (S : Staged s T firsts g)
   abbrev X : Rep
   X = repOf High r
 
-  abbrev C : Cut T g D w (R .wide .first)
+  abbrev C : BlockCount T g D w (R .wide .first)
   C = cut-of (R .wide)
 
   w-pos : 0 < w
@@ -146,7 +146,7 @@ module _ {s : Scope} {T firsts : List ℕ} {g : Stage} (S : Staged s T firsts g)
     abbrev scalar : ℕ → ℕ
     scalar h = less (s .m) (col (X .matrix h) (k * w) .exp) (col (repOf Low (part k) .matrix h) 0 .exp)
 
-    module _ {h x : ℕ} {E : Listed} (Q : Carried s T D E (block (k * w) (part k) F) h x) where
+    module _ {h x : ℕ} {E : Listed} (Q : TakesBlock s T D E (block (k * w) (part k) F) h x) where
       row-is : to h * w ≡ rowTo T D (block (k * w) (part k) F) h
       row-is = ap (λ (y : Entry). y .row / w * w) (head-of h) ∙ ap (λ d. entryIn T (lineIn D h + k * w) .row / d * d) (sym (B k l .width))
 
@@ -170,7 +170,7 @@ module _ {s : Scope} {T firsts : List ℕ} {g : Stage} (S : Staged s T firsts g)
       carried-leads : wordAt T (E .line + to h * w) REF ≡ repOf Low (part k) .ref h 0
       carried-leads = ap (λ o. wordAt T (E .line + o) REF) row-is ∙ Q .leads ∙ sym (found-target (B k l .found) h)
 
-    carried-refs : {h x : ℕ} {E : Listed} → Carried s T D E (block (k * w) (part k) F) h x → (c : ℕ) → c < w → X .ref h (k * w + c) ≡ x
+    carried-refs : {h x : ℕ} {E : Listed} → TakesBlock s T D E (block (k * w) (part k) F) h x → (c : ℕ) → c < w → X .ref h (k * w + c) ≡ x
     carried-refs {h} Q c b = ref-of h k c ∙ Q .shifted .each c (subst (λ d. c < d) (sym (B k l .width)) b) .ref
 
     abbrev U : (j : ℕ) → i < j → j < n → Upper s T g D (block (k * w) (part k) F) j

@@ -32,10 +32,10 @@ use Rattle.relations.specs.Kept.{Kept}
 use Rattle.claims.specs.Claims.{Unshared}
 use Rattle.check_lines.specs.Lines.{refIn, targetOk}
 use Rattle.compare.specs.declared.Stage.{Stage}
-use Rattle.compare.specs.Blocks.{Inside}
+use Rattle.compare.specs.Blocks.{Present}
 use Rattle.compare.proofs.Staged.{found-inside, lined-found, lined-place}
 use Rattle.compare.proofs.Blocks.{inside-matrix}
-use Rattle.check_columns.specs.Relates.{Says, Carries, ledTo, Leads, Reached, RepRelates}
+use Rattle.check_columns.specs.Relates.{SaysTop, Carries, ledTo, Leads, Reached, RepRelates}
 use Rattle.check_fit.specs.Fit.{repAtLevel, LevelFits, Character, Characters, CharactersRelate, FirstStaged}
 use Rattle.check_fit.proofs.Compared.{found-head, found-first-ref, found-target}
 use Rattle.check_fit.proofs.Level.{found-is}
@@ -60,8 +60,8 @@ module _ {s : Scope} {T firsts : List ℕ} {g : Stage} (S : FirstStaged s T firs
     pub first-is : {E : Listed} → E ≡ listedIn T (getD firsts (g .high + r) 0) → E ≡ repAtLevel s T 1 r
     first-is e = e ∙ ap (listedIn T) (S .high .line r h)
 
-    pub first-inside : {E : Listed} → E ≡ listedIn T (getD firsts (g .high + r) 0) → Inside s T E
-    first-inside e = subst (Inside s T) (sym e) (found-inside (S .whole) (S .short) first-found)
+    pub first-inside : {E : Listed} → E ≡ listedIn T (getD firsts (g .high + r) 0) → Present s T E
+    first-inside e = subst (Present s T) (sym e) (found-inside (S .whole) (S .short) first-found)
 
     character-found : Found n T 1 r (D r)
     character-found = subst (Found n T 1 r) (first-is refl) first-found
@@ -124,10 +124,10 @@ module _ {s : Scope} {T firsts : List ℕ} {g : Stage} (S : FirstStaged s T firs
     listed-below x l = omega (arith, S .high .counts)
 
     module _ {rows : List (List ℕ)} (Q : CharactersRelate s T firsts g rows) (count : g .above ≡ g .p) (U : Unshared 0 (levelAt (s .gens) T 1))
-        (P : Presentation) (Y : Says s rows 0 (g .p) P) where
+        (P : Presentation) (Y : SaysTop s rows 0 (g .p) P) where
       -- the same with generator 0 for the one on top
-      on-top : Says s rows (g .top) (g .p) P
-      on-top = subst (λ i. Says s rows i (g .p) P) (sym (S .top)) Y
+      on-top : SaysTop s rows (g .top) (g .p) P
+      on-top = subst (λ i. SaysTop s rows i (g .p) P) (sym (S .top)) Y
 
       power-holds : (r : ℕ) (h : r < g .above) → powerAt P (s .m) (repOf High r) 0 0 ≡ true
       power-holds r h =

@@ -24,10 +24,10 @@ use Rattle.relations.specs.Kept.{Kept}
 use Rattle.claims.specs.Claims.{Unshared}
 use Rattle.compare.specs.declared.Stage.{Stage}
 use Rattle.compare.specs.Staged.{Staged}
-use Rattle.compare.specs.Blocks.{block, Inside, Upper, refAt, BlockFits, RepFits}
+use Rattle.compare.specs.Blocks.{block, Present, Upper, refAt, BlockFits, RepFits}
 use Rattle.compare.proofs.Staged.{found-inside, high-at, high-place}
 use Rattle.compare.proofs.Stored.{fits-stored}
-use Rattle.check_columns.specs.Relates.{Says, ledTo, Leads, Reached, RepRelates}
+use Rattle.check_columns.specs.Relates.{SaysTop, ledTo, Leads, Reached, RepRelates}
 use Rattle.check_fit.specs.Fit.{repAtLevel, widthBelow, Compares, Relates, LevelFits}
 use Rattle.check_fit.proofs.Compared.{found-target, compared}
 
@@ -112,7 +112,7 @@ module _ {s : Scope} {T firsts : List ℕ} {g : Stage} (S : Staged s T firsts g)
       is : E ≡ D r
       is = high-is r h e
 
-      pub listed-inside : Inside s T E
+      pub listed-inside : Present s T E
       listed-inside = found-inside (S .whole) (S .short) (high-at S r h e refl)
 
       pub listed-refers : wordAt T (E .line) REF < g .below
@@ -128,7 +128,7 @@ module _ {s : Scope} {T firsts : List ℕ} {g : Stage} (S : Staged s T firsts g)
 
     -- ---- Fitting
 
-    module _ {rows : List (List ℕ)} (Q : Relates s T firsts g rows) (P : Presentation) (Y : Says s rows (g .top) (g .p) P) (r : ℕ) (h : r < g .above) where
+    module _ {rows : List (List ℕ)} (Q : Relates s T firsts g rows) (P : Presentation) (Y : SaysTop s rows (g .top) (g .p) P) (r : ℕ) (h : r < g .above) where
       abbrev X : Rep
       X = repOf (levelAt n T (suc i)) r
 

@@ -29,7 +29,7 @@ use Rattle.seek.specs.Formed.{Ordered}
 use Rattle.seek.proofs.Seek.{found-first}
 use Rattle.claims.specs.Claims.{OneReference, Unshared}
 use Rattle.check_blocks.specs.Squares.{AddsUp}
-use Rattle.check_columns.specs.Relates.{Says}
+use Rattle.check_columns.specs.Relates.{SaysTop}
 use Rattle.check_fit.specs.Fit.{LevelsFit, Passes}
 
 -- ---- References
@@ -79,7 +79,7 @@ module _ {s : Scope} {T : List ℕ} {rows : List (List ℕ)} {primes orders : Li
     abbrev P : Presentation
     P = C .C .P
 
-    says : (i : ℕ) → i < s .gens → Says s rows i (getD primes i 0) P
+    says : (i : ℕ) → i < s .gens → SaysTop s rows i (getD primes i 0) P
     says i l = record { prime = reads .p-is i l; power = reads .u-is i l; word = λ j a b. reads .w-is i j a b }
 
     squares-are : (i : ℕ) → i < s .gens

@@ -36,7 +36,7 @@ use Rattle.check_lines.specs.Lines.{targetOk}
 use Rattle.compare.specs.declared.Stage.{Stage}
 use Rattle.compare.specs.Staged.{maxLines, Lined}
 use Rattle.compare.specs.Blocks.{RepFits}
-use Rattle.check_columns.specs.Relates.{Says, RepRelates}
+use Rattle.check_columns.specs.Relates.{SaysTop, RepRelates}
 
 abbrev pub repAtLevel : Scope → List ℕ → (i r : ℕ) → Listed
 repAtLevel s T i r = listedIn T (firstLine (s .gens) T i r)
@@ -51,7 +51,7 @@ pub record Relates (s : Scope) (T firsts : List ℕ) (g : Stage) (rows : List (L
   pub each : (r : ℕ) → r < g .above → let D = repAtLevel s T (suc (g .top)) r in RepRelates s T firsts g D rows (widthBelow T firsts g D)
 
 pub record LevelFits (s : Scope) (T : List ℕ) (rows : List (List ℕ)) (i p : ℕ) : Type 0 where
-  pub fit : (P : Presentation) → Says s rows i p P → (r : ℕ) → r < length (levelAt (s .gens) T (suc i))
+  pub fit : (P : Presentation) → SaysTop s rows i p P → (r : ℕ) → r < length (levelAt (s .gens) T (suc i))
       → Fitting P (s .gens) (s .m) i (levelAt (s .gens) T i) (levelAt (s .gens) T (suc i)) r
   pub unshared : Unshared i (levelAt (s .gens) T (suc i))
   pub stored : (r : ℕ) {D : Listed} → Found (s .gens) T (suc i) r D → Stored (s .m) (s .gens) T D

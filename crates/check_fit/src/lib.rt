@@ -14,7 +14,7 @@ ghost use Prim.Native.Nat.{_≤_, _<_};
 ghost use lib.ListN.{length};
 ghost use Rattle.seek.specs.Seek.{Whole};
 ghost use Rattle.compare.specs.Staged.{maxLines, Staged};
-ghost use Rattle.compare.specs.Blocks.{Inside};
+ghost use Rattle.compare.specs.Blocks.{Present};
 ghost use Rattle.check_heads.specs.Places.{Counted};
 ghost use Rattle.check_fit.specs.Lines.{FirstLines};
 ghost use Rattle.check_fit.specs.Fit.{Compares, Relates, LevelFits, LevelOne, LevelsFit, Passes};
@@ -104,7 +104,7 @@ fn level_fits(words: &[u32], firsts: &[u32], rows: &Words, s: Scope, g: Stage) -
 
 // d has one column, over level 0, valid matrices, and targets below `many`.
 fn character_ok(words: &[u32], s: Scope, d: Listed, many: usize) -> bool
-    requires { ⌜ Inside s (now words) d × (0 < s .gens) ⌝ }
+    requires { ⌜ Present s (now words) d × (0 < s .gens) ⌝ }
     ensures { λ r. ⌜ (r ≡ true → Character s (now (words .entry)) d many) ⌝ }
 {
     if d.deg != 1 {

@@ -34,11 +34,11 @@ use Rattle.compare.specs.declared.Block.{Block}
 use Rattle.compare.specs.Shifted.{shift, LineShifted, Shifted, LineSame, LinesSame}
 use Rattle.compare.specs.Staged.{Staged}
 use Rattle.compare.proofs.Shifted.{same-shifted}
-use Rattle.compare.specs.Blocks.{block, Inside, Over, Lower, rowTo, Carried, Upper, Uppers, refAt, BlockFits, Wide, Sound, RepFits}
+use Rattle.compare.specs.Blocks.{block, Present, Based, Lower, rowTo, TakesBlock, Upper, Uppers, refAt, BlockFits, Wide, Proper, RepFits}
 
 -- ---- Lines that are there
 
-module _ {s : Scope} {T : List ℕ} {D : Listed} (I : Inside s T D) where
+module _ {s : Scope} {T : List ℕ} {D : Listed} (I : Present s T D) where
   pub inside-matrix : (g : ℕ) → g < s .gens → 8 * (lineIn D g + D .deg) ≤ length T
   inside-matrix g l =
       let e : suc g * D .deg ≤ s .gens * D .deg = mul-le-mul-right (D .deg) l in
@@ -47,7 +47,7 @@ module _ {s : Scope} {T : List ℕ} {D : Listed} (I : Inside s T D) where
   pub inside-column : (o : ℕ) → 0 < s .gens → o < D .deg → 8 * (D .line + o) + 8 ≤ length T
   inside-column o p l = omega (arith, inside-matrix 0 p)
 
-module _ {s : Scope} {T : List ℕ} {D : Listed} {B : Block} (O : Over s T D B) where
+module _ {s : Scope} {T : List ℕ} {D : Listed} {B : Block} (O : Based s T D B) where
   pub block-lines : (g : ℕ) → g < s .gens → 8 * (lineIn D g + B .start + B .part .deg) ≤ length T
   block-lines g l = omega (arith, inside-matrix (O .inside) g l, O .within)
 
@@ -70,7 +70,7 @@ module _ {s : Scope} {T : List ℕ} {D : Listed} {B : Block} where
   pub lowering-all : {k top : ℕ} → Lowering s T D B k → top ≤ k → Lower s T D B top
   lowering-all h l = record { each = λ g b. h .each g (omega arith) }
 
-module _ {s : Scope} {T : List ℕ} {D : Listed} {B : Block} (O : Over s T D B) (one : D .deg ≡ 1) {top : ℕ} (low : top < s .gens) where
+module _ {s : Scope} {T : List ℕ} {D : Listed} {B : Block} (O : Based s T D B) (one : D .deg ≡ 1) {top : ℕ} (low : top < s .gens) where
   width-one : B .part .deg ≡ 1
   width-one = omega (arith, O .within, O .stored .positive)
 
@@ -104,7 +104,7 @@ module _ (s : Scope) (T : List ℕ) (D E : Listed) (B : Block) (g x at src row :
   row-to = row-is ∙ ap (λ (y : Entry). y .row / B .part .deg * B .part .deg) (entry-is ∙ ap (entryIn T) first)
 
   pub carried : (l : ℕ) (exp e : ℕ) → y .row < D .deg → l ≡ E .line + row → wordAt T l REF ≡ wordAt T src REF → e ≡ wordAt T src EXP
-      → exp ≡ less (s .m) (y .exp) e → Shifted (s .m) T at src (B .part .deg) (shift x row exp) → Carried s T D E B g x
+      → exp ≡ less (s .m) (y .exp) e → Shifted (s .m) T at src (B .part .deg) (shift x row exp) → TakesBlock s T D E B g x
   carried l exp e lands line leads exp-is sub H = record {
     lands = subst (λ (y : Entry). y .row < D .deg) (entry-is ∙ ap (entryIn T) first) lands;
     leads = ap (λ l. wordAt T l REF) (sym (line ∙ ap (λ r. E .line + r) row-to)) ∙ leads ∙ ap (λ l. wordAt T l REF) second;
@@ -134,19 +134,19 @@ module _ {s : Scope} {T : List ℕ} {g : Stage} {D : Listed} {B : Block} {k : �
 
 -- ---- All generators
 
-module _ {s : Scope} {T firsts : List ℕ} {g : Stage} (S : Staged s T firsts g) {D : Listed} (I : Inside s T D) (o : ℕ) {x : ℕ} {F : Listed} where
-  pub over : Found (s .gens) T (g .top) x F → o + F .deg ≤ D .deg → Over s T D (block o x F)
+module _ {s : Scope} {T firsts : List ℕ} {g : Stage} (S : Staged s T firsts g) {D : Listed} (I : Present s T D) (o : ℕ) {x : ℕ} {F : Listed} where
+  pub over : Found (s .gens) T (g .top) x F → o + F .deg ≤ D .deg → Based s T D (block o x F)
   over G l = record { inside = I; within = l; modulus = S .modulus .0; stored = S .stored x G }
 
 module _ {s : Scope} {T : List ℕ} {g : Stage} {D : Listed} {o w x : ℕ} {F : Listed} where
   pub fitting-block : x ≡ refAt s T g D o → Found (s .gens) T (g .top) x F → F .deg ≡ w → Lower s T D (block o x F) (g .top)
-      → Carried s T D D (block o x F) (g .top) x → Uppers s T g D (block o x F) → BlockFits s T g D o w
+      → TakesBlock s T D D (block o x F) (g .top) x → Uppers s T g D (block o x F) → BlockFits s T g D o w
   fitting-block e G width low top up = record {
     part = F;
     found = subst (λ x. Found (s .gens) T (g .top) x F) e G;
     width = width;
     lower = subst (λ x. Lower s T D (block o x F) (g .top)) e low;
-    top = subst (λ x. Carried s T D D (block o x F) (g .top) x) e top;
+    top = subst (λ x. TakesBlock s T D D (block o x F) (g .top) x) e top;
     upper = subst (λ x. Uppers s T g D (block o x F)) e up;
   }
 
@@ -170,8 +170,8 @@ module _ {s : Scope} {T : List ℕ} {g : Stage} {D : Listed} {w : ℕ} where
       each = below-more (λ k. BlockFits s T g D (k * w) w) (h .many) (h .each) (subst (λ o. BlockFits s T g D o w) (h .at) B);
     }
 
-    pub blocking-all : Wide s T g D w → Sound s T D w → D .deg ≤ o → RepFits s T g D
-    blocking-all W so l = record { w = w; wide = W; sound = so; blocks = λ k a. h .each k (few k a (decLt k (h .many))) }
+    pub blocking-all : Wide s T g D w → Proper s T D w → D .deg ≤ o → RepFits s T g D
+    blocking-all W so l = record { w = w; wide = W; proper = so; blocks = λ k a. h .each k (few k a (decLt k (h .many))) }
       where
         few : (k : ℕ) → k * w < D .deg → Dec (k < h .many) → k < h .many
         few k a (yes b) = b

@@ -17,10 +17,10 @@ use Rattle.seek.specs.Seek.{Whole, Found}
 use Rattle.seek.proofs.Seek.{found-first, found-there}
 use Rattle.compare.specs.declared.Stage.{Stage}
 use Rattle.compare.specs.Staged.{maxLines, Lined, Staged}
-use Rattle.compare.specs.Blocks.{Inside}
+use Rattle.compare.specs.Blocks.{Present}
 
 module _ {s : Scope} {T : List ℕ} (W : Whole s T) where
-  pub found-inside : s .lines ≤ maxLines → {i r : ℕ} {D : Listed} → Found (s .gens) T i r D → Inside s T D
+  pub found-inside : s .lines ≤ maxLines → {i r : ℕ} {D : Listed} → Found (s .gens) T i r D → Present s T D
   found-inside short {i} {r} {D} F =
       let m : 1 * D .deg ≤ s .gens * D .deg = mul-le-mul-right (D .deg) (W .some) in
       record { room = F .inside; positive = F .positive; narrow = omega (arith, F .inside, W .lines-are, m) }

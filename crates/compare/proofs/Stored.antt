@@ -20,7 +20,7 @@ use Rattle.seek.proofs.Stored.{valid-holds}
 use Rattle.compare.specs.declared.Stage.{Stage}
 use Rattle.compare.specs.Shifted.{shift, Shifted}
 use Rattle.compare.specs.Staged.{Staged}
-use Rattle.compare.specs.Blocks.{block, Carried, refAt, BlockFits, RepFits}
+use Rattle.compare.specs.Blocks.{block, TakesBlock, refAt, BlockFits, RepFits}
 use Rattle.compare.proofs.Staged.{found-inside}
 use Rattle.compare.proofs.Blocks.{inside-matrix, row-single}
 
@@ -69,7 +69,7 @@ module _ {s : Scope} {T firsts : List ℕ} {g : Stage} (S : Staged s T firsts g)
         (shifted-holds (S .modulus .0) (S .stored _ (first-block .found) .holds h l) (subst (λ at. Shifted (s .m) T at (lineIn F h) (F .deg) (shift x 0 q)) a M)
         (subst (λ d. 8 * (lineIn D h + d) ≤ length T) (sym width) (fits-room h l)))
 
-    carried-holds : (h : ℕ) → h < n → {E : Listed} {x : ℕ} → Carried s T D E (block (0 * R .w) (refAt s T g D (0 * R .w)) F) h x → Holds (s .m) T (lineIn D h) (D .deg)
+    carried-holds : (h : ℕ) → h < n → {E : Listed} {x : ℕ} → TakesBlock s T D E (block (0 * R .w) (refAt s T g D (0 * R .w)) F) h x → Holds (s .m) T (lineIn D h) (D .deg)
     carried-holds h l {E} {x} Q =
         let z = row-single (entryIn T (lineIn D h + 0 * R .w) .row) (F .deg) (D .deg) width (Q .lands) in
         let q : ℕ = less (s .m) (entryIn T (lineIn D h + 0 * R .w) .exp) (entryIn T (lineIn F h) .exp) in
@@ -91,7 +91,7 @@ module _ {s : Scope} {T firsts : List ℕ} {g : Stage} (S : Staged s T firsts g)
   several-holds : ¬ (D .deg ≡ R .w) → (h : ℕ) → h < n → Holds (s .m) T (lineIn D h) (D .deg)
   several-holds ne h l =
       valid-holds (s .m) (S .modulus .1) T (lineIn D h) (D .deg) (fits-room h l)
-      (allBelow-elim n (λ h. valid (s .m) (D .deg) (generatorIn T D h)) (R .sound .valid ne) h l)
+      (allBelow-elim n (λ h. valid (s .m) (D .deg) (generatorIn T D h)) (R .proper .valid ne) h l)
 
   pub fits-stored : Stored (s .m) (s .gens) T D
   fits-stored = record { positive = G .positive; degree = G .said; holds = λ h l. go h l (ℕ-discrete (D .deg) (R .w)) }

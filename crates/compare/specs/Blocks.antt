@@ -1,16 +1,17 @@
 -- The blocks of a representation that stands in lines, compared with what they refer to.
 --
 --   block o x F                  the block from column o on, which refers to F by number x
---   Inside s T D                 the lines of D are there
---   Over s T D B                 and the block has room in D, and refers to lines that hold matrices
+--   Present s T D                the lines of D are there
+--   Based s T D B                and the block has room in D, and refers to lines that hold matrices
 --   Lower s T D B top            the generators below the top act on the block as on what it refers to
 --   rowTo T D B g                the first row of the block to which generator g takes the block
---   Carried s T D E B g x        generator g takes the block of D to a block of E as it takes what the block refers to, up to a power of the root
+--   TakesBlock s T D E B g x     generator g takes the block of D to a block of E as it takes what the block refers to, up to a power of
+--                                the root
 --   Upper s T g D B j            a generator above the top does so, to a representation of the same degree and width
 --   Uppers s T g D B             all of them do
 --   BlockFits s T g D o w        every generator does so, on the block of width w from column o on
 --   Wide s T g D w               D is one block of width w, or p blocks the first of which generator i moves
---   Sound s T D w                D is one block of width w, or its matrices are valid
+--   Proper s T D w               D is one block of width w, or its matrices are valid
 --   RepFits s T g D              every block of D
 use mathlib.Core.Path.{_≡_}
 use mathlib.Core.Bool.{true}
@@ -32,13 +33,13 @@ use Rattle.compare.specs.Staged.{maxLines}
 abbrev pub block : ℕ → ℕ → Listed → Block
 block o x F = record { start = o; refn = x; part = F }
 
-pub record Inside (s : Scope) (T : List ℕ) (D : Listed) : Type 0 where
+pub record Present (s : Scope) (T : List ℕ) (D : Listed) : Type 0 where
   pub room : D .line + s .gens * D .deg ≤ lineCount T
   pub positive : 0 < D .deg
   pub narrow : D .deg ≤ maxLines
 
-pub record Over (s : Scope) (T : List ℕ) (D : Listed) (B : Block) : Type 0 where
-  pub inside : Inside s T D
+pub record Based (s : Scope) (T : List ℕ) (D : Listed) (B : Block) : Type 0 where
+  pub inside : Present s T D
   pub within : B .start + B .part .deg ≤ D .deg
   pub modulus : 0 < s .m
   pub stored : Stored (s .m) (s .gens) T (B .part)
@@ -47,13 +48,13 @@ pub record Lower (s : Scope) (T : List ℕ) (D : Listed) (B : Block) (top : ℕ)
   pub each : (h : ℕ) → h < top → Shifted (s .m) T (lineIn D h + B .start) (lineIn (B .part) h) (B .part .deg) (shift (B .refn) (B .start) 0)
 
 -- one block of width w, or valid matrices
-pub record Sound (s : Scope) (T : List ℕ) (D : Listed) (w : ℕ) : Type 0 where
+pub record Proper (s : Scope) (T : List ℕ) (D : Listed) (w : ℕ) : Type 0 where
   pub valid : ¬ (D .deg ≡ w) → allBelow (s .gens) (λ g. valid (s .m) (D .deg) (generatorIn T D g)) ≡ true
 
 abbrev pub rowTo : List ℕ → Listed → Block → ℕ → ℕ
 rowTo T D B g = entryIn T (lineIn D g + B .start) .row / B .part .deg * B .part .deg
 
-pub record Carried (s : Scope) (T : List ℕ) (D E : Listed) (B : Block) (g x : ℕ) : Type 0 where
+pub record TakesBlock (s : Scope) (T : List ℕ) (D E : Listed) (B : Block) (g x : ℕ) : Type 0 where
   pub lands : entryIn T (lineIn D g + B .start) .row < D .deg
   pub leads : wordAt T (E .line + rowTo T D B g) REF ≡ targetIn T (B .part) g
   pub shifted : Shifted (s .m) T (lineIn D g + B .start) (lineIn (B .part) g) (B .part .deg)
@@ -67,7 +68,7 @@ module _ (s : Scope) (T : List ℕ) (g : Stage) (D : Listed) where
     pub first : Listed
     pub refers : Found (s .gens) T (g .top) (wordAt T (target .line) REF) first
     pub width : first .deg ≡ B .part .deg
-    pub carried : Carried s T D target B j (targetIn T D j)
+    pub carried : TakesBlock s T D target B j (targetIn T D j)
 
   pub record Uppers (B : Block) : Type 0 where
     pub each : (j : ℕ) → g .top < j → j < s .gens → Upper B j
@@ -80,7 +81,7 @@ module _ (s : Scope) (T : List ℕ) (g : Stage) (D : Listed) where
     pub found : Found (s .gens) T (g .top) (refAt o) part
     pub width : part .deg ≡ w
     pub lower : Lower s T D (block o (refAt o) part) (g .top)
-    pub top : Carried s T D D (block o (refAt o) part) (g .top) (refAt o)
+    pub top : TakesBlock s T D D (block o (refAt o) part) (g .top) (refAt o)
     pub upper : Uppers (block o (refAt o) part)
 
   pub record Wide (w : ℕ) : Type 0 where
@@ -92,5 +93,5 @@ module _ (s : Scope) (T : List ℕ) (g : Stage) (D : Listed) where
   pub record RepFits : Type 0 where
     pub w : ℕ
     pub wide : Wide w
-    pub sound : Sound s T D w
+    pub proper : Proper s T D w
     pub blocks : (k : ℕ) → k * w < D .deg → BlockFits (k * w) w

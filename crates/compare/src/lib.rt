@@ -10,7 +10,7 @@
 //   block_row, generator_fits        a generator that takes a block to a block
 //   led_to, upper_fits               the generators above the top, on a block
 //   block_fits                       all generators, on a block
-//   width, sound, rep_fits           all blocks of a representation
+//   width, proper, rep_fits           all blocks of a representation
 ghost use mathlib.Core.Path.{_≡_};
 ghost use mathlib.Core.Bool.{true};
 ghost use Prim.Native.Nat.{_+_, _*_, _/_, _≤_, _<_};
@@ -18,7 +18,7 @@ ghost use lib.ListN.{length, getD};
 ghost use Rattle.level.specs.Stored.{entryIn, Holds, listedIn};
 ghost use Rattle.compare.specs.Shifted.{LineShifted, Shifted, LineSame, LinesSame};
 ghost use Rattle.compare.specs.Staged.{Staged};
-ghost use Rattle.compare.specs.Blocks.{Inside, Over, Lower, Carried, Upper, Uppers, BlockFits, Wide, Sound, RepFits};
+ghost use Rattle.compare.specs.Blocks.{Present, Based, Lower, TakesBlock, Upper, Uppers, BlockFits, Wide, Proper, RepFits};
 use level::Listed;
 use seek::Scope;
 
@@ -128,7 +128,7 @@ pub fn rep_at(words: &[u32], firsts: &[u32], at: usize) -> Listed
 
 // Each generator below the top acts on the block as on what it refers to; where the degree is 1, line by line.
 fn lower_fits(words: &[u32], s: Scope, top: u32, d: Listed, b: Block) -> bool
-    requires { ⌜ Over s (now words) d b × (top < s .gens) ⌝ }
+    requires { ⌜ Based s (now words) d b × (top < s .gens) ⌝ }
     ensures { λ r. ⌜ (r ≡ true → Lower s (now (words .entry)) d b top) ⌝ }
 {
     let f = b.part;
@@ -163,8 +163,8 @@ fn block_row(row: u32, w: u32, deg: u32) -> u32
 // Generator g takes the block of d to a block of e, of the same degree, as it takes what the block refers to, up to a power of
 // the root; its columns refer to x.
 fn generator_fits(words: &[u32], s: Scope, d: Listed, e: Listed, b: Block, g: u32, x: u32) -> bool
-    requires { ⌜ Over s (now words) d b × Inside s (now words) e × (e .deg ≡ d .deg) × (g < s .gens) ⌝ }
-    ensures { λ r. ⌜ (r ≡ true → Carried s (now (words .entry)) d e b g x) ⌝ }
+    requires { ⌜ Based s (now words) d b × Present s (now words) e × (e .deg ≡ d .deg) × (g < s .gens) ⌝ }
+    ensures { λ r. ⌜ (r ≡ true → TakesBlock s (now (words .entry)) d e b g x) ⌝ }
 {
     let f = b.part;
     let at = level::matrix_line(d, g) + level::up(b.start);
@@ -188,7 +188,7 @@ fn generator_fits(words: &[u32], s: Scope, d: Listed, e: Listed, b: Block, g: u3
 
 // Generator j, above the top, does so; it leads d to a representation of the same degree, with blocks of the same width.
 fn led_to(words: &[u32], firsts: &[u32], s: Scope, g: Stage, d: Listed, b: Block, j: u32) -> bool
-    requires { ⌜ Staged s (now words) (now firsts) g × Over s (now words) d b × (j < s .gens) ⌝ }
+    requires { ⌜ Staged s (now words) (now firsts) g × Based s (now words) d b × (j < s .gens) ⌝ }
     ensures { λ r. ⌜ (r ≡ true → Upper s (now (words .entry)) g d b j) ⌝ }
 {
     let x = level::word_at(words, level::matrix_line(d, j), level::REF);
@@ -214,7 +214,7 @@ fn led_to(words: &[u32], firsts: &[u32], s: Scope, g: Stage, d: Listed, b: Block
 
 // So do all generators above the top.
 fn upper_fits(words: &[u32], firsts: &[u32], s: Scope, g: Stage, d: Listed, b: Block) -> bool
-    requires { ⌜ Staged s (now words) (now firsts) g × Over s (now words) d b ⌝ }
+    requires { ⌜ Staged s (now words) (now firsts) g × Based s (now words) d b ⌝ }
     ensures { λ r. ⌜ (r ≡ true → Uppers s (now (words .entry)) g d b) ⌝ }
 {
     let gens = s.gens;
@@ -228,7 +228,7 @@ fn upper_fits(words: &[u32], firsts: &[u32], s: Scope, g: Stage, d: Listed, b: B
 
 // The block of d from column o on is of width w, and every generator takes it to a block as it takes what the block refers to.
 fn block_fits(words: &[u32], firsts: &[u32], s: Scope, g: Stage, d: Listed, o: u32, w: u32) -> bool
-    requires { ⌜ Staged s (now words) (now firsts) g × Inside s (now words) d × (0 < w) × (o + w ≤ d .deg) ⌝ }
+    requires { ⌜ Staged s (now words) (now firsts) g × Present s (now words) d × (0 < w) × (o + w ≤ d .deg) ⌝ }
     ensures { λ r. ⌜ (r ≡ true → BlockFits s (now (words .entry)) g d o w) ⌝ }
 {
     let x = level::word_at(words, d.line + level::up(o), level::REF);
@@ -258,7 +258,7 @@ fn block_fits(words: &[u32], firsts: &[u32], s: Scope, g: Stage, d: Listed, o: u
 
 // The width of the blocks of d, where it is one block, or p blocks of which the generator on top moves the first; else 0.
 fn width(words: &[u32], firsts: &[u32], s: Scope, g: Stage, d: Listed) -> u32
-    requires { ⌜ Staged s (now words) (now firsts) g × Inside s (now words) d ⌝ }
+    requires { ⌜ Staged s (now words) (now firsts) g × Present s (now words) d ⌝ }
     ensures { λ w. ⌜ (¬ (w ≡ 0) → Wide s (now (words .entry)) g d w) ⌝ }
 {
     let x = level::word_at(words, d.line, level::REF);
@@ -280,9 +280,9 @@ fn width(words: &[u32], firsts: &[u32], s: Scope, g: Stage, d: Listed) -> u32
 }
 
 // The matrices of d are matrices, where it is not one block of width w: one block is compared with matrices.
-fn sound(words: &[u32], s: Scope, d: Listed, w: u32) -> bool
-    requires { ⌜ Inside s (now words) d ⌝ }
-    ensures { λ r. ⌜ (r ≡ true → Sound s (now (words .entry)) d w) ⌝ }
+fn proper(words: &[u32], s: Scope, d: Listed, w: u32) -> bool
+    requires { ⌜ Present s (now words) d ⌝ }
+    ensures { λ r. ⌜ (r ≡ true → Proper s (now (words .entry)) d w) ⌝ }
 {
     if d.deg == w {
         return true;
@@ -292,14 +292,14 @@ fn sound(words: &[u32], s: Scope, d: Listed, w: u32) -> bool
 
 // d, of the level, fits on the level below: block by block.
 pub fn rep_fits(words: &[u32], firsts: &[u32], s: Scope, g: Stage, d: Listed) -> bool
-    requires { ⌜ Staged s (now words) (now firsts) g × Inside s (now words) d ⌝ }
+    requires { ⌜ Staged s (now words) (now firsts) g × Present s (now words) d ⌝ }
     ensures { λ r. ⌜ (r ≡ true → RepFits s (now (words .entry)) g d) ⌝ }
 {
     let w = width(words, firsts, s, g, d);
     if w == 0 {
         return false;
     }
-    if !sound(words, s, d, w) {
+    if !proper(words, s, d, w) {
         return false;
     }
     let deg = d.deg;

@@ -38,15 +38,15 @@ loop-less c =
 
 loop-again : tie.Need-loop-again Inv-loop μ-loop
 loop-again c =
-    let at-intertwines-at = c .before in
-    let at-loop = at-intertwines-at .before .before in
-    let t = at-intertwines-at .intertwines-at in
-    carrying-more (at-loop .loop .inv) (λ P z. sym (t .ensures P z) ∙ not-false (t .result) (c .if1 .left))
+    let ia = c .before in
+    let lo = ia .before .before in
+    let t = ia .intertwines-at in
+    carrying-more (lo .loop .inv) (λ P z. sym (t .ensures P z) ∙ not-false (t .result) (c .if1 .left))
 
 returns-2 : tie.Need-returns-2 Inv-loop μ-loop
 returns-2 c = λ e.
-    let at-loop = c .before in
-    carrying-all (at-loop .loop .inv) (omega arith)
+    let lo = c .before in
+    carrying-all (lo .loop .inv) (omega arith)
 
 pub carries-spec : {M : Type 1} → statement M
 carries-spec =

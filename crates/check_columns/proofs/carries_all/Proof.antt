@@ -36,32 +36,32 @@ loop-holds c =
 
 target-requires : tie.Need-target-requires Inv-loop μ-loop
 target-requires c κs =
-    let at-loop = c .before in
-    let z = at-loop .before .before .before in
-    (z .args .s .m, stored-fewer (suc (at-loop .loop .j)) (omega arith) (z .pre .0 .kept .stored))
+    let lo = c .before in
+    let z = lo .before .before .before in
+    (z .args .s .m, stored-fewer (suc (lo .loop .j)) (omega arith) (z .pre .0 .kept .stored))
 
 up-requires : tie.Need-up-requires Inv-loop μ-loop
 up-requires c κs = search needs
 
 add-rep-at : tie.Need-add-rep-at Inv-loop μ-loop
 add-rep-at c =
-    let at-up = c .before in
-    let at-target = at-up .before in
-    let at-loop = at-target .before .before in
-    let z = at-loop .before .before .before in
-    let L = z .pre .0 .leads (at-loop .loop .j) (at-loop .loop .inv .from) (omega arith) in
-    omega (arith, L .place .0, at-up .up .ensures, at-target .target .ensures, z .good)
+    let up = c .before in
+    let ta = up .before in
+    let lo = ta .before .before in
+    let z = lo .before .before .before in
+    let L = z .pre .0 .leads (lo .loop .j) (lo .loop .inv .from) (omega arith) in
+    omega (arith, L .place .0, up .up .ensures, ta .target .ensures, z .good)
 
 rep-at-requires : tie.Need-rep-at-requires Inv-loop μ-loop
 rep-at-requires c κs =
-    let at-up = c .before in
-    let at-target = at-up .before in
-    let at-loop = at-target .before .before in
-    let z = at-loop .before .before .before in
+    let up = c .before in
+    let ta = up .before in
+    let lo = ta .before .before in
+    let z = lo .before .before .before in
     let a = z .args in
-    let L = z .pre .0 .leads (at-loop .loop .j) (at-loop .loop .inv .from) (omega arith) in
+    let L = z .pre .0 .leads (lo .loop .j) (lo .loop .inv .from) (omega arith) in
     subst (λ x. (a .g .high + x < length (now (a .firsts))) × (8 * getD (now (a .firsts)) (a .g .high + x) 0 + 8 ≤ length (now (a .words))))
-    (sym (at-up .up .ensures ∙ at-target .target .ensures)) (L .place)
+    (sym (up .up .ensures ∙ ta .target .ensures)) (L .place)
 
 up-requires-2 : tie.Need-up-requires-2 Inv-loop μ-loop
 up-requires-2 c κs = search needs
@@ -71,32 +71,32 @@ up-requires-3 c κs = search needs
 
 mul-if1 : tie.Need-mul-if1 Inv-loop μ-loop
 mul-if1 c =
-    let at-up2 = c .before in
-    let z = at-up2 .before .before .before .before .before .before .before .before .before in
-    omega (arith, at-up2 .up2 .ensures, z .pre .0 .kept .few)
+    let up2 = c .before in
+    let z = up2 .before .before .before .before .before .before .before .before .before in
+    omega (arith, up2 .up2 .ensures, z .pre .0 .kept .few)
 
 element-copy-out-if1 : tie.Need-element-copy-out-if1 Inv-loop μ-loop
 element-copy-out-if1 c =
-    let at-up2 = c .before in
-    let at-loop-test = at-up2 .before .before .before .before .before in
-    let z = at-loop-test .before .before .before .before in
-    omega (arith, at-up2 .up2 .ensures, at-loop-test .loop-test .taken, z .pre .0 .kept .few)
+    let up2 = c .before in
+    let lt = up2 .before .before .before .before .before in
+    let z = lt .before .before .before .before in
+    omega (arith, up2 .up2 .ensures, lt .loop-test .taken, z .pre .0 .kept .few)
 
 commutes-requires : tie.Need-commutes-requires Inv-loop μ-loop
 commutes-requires c κs =
-    let at-rep-at = c .before .before .before .before in
-    let at-up = at-rep-at .before .before in
-    let at-target = at-up .before in
-    let at-loop = at-target .before .before in
-    let z = at-loop .before .before .before in
+    let ra = c .before .before .before .before in
+    let up = ra .before .before in
+    let ta = up .before in
+    let lo = ta .before .before in
+    let z = lo .before .before .before in
     let a = z .args in
     let R = z .pre .0 in
-    let L = R .leads (at-loop .loop .j) (at-loop .loop .inv .from) (omega arith) in
-    let e = led-is (now (a .words)) (now (a .firsts)) (a .g) (a .d) (at-loop .loop .j) (at-rep-at .rep-at .ensures) (at-up .up .ensures) (at-target .target .ensures) in (
+    let L = R .leads (lo .loop .j) (lo .loop .inv .from) (omega arith) in
+    let e = led-is (now (a .words)) (now (a .firsts)) (a .g) (a .d) (lo .loop .j) (ra .rep-at .ensures) (up .up .ensures) (ta .target .ensures) in (
       R .kept,
       subst (Kept (a .s) (now (a .words))) (sym e) (L .kept),
       ap (λ (E : Listed). E .deg) e ∙ L .degree,
-      at-loop .loop .inv .from,
+      lo .loop .inv .from,
       omega arith,
       z .pre .1,
       z .pre .2,
@@ -108,12 +108,12 @@ returns c = λ e. absurd (false≢true e)
 
 pair-requires : tie.Need-pair-requires Inv-loop μ-loop
 pair-requires c κs =
-    let at-up3 = c .before .before in
-    let at-up2 = at-up3 .before in
-    let at-loop-test = at-up2 .before .before .before .before .before in
-    let at-loop = at-loop-test .before in
-    let z = at-loop .before .before .before in
-    (omega (arith, at-up3 .up3 .ensures, at-up2 .up2 .ensures, at-loop .loop .inv .from), omega (arith, at-up2 .up2 .ensures, at-loop-test .loop-test .taken, z .pre .0 .kept .few))
+    let up3 = c .before .before in
+    let up2 = up3 .before in
+    let lt = up2 .before .before .before .before .before in
+    let lo = lt .before in
+    let z = lo .before .before .before in
+    (omega (arith, up3 .up3 .ensures, up2 .up2 .ensures, lo .loop .inv .from), omega (arith, up2 .up2 .ensures, lt .loop-test .taken, z .pre .0 .kept .few))
 
 mul-carries : tie.Need-mul-carries Inv-loop μ-loop
 mul-carries c = search needs
@@ -123,19 +123,19 @@ index-1-carries c = search needs
 
 carries-requires : tie.Need-carries-requires Inv-loop μ-loop
 carries-requires c κs =
-    let at-rep-at = c .before .before .before .before .before .before in
-    let at-up = at-rep-at .before .before in
-    let at-target = at-up .before in
-    let at-loop = at-target .before .before in
-    let z = at-loop .before .before .before in
+    let ra = c .before .before .before .before .before .before in
+    let up = ra .before .before in
+    let ta = up .before in
+    let lo = ta .before .before in
+    let z = lo .before .before .before in
     let a = z .args in
     let R = z .pre .0 in
-    let L = R .leads (at-loop .loop .j) (at-loop .loop .inv .from) (omega arith) in
-    let e = led-is (now (a .words)) (now (a .firsts)) (a .g) (a .d) (at-loop .loop .j) (at-rep-at .rep-at .ensures) (at-up .up .ensures) (at-target .target .ensures) in (
+    let L = R .leads (lo .loop .j) (lo .loop .inv .from) (omega arith) in
+    let e = led-is (now (a .words)) (now (a .firsts)) (a .g) (a .d) (lo .loop .j) (ra .rep-at .ensures) (up .up .ensures) (ta .target .ensures) in (
       R .kept,
       subst (Kept (a .s) (now (a .words))) (sym e) (L .kept),
       ap (λ (E : Listed). E .deg) e ∙ L .degree,
-      at-loop .loop .inv .from,
+      lo .loop .inv .from,
       omega arith,
       z .pre .1,
       z .pre .2,
@@ -153,33 +153,33 @@ loop-less c = omega arith
 
 loop-again : tie.Need-loop-again Inv-loop μ-loop
 loop-again c =
-    let at-up3 = c .before .before in
-    let at-up2 = at-up3 .before in
-    let at-rep-at = at-up2 .before in
-    let at-up = at-rep-at .before .before in
-    let at-target = at-up .before in
-    let at-loop = at-target .before .before in
-    let z = at-loop .before .before .before in
+    let up3 = c .before .before in
+    let up2 = up3 .before in
+    let ra = up2 .before in
+    let up = ra .before .before in
+    let ta = up .before in
+    let lo = ta .before .before in
+    let z = lo .before .before .before in
     let a = z .args in
-    let j = at-loop .loop .j in
-    let l = at-loop .loop .inv .from in
+    let j = lo .loop .j in
+    let l = lo .loop .inv .from in
     let rows = now (a .rows) in
-    let e = led-is (now (a .words)) (now (a .firsts)) (a .g) (a .d) (at-loop .loop .j) (at-rep-at .rep-at .ensures) (at-up .up .ensures) (at-target .target .ensures) in
-    rising-more (at-loop .loop .inv) (λ P S. subst (λ (E : Listed). Carries (a .s) (now (a .words)) (a .d) E (a .g .top) j (a .v) P) e (
+    let e = led-is (now (a .words)) (now (a .firsts)) (a .g) (a .d) (lo .loop .j) (ra .rep-at .ensures) (up .up .ensures) (ta .target .ensures) in
+    rising-more (lo .loop .inv) (λ P S. subst (λ (E : Listed). Carries (a .s) (now (a .words)) (a .d) E (a .g .top) j (a .v) P) e (
     ⊎-elim
     (λ (if1, t, f).
-    let r : getD (now (a .reach)) (at-up2 .up2 .result) 0 ≤ a .g .top = omega (arith, if1 .taken, at-up3 .up3 .ensures) in
+    let r : getD (now (a .reach)) (up2 .up2 .result) 0 ≤ a .g .top = omega (arith, if1 .taken, up3 .up3 .ensures) in
     t .ensures (not-false (t .result) (f .left)) P
-    (says-quiet S (z .pre .3) j l (omega arith) (subst (λ x. getD (now (a .reach)) x 0 ≤ a .g .top) (at-up2 .up2 .ensures) r)))
+    (says-quiet S (z .pre .3) j l (omega arith) (subst (λ x. getD (now (a .reach)) x 0 ≤ a .g .top) (up2 .up2 .ensures) r)))
     (λ (if1, pair, x, t, f). t .ensures (not-false (t .result) (f .left)) P
-    (says-word S j l (omega arith) (getD rows (pair .result) []) (at-up2 .up2 .result) (at-up3 .up3 .result)
-    (ap (λ t. getD rows t []) (pair .ensures .0)) (at-up2 .up2 .ensures) (at-up3 .up3 .ensures)))
+    (says-word S j l (omega arith) (getD rows (pair .result) []) (up2 .up2 .result) (up3 .up3 .result)
+    (ap (λ t. getD rows t []) (pair .ensures .0)) (up2 .up2 .ensures) (up3 .up3 .ensures)))
     (c .if1 .came)))
 
 returns-3 : tie.Need-returns-3 Inv-loop μ-loop
 returns-3 c = λ e.
-    let at-loop = c .before in
-    rising-all (at-loop .loop .inv) (omega arith)
+    let lo = c .before in
+    rising-all (lo .loop .inv) (omega arith)
 
 pub carries-all-spec : {M : Type 1} → statement M
 carries-all-spec =

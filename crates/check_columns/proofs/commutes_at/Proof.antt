@@ -23,15 +23,15 @@ moved-requires-2 c κs =
 
 returns : tie.Need-returns
 returns c = λ P is.
-    let at-moved2 = c .before .before in
-    let at-if1 = at-moved2 .before in
-    let at-moved = at-if1 .before .before in
-    let z = at-moved .before .before in
+    let mo2 = c .before .before in
+    let if1 = mo2 .before in
+    let mo = if1 .before .before in
+    let z = mo .before .before in
     let a = z .args in
     let (K, L, e, i, j, h) = z .pre in
-    let z = plain-conjugated (a .s .m) (now (a .words)) (a .d) (a .i) (a .c) (at-moved .moved .result) (at-moved .moved .ensures .0) (at-moved .moved .ensures .1) in
-    single-intertwiner K (at-if1 .if1 .taken) P (a .i) (a .j) (a .c) i j h [] is L e (at-moved2 .moved2 .result) (at-moved .moved .result) z
-    (at-moved2 .moved2 .ensures .0)
+    let z = plain-conjugated (a .s .m) (now (a .words)) (a .d) (a .i) (a .c) (mo .moved .result) (mo .moved .ensures .0) (mo .moved .ensures .1) in
+    single-intertwiner K (if1 .if1 .taken) P (a .i) (a .j) (a .c) i j h [] is L e (mo2 .moved2 .result) (mo .moved .result) z
+    (mo2 .moved2 .ensures .0)
 
 moved-requires-3 : tie.Need-moved-requires-3
 moved-requires-3 c κs =
@@ -40,41 +40,41 @@ moved-requires-3 c κs =
 
 moved-requires-4 : tie.Need-moved-requires-4
 moved-requires-4 c κs =
-    let at-moved = c .before .before .before in
-    let z = at-moved .before .before in
-    let (K, L, e, i, j, h) = z .pre in (kept-stored K _ j, at-moved .moved .ensures .1)
+    let mo = c .before .before .before in
+    let z = mo .before .before in
+    let (K, L, e, i, j, h) = z .pre in (kept-stored K _ j, mo .moved .ensures .1)
 
 moved-requires-5 : tie.Need-moved-requires-5
 moved-requires-5 c κs =
-    let at-moved3 = c .before in
-    let z = at-moved3 .before .before .before .before .before in
+    let mo3 = c .before in
+    let z = mo3 .before .before .before .before .before in
     let (K, L, e, i, j, h) = z .pre in
-    (kept-stored L _ i, subst (λ d. Below (z .args .s .m) d (at-moved3 .moved3 .result)) (sym e) (at-moved3 .moved3 .ensures .1))
+    (kept-stored L _ i, subst (λ d. Below (z .args .s .m) d (mo3 .moved3 .result)) (sym e) (mo3 .moved3 .ensures .1))
 
 returns-2 : tie.Need-returns-2
 returns-2 c = λ P is.
-    let at-moved5 = c .before .before .before in
-    let at-moved4 = at-moved5 .before in
-    let at-moved3 = at-moved4 .before in
-    let at-moved = at-moved3 .before .before .before in
-    let z = at-moved .before .before in
+    let mo5 = c .before .before .before in
+    let mo4 = mo5 .before in
+    let mo3 = mo4 .before in
+    let mo = mo3 .before .before .before in
+    let z = mo .before .before in
     let x = z .args in
-    entries-row (at-moved4 .moved4 .result) (at-moved5 .moved5 .result) (c .if2 .taken)
-    ∙ plain-moved (x .s .m) (now (x .words)) (x .d) (x .e) P (x .i) (x .j) (x .c) (at-moved .moved .ensures .0) (at-moved .moved .ensures .1) (at-moved3 .moved3 .ensures .0)
-    (at-moved4 .moved4 .ensures .0) (at-moved5 .moved5 .ensures .0) is
+    entries-row (mo4 .moved4 .result) (mo5 .moved5 .result) (c .if2 .taken)
+    ∙ plain-moved (x .s .m) (now (x .words)) (x .d) (x .e) P (x .i) (x .j) (x .c) (mo .moved .ensures .0) (mo .moved .ensures .1) (mo3 .moved3 .ensures .0)
+    (mo4 .moved4 .ensures .0) (mo5 .moved5 .ensures .0) is
 
 returns-3 : tie.Need-returns-3
 returns-3 c = λ P is.
-    let at-if2 = c .before .before in
-    let at-moved5 = at-if2 .before .before .before in
-    let at-moved4 = at-moved5 .before in
-    let at-moved3 = at-moved4 .before in
-    let at-moved = at-moved3 .before .before .before in
-    let z = at-moved .before .before in
+    let if2 = c .before .before in
+    let mo5 = if2 .before .before .before in
+    let mo4 = mo5 .before in
+    let mo3 = mo4 .before in
+    let mo = mo3 .before .before .before in
+    let z = mo .before .before in
     let x = z .args in
-    entries-exp (at-moved4 .moved4 .result) (at-moved5 .moved5 .result) (at-if2 .if2 .left)
-    ∙ plain-moved (x .s .m) (now (x .words)) (x .d) (x .e) P (x .i) (x .j) (x .c) (at-moved .moved .ensures .0) (at-moved .moved .ensures .1) (at-moved3 .moved3 .ensures .0)
-    (at-moved4 .moved4 .ensures .0) (at-moved5 .moved5 .ensures .0) is
+    entries-exp (mo4 .moved4 .result) (mo5 .moved5 .result) (if2 .if2 .left)
+    ∙ plain-moved (x .s .m) (now (x .words)) (x .d) (x .e) P (x .i) (x .j) (x .c) (mo .moved .ensures .0) (mo .moved .ensures .1) (mo3 .moved3 .ensures .0)
+    (mo4 .moved4 .ensures .0) (mo5 .moved5 .ensures .0) is
 
 pub commutes-at-spec : {M : Type 1} → statement M
 commutes-at-spec =

@@ -40,17 +40,17 @@ carries-all-requires c κs =
 
 returns-2 : tie.Need-returns-2
 returns-2 c = λ e.
-    let at-if1 = c .before in
-    let at-power-at = at-if1 .before in
-    let at-pair = at-power-at .before .before in
-    let at-up = at-pair .before in
-    let z = at-up .before .before .before in
+    let if1 = c .before in
+    let pa = if1 .before in
+    let pa′ = pa .before .before in
+    let up = pa′ .before in
+    let z = up .before .before .before in
     let rows = now (z .args .rows) in
-    let word = ap (λ t. getD rows t []) (at-pair .pair .ensures .0) in
+    let word = ap (λ t. getD rows t []) (pa′ .pair .ensures .0) in
     record {
       power = λ P S.
-          sym (at-power-at .power-at .ensures P (says-power S (getD rows (at-pair .pair .result) []) (at-up .up .result) word (at-up .up .ensures)))
-          ∙ not-false (at-power-at .power-at .result) (at-if1 .if1 .left);
+          sym (pa .power-at .ensures P (says-power S (getD rows (pa′ .pair .result) []) (up .up .result) word (up .up .ensures)))
+          ∙ not-false (pa .power-at .result) (if1 .if1 .left);
       carries = c .carries-all .ensures e;
     }
 

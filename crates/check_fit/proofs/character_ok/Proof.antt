@@ -34,15 +34,15 @@ targets-ok-requires c κs =
 
 returns-4 : tie.Need-returns-4
 returns-4 c = λ e.
-    let at-if3 = c .before in
-    let at-matrices-ok = at-if3 .before in
-    let at-if2 = at-matrices-ok .before in
-    let at-word-at = at-if2 .before in
-    let at-if1 = at-word-at .before in
+    let if3 = c .before in
+    let mo = if3 .before in
+    let if2 = mo .before in
+    let wa = if2 .before in
+    let if1 = wa .before in
     record {
-      degree = at-if1 .if1 .left;
-      refers = sym (at-word-at .word-at .ensures) ∙ at-if2 .if2 .left;
-      valid = sym (at-matrices-ok .matrices-ok .ensures) ∙ not-false (at-matrices-ok .matrices-ok .result) (at-if3 .if3 .left);
+      degree = if1 .if1 .left;
+      refers = sym (wa .word-at .ensures) ∙ if2 .if2 .left;
+      valid = sym (mo .matrices-ok .ensures) ∙ not-false (mo .matrices-ok .result) (if3 .if3 .left);
       targets = sym (c .targets-ok .ensures) ∙ e;
     }
 

@@ -24,21 +24,21 @@ loop-holds c = λ q l. absurd (omega arith)
 
 add-rep-at : tie.Need-add-rep-at Inv-loop μ-loop
 add-rep-at c =
-    let at-loop = c .before .before in
-    let z = at-loop .before .before .before in
-    omega (arith, first-place (z .pre) (at-loop .loop .r) (omega arith) .0, z .good)
+    let lo = c .before .before in
+    let z = lo .before .before .before in
+    omega (arith, first-place (z .pre) (lo .loop .r) (omega arith) .0, z .good)
 
 rep-at-requires : tie.Need-rep-at-requires Inv-loop μ-loop
 rep-at-requires c κs =
-    let at-loop = c .before .before in
-    let z = at-loop .before .before .before in
-    first-place (z .pre) (at-loop .loop .r) (omega arith)
+    let lo = c .before .before in
+    let z = lo .before .before .before in
+    first-place (z .pre) (lo .loop .r) (omega arith)
 
 character-ok-requires : tie.Need-character-ok-requires Inv-loop μ-loop
 character-ok-requires c κs =
-    let at-loop = c .before .before .before in
-    let z = at-loop .before .before .before in
-    (first-inside (z .pre) (at-loop .loop .r) (omega arith) (c .rep-at .ensures), z .pre .whole .some)
+    let lo = c .before .before .before in
+    let z = lo .before .before .before in
+    (first-inside (z .pre) (lo .loop .r) (omega arith) (c .rep-at .ensures), z .pre .whole .some)
 
 returns : tie.Need-returns Inv-loop μ-loop
 returns c = λ e. absurd (false≢true e)
@@ -51,20 +51,20 @@ loop-less c = omega arith
 
 loop-again : tie.Need-loop-again Inv-loop μ-loop
 loop-again c =
-    let at-character-ok = c .before in
-    let at-rep-at = at-character-ok .before in
-    let at-loop = at-rep-at .before .before .before in
-    let z = at-loop .before .before .before in
+    let co = c .before in
+    let ra = co .before in
+    let lo = ra .before .before .before in
+    let z = lo .before .before .before in
     let a = z .args in
     let T = now (a .words) in
-    below-more (λ q. Character (a .s) T (repAtLevel (a .s) T 1 q) (a .g .above)) (at-loop .loop .r) (at-loop .loop .inv)
-    (subst (λ (D : Listed). Character (a .s) T D (a .g .above)) (first-is (z .pre) (at-loop .loop .r) (omega arith) (at-rep-at .rep-at .ensures))
-    (at-character-ok .character-ok .ensures (not-false (at-character-ok .character-ok .result) (c .if1 .left))))
+    below-more (λ q. Character (a .s) T (repAtLevel (a .s) T 1 q) (a .g .above)) (lo .loop .r) (lo .loop .inv)
+    (subst (λ (D : Listed). Character (a .s) T D (a .g .above)) (first-is (z .pre) (lo .loop .r) (omega arith) (ra .rep-at .ensures))
+    (co .character-ok .ensures (not-false (co .character-ok .result) (c .if1 .left))))
 
 returns-2 : tie.Need-returns-2 Inv-loop μ-loop
 returns-2 c = λ e.
-    let at-loop = c .before in
-    record { each = λ r l. at-loop .loop .inv r (omega arith) }
+    let lo = c .before in
+    record { each = λ r l. lo .loop .inv r (omega arith) }
 
 pub characters-ok-spec : {M : Type 1} → statement M
 characters-ok-spec =

@@ -33,27 +33,27 @@ loop-holds c = λ q l. absurd (omega arith)
 
 add-rep-at : tie.Need-add-rep-at Inv-loop μ-loop
 add-rep-at c =
-    let at-loop = c .before .before in
-    let z = at-loop .before .before .before .before .before in
-    omega (arith, first-place (z .pre .0) (at-loop .loop .r) (omega arith) .0, z .good)
+    let lo = c .before .before in
+    let z = lo .before .before .before .before .before in
+    omega (arith, first-place (z .pre .0) (lo .loop .r) (omega arith) .0, z .good)
 
 rep-at-requires : tie.Need-rep-at-requires Inv-loop μ-loop
 rep-at-requires c κs =
-    let at-loop = c .before .before in
-    let z = at-loop .before .before .before .before .before in
-    first-place (z .pre .0) (at-loop .loop .r) (omega arith)
+    let lo = c .before .before in
+    let z = lo .before .before .before .before .before in
+    first-place (z .pre .0) (lo .loop .r) (omega arith)
 
 rep-relates-requires : tie.Need-rep-relates-requires Inv-loop μ-loop
 rep-relates-requires c κs =
-    let at-rep-at = c .before in
-    let at-loop = at-rep-at .before .before .before in
-    let at-reaches = at-loop .before in
-    let at-up = at-reaches .before in
-    let z = at-up .before .before .before in (
-      first-reached (z .pre .0) (z .pre .1) (at-loop .loop .r) (omega arith) (at-rep-at .rep-at .ensures),
+    let ra = c .before in
+    let lo = ra .before .before .before in
+    let re = lo .before in
+    let up = re .before in
+    let z = up .before .before .before in (
+      first-reached (z .pre .0) (z .pre .1) (lo .loop .r) (omega arith) (ra .rep-at .ensures),
       omega arith,
       omega arith,
-      subst (λ n. Quiet n (now (z .args .rows)) (at-reaches .reaches .result)) (at-up .up .ensures) (at-reaches .reaches .ensures),
+      subst (λ n. Quiet n (now (z .args .rows)) (re .reaches .result)) (up .up .ensures) (re .reaches .ensures),
     )
 
 returns : tie.Need-returns Inv-loop μ-loop
@@ -67,19 +67,20 @@ loop-less c = omega arith
 
 loop-again : tie.Need-loop-again Inv-loop μ-loop
 loop-again c =
-    let at-rep-relates = c .before in
-    let at-rep-at = at-rep-relates .before .before in
-    let at-loop = at-rep-at .before .before .before in
-    let z = at-loop .before .before .before .before .before in
+    let rr = c .before in
+    let ra = rr .before .before in
+    let lo = ra .before .before .before in
+    let z = lo .before .before .before .before .before in
     let a = z .args in
     let T = now (a .words) in
-    below-more (λ q. RepRelates (a .s) T (now (a .firsts)) (a .g) (repAtLevel (a .s) T 1 q) (now (a .rows)) 1) (at-loop .loop .r) (at-loop .loop .inv)
-    (first-relates (z .pre .0) (z .pre .1) (at-loop .loop .r) (omega arith) (at-rep-at .rep-at .ensures) (at-rep-relates .rep-relates .ensures (not-false (at-rep-relates .rep-relates .result) (c .if1 .left))))
+    below-more (λ q. RepRelates (a .s) T (now (a .firsts)) (a .g) (repAtLevel (a .s) T 1 q) (now (a .rows)) 1) (lo .loop .r) (lo .loop .inv)
+    (first-relates (z .pre .0) (z .pre .1) (lo .loop .r) (omega arith) (ra .rep-at .ensures)
+    (rr .rep-relates .ensures (not-false (rr .rep-relates .result) (c .if1 .left))))
 
 returns-2 : tie.Need-returns-2 Inv-loop μ-loop
 returns-2 c = λ e.
-    let at-loop = c .before in
-    record { each = λ r l. at-loop .loop .inv r (omega arith) }
+    let lo = c .before in
+    record { each = λ r l. lo .loop .inv r (omega arith) }
 
 pub characters-relate-spec : {M : Type 1} → statement M
 characters-relate-spec =

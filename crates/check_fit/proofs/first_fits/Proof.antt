@@ -23,9 +23,9 @@ returns-2 c = λ e. absurd (false≢true e)
 
 characters-relate-requires : tie.Need-characters-relate-requires
 characters-relate-requires c κs =
-    let at-characters-ok = c .before in
-    let z = at-characters-ok .before .before .before .before .before .before in
-    (z .pre, at-characters-ok .characters-ok .ensures (not-false (at-characters-ok .characters-ok .result) (c .if2 .left)))
+    let co = c .before in
+    let z = co .before .before .before .before .before .before in
+    (z .pre, co .characters-ok .ensures (not-false (co .characters-ok .result) (c .if2 .left)))
 
 returns-3 : tie.Need-returns-3
 returns-3 c = λ e. absurd (false≢true e)
@@ -37,15 +37,15 @@ disjoint-requires c κs =
 
 returns-4 : tie.Need-returns-4
 returns-4 c = λ e.
-    let at-if3 = c .before in
-    let at-characters-relate = at-if3 .before in
-    let at-if2 = at-characters-relate .before in
-    let at-characters-ok = at-if2 .before in
-    let at-if1 = at-characters-ok .before in
-    let at-up = at-if1 .before .before in
-    let z = at-up .before .before .before in
-    characters-fit (z .pre) (at-characters-ok .characters-ok .ensures (not-false (at-characters-ok .characters-ok .result) (at-if2 .if2 .left)))
-    (at-characters-relate .characters-relate .ensures (not-false (at-characters-relate .characters-relate .result) (at-if3 .if3 .left))) (at-if1 .if1 .left ∙ at-up .up .ensures) (c .disjoint .ensures e)
+    let if3 = c .before in
+    let cr = if3 .before in
+    let if2 = cr .before in
+    let co = if2 .before in
+    let if1 = co .before in
+    let up = if1 .before .before in
+    let z = up .before .before .before in
+    characters-fit (z .pre) (co .characters-ok .ensures (not-false (co .characters-ok .result) (if2 .if2 .left)))
+    (cr .characters-relate .ensures (not-false (cr .characters-relate .result) (if3 .if3 .left))) (if1 .if1 .left ∙ up .up .ensures) (c .disjoint .ensures e)
 
 pub first-fits-spec : {M : Type 1} → statement M
 first-fits-spec =

@@ -38,88 +38,89 @@ found-requires c κs =
 
 loop-holds : tie.Need-loop-holds Inv-loop μ-loop
 loop-holds c =
-    let at-count-of = c .before .before in
-    let z = at-count-of .before .before .before in
+    let co = c .before .before in
+    let z = co .before .before .before in
     let a = z .args in
-    (noted-none, c .found .ensures, omega (arith, at-count-of .count-of .ensures, whole-some (a .s) (now (a .words)) (z .pre .0) (a .i) (z .pre .2) (z .pre .3)))
+    (noted-none, c .found .ensures, omega (arith, co .count-of .ensures, whole-some (a .s) (now (a .words)) (z .pre .0) (a .i) (z .pre .2) (z .pre .3)))
 
 cast-firsts : tie.Need-cast-firsts Inv-loop μ-loop
 cast-firsts c =
-    let at-loop = c .before in
-    let z = at-loop .before .before .before .before .before .before in
-    omega (arith, at-loop .loop .inv .1 .inside, at-loop .loop .inv .1 .positive, z .pre .0 .lines-are, z .pre .1)
+    let lo = c .before in
+    let z = lo .before .before .before .before .before .before in
+    omega (arith, lo .loop .inv .1 .inside, lo .loop .inv .1 .positive, z .pre .0 .lines-are, z .pre .1)
 
 add-firsts : tie.Need-add-firsts Inv-loop μ-loop
 add-firsts c =
-    let at-loop = c .before in
-    let at-if1 = at-loop .before .before in
-    let z = at-if1 .before .before .before .before in
-    omega (arith, at-if1 .if1 .left, z .pre .4, at-loop .loop .inv .2, z .good)
+    let lo = c .before in
+    let if1 = lo .before .before in
+    let z = if1 .before .before .before .before in
+    omega (arith, if1 .if1 .left, z .pre .4, lo .loop .inv .2, z .good)
 
 mul-firsts : tie.Need-mul-firsts Inv-loop μ-loop
 mul-firsts c =
-    let at-loop = c .before in
-    let at-if1 = at-loop .before .before in
-    let z = at-if1 .before .before .before .before in
-    omega (arith, at-if1 .if1 .left, z .pre .4, at-loop .loop .inv .2, z .good)
+    let lo = c .before in
+    let if1 = lo .before .before in
+    let z = if1 .before .before .before .before in
+    omega (arith, if1 .if1 .left, z .pre .4, lo .loop .inv .2, z .good)
 
 slice-write-firsts : tie.Need-slice-write-firsts Inv-loop μ-loop
 slice-write-firsts c =
-    let at-loop = c .before in
-    let at-if1 = at-loop .before .before in
-    let z = at-if1 .before .before .before .before in
-    omega (arith, at-if1 .if1 .left, z .pre .4, at-loop .loop .inv .2, at-loop .loop .inv .0 .size)
+    let lo = c .before in
+    let if1 = lo .before .before in
+    let z = if1 .before .before .before .before in
+    omega (arith, if1 .if1 .left, z .pre .4, lo .loop .inv .2, lo .loop .inv .0 .size)
 
 add-r : tie.Need-add-r Inv-loop μ-loop
 add-r c =
-    let at-loop = c .before in
-    let at-if1 = at-loop .before .before in
-    let z = at-if1 .before .before .before .before in
-    omega (arith, at-if1 .if1 .left, z .pre .4, at-loop .loop .inv .2, z .good)
+    let lo = c .before in
+    let if1 = lo .before .before in
+    let z = if1 .before .before .before .before in
+    omega (arith, if1 .if1 .left, z .pre .4, lo .loop .inv .2, z .good)
 
 same-length : tie.Need-same-length Inv-loop μ-loop
 same-length c =
-    let at-loop = c .before .before in
-    let z = at-loop .before .before .before .before .before .before in
-    let l = at-loop .loop in
+    let lo = c .before .before in
+    let z = lo .before .before .before .before .before .before in
+    let l = lo .loop in
     length-set (l .firsts) (z .args .at + l .r) (l .d .line) ∙ l .inv .0 .size
 
 returns-2 : tie.Need-returns-2 Inv-loop μ-loop
 returns-2 c =
-    let at-loop = c .before .before in
-    let at-if1 = at-loop .before .before in
-    let at-count-of = at-if1 .before in
-    let z = at-count-of .before .before .before in
-    let l = at-loop .loop in
-    let h : z .args .at + l .r < length (l .firsts) = omega (arith, at-if1 .if1 .left, z .pre .4, l .inv .2, l .inv .0 .size) in
-    noted-all (noted-more (l .inv .0) (l .d .line) h (l .inv .1 .line)) (at-count-of .count-of .ensures) (omega (arith, at-if1 .if1 .left, z .pre .4)) (omega (arith, c .if2 .taken))
+    let lo = c .before .before in
+    let if1 = lo .before .before in
+    let co = if1 .before in
+    let z = co .before .before .before in
+    let l = lo .loop in
+    let h : z .args .at + l .r < length (l .firsts) = omega (arith, if1 .if1 .left, z .pre .4, l .inv .2, l .inv .0 .size) in
+    noted-all (noted-more (l .inv .0) (l .d .line) h (l .inv .1 .line)) (co .count-of .ensures) (omega (arith, if1 .if1 .left, z .pre .4))
+    (omega (arith, c .if2 .taken))
 
 following-requires : tie.Need-following-requires Inv-loop μ-loop
 following-requires c κs =
-    let at-loop = c .before .before in
-    let at-count-of = at-loop .before .before .before in
-    let z = at-count-of .before .before .before in
-    let l = at-loop .loop in
-    let m : suc (l .r) < at-count-of .count-of .result = omega (arith, c .if2 .left, l .inv .2) in
-    (z .pre .0, record { i = z .args .i; r = l .r; here = l .inv .1; more = omega (arith, m, at-count-of .count-of .ensures) })
+    let lo = c .before .before in
+    let co = lo .before .before .before in
+    let z = co .before .before .before in
+    let l = lo .loop in
+    let m : suc (l .r) < co .count-of .result = omega (arith, c .if2 .left, l .inv .2) in
+    (z .pre .0, record { i = z .args .i; r = l .r; here = l .inv .1; more = omega (arith, m, co .count-of .ensures) })
 
 loop-less : tie.Need-loop-less Inv-loop μ-loop
 loop-less c =
-    let at-loop = c .before .before .before in
-    omega (arith, at-loop .loop .inv .2)
+    let lo = c .before .before .before in
+    omega (arith, lo .loop .inv .2)
 
 loop-again : tie.Need-loop-again Inv-loop μ-loop
 loop-again c =
-    let at-if2 = c .before in
-    let at-loop = at-if2 .before .before in
-    let at-if1 = at-loop .before .before in
-    let at-count-of = at-if1 .before in
-    let z = at-count-of .before .before .before in
-    let l = at-loop .loop in
+    let if2 = c .before in
+    let lo = if2 .before .before in
+    let if1 = lo .before .before in
+    let co = if1 .before in
+    let z = co .before .before .before in
+    let l = lo .loop in
     let a = z .args in
-    let h : a .at + l .r < length (l .firsts) = omega (arith, at-if1 .if1 .left, z .pre .4, l .inv .2, l .inv .0 .size) in
-    let m : suc (l .r) < at-count-of .count-of .result = omega (arith, at-if2 .if2 .left, l .inv .2) in
-    let f = c .following .ensures (a .i) (l .r) (l .inv .1) (omega (arith, m, at-count-of .count-of .ensures)) in (
+    let h : a .at + l .r < length (l .firsts) = omega (arith, if1 .if1 .left, z .pre .4, l .inv .2, l .inv .0 .size) in
+    let m : suc (l .r) < co .count-of .result = omega (arith, if2 .if2 .left, l .inv .2) in
+    let f = c .following .ensures (a .i) (l .r) (l .inv .1) (omega (arith, m, co .count-of .ensures)) in (
       noted-more (l .inv .0) (l .d .line) h (l .inv .1 .line),
       subst (λ r. Found (a .s .gens) (now (a .words)) (a .i) r (c .following .result)) (sym (add-one (l .r))) f,
       omega (arith, m),

@@ -43,73 +43,73 @@ returns-3 c = λ e. absurd (false≢true e)
 
 squares-hold-requires : tie.Need-squares-hold-requires
 squares-hold-requires c κs =
-    let at-heads = c .before in
-    let z = at-heads .before .before .before .before .before .before .before .before in
+    let he = c .before in
+    let z = he .before .before .before .before .before .before .before .before in
     let a = z .args in
-    form-whole (a .s) (now (a .orders)) (now (a .words)) (z .pre .0) (sym (at-heads .heads .ensures) ∙ not-false (at-heads .heads .result) (c .if3 .left))
+    form-whole (a .s) (now (a .orders)) (now (a .words)) (z .pre .0) (sym (he .heads .ensures) ∙ not-false (he .heads .result) (c .if3 .left))
 
 returns-4 : tie.Need-returns-4
 returns-4 c = λ e. absurd (false≢true e)
 
 small-fits-requires : tie.Need-small-fits-requires
 small-fits-requires c κs =
-    let at-if3 = c .before .before .before .before in
-    let at-heads = at-if3 .before in
-    let at-if2 = at-heads .before in
-    let z = at-if2 .before .before .before .before .before .before .before in
+    let if3 = c .before .before .before .before in
+    let he = if3 .before in
+    let if2 = he .before in
+    let z = if2 .before .before .before .before .before .before .before in
     let a = z .args in (
-      form-whole (a .s) (now (a .orders)) (now (a .words)) (z .pre .0) (sym (at-heads .heads .ensures) ∙ not-false (at-heads .heads .result) (at-if3 .if3 .left)),
-      omega (arith, at-if2 .if2 .left),
+      form-whole (a .s) (now (a .orders)) (now (a .words)) (z .pre .0) (sym (he .heads .ensures) ∙ not-false (he .heads .result) (if3 .if3 .left)),
+      omega (arith, if2 .if2 .left),
       z .pre .1,
       z .pre .2,
     )
 
 returns-5 : tie.Need-returns-5
 returns-5 c = λ e.
-    let at-if4 = c .before .before .before in
-    let at-squares-hold = at-if4 .before in
-    let at-if3 = at-squares-hold .before in
-    let at-heads = at-if3 .before in
-    let at-if1 = at-heads .before .before .before in
-    let at-up = at-if1 .before .before .before in
-    let z = at-up .before .before in
+    let if4 = c .before .before .before in
+    let sh = if4 .before in
+    let if3 = sh .before in
+    let he = if3 .before in
+    let if1 = he .before .before .before in
+    let up = if1 .before .before .before in
+    let z = up .before .before in
     let a = z .args in
     let T = now (a .words) in
     let orders = now (a .orders) in
-    let h = sym (at-heads .heads .ensures) ∙ not-false (at-heads .heads .result) (at-if3 .if3 .left) in
+    let h = sym (he .heads .ensures) ∙ not-false (he .heads .result) (if3 .if3 .left) in
     levels-pass (heads-whole (a .s .gens) T (ordersIn orders) h) (form-whole (a .s) orders T (z .pre .0) h)
-    (subst (AddsUp (a .s) orders T) (not-false (at-squares-hold .squares-hold .result) (at-if4 .if4 .left)) (at-squares-hold .squares-hold .ensures)) (c .small-fits .ensures e)
-    (ap (λ k. getD orders k 0) (sym (at-up .up .ensures)) ∙ at-if1 .if1 .left)
+    (subst (AddsUp (a .s) orders T) (not-false (sh .squares-hold .result) (if4 .if4 .left)) (sh .squares-hold .ensures)) (c .small-fits .ensures e)
+    (ap (λ k. getD orders k 0) (sym (up .up .ensures)) ∙ if1 .if1 .left)
 
 large-fits-requires : tie.Need-large-fits-requires
 large-fits-requires c κs =
-    let at-if3 = c .before .before .before .before in
-    let at-heads = at-if3 .before in
-    let at-if2 = at-heads .before in
-    let z = at-if2 .before .before .before .before .before .before .before in
+    let if3 = c .before .before .before .before in
+    let he = if3 .before in
+    let if2 = he .before in
+    let z = if2 .before .before .before .before .before .before .before in
     let a = z .args in (
-      form-whole (a .s) (now (a .orders)) (now (a .words)) (z .pre .0) (sym (at-heads .heads .ensures) ∙ not-false (at-heads .heads .result) (at-if3 .if3 .left)),
-      omega (arith, at-if2 .if2 .left),
+      form-whole (a .s) (now (a .orders)) (now (a .words)) (z .pre .0) (sym (he .heads .ensures) ∙ not-false (he .heads .result) (if3 .if3 .left)),
+      omega (arith, if2 .if2 .left),
       z .pre .1,
       z .pre .2,
     )
 
 returns-6 : tie.Need-returns-6
 returns-6 c = λ e.
-    let at-if4 = c .before .before .before in
-    let at-squares-hold = at-if4 .before in
-    let at-if3 = at-squares-hold .before in
-    let at-heads = at-if3 .before in
-    let at-if1 = at-heads .before .before .before in
-    let at-up = at-if1 .before .before .before in
-    let z = at-up .before .before in
+    let if4 = c .before .before .before in
+    let sh = if4 .before in
+    let if3 = sh .before in
+    let he = if3 .before in
+    let if1 = he .before .before .before in
+    let up = if1 .before .before .before in
+    let z = up .before .before in
     let a = z .args in
     let T = now (a .words) in
     let orders = now (a .orders) in
-    let h = sym (at-heads .heads .ensures) ∙ not-false (at-heads .heads .result) (at-if3 .if3 .left) in
+    let h = sym (he .heads .ensures) ∙ not-false (he .heads .result) (if3 .if3 .left) in
     levels-pass (heads-whole (a .s .gens) T (ordersIn orders) h) (form-whole (a .s) orders T (z .pre .0) h)
-    (subst (AddsUp (a .s) orders T) (not-false (at-squares-hold .squares-hold .result) (at-if4 .if4 .left)) (at-squares-hold .squares-hold .ensures)) (c .large-fits .ensures e)
-    (ap (λ k. getD orders k 0) (sym (at-up .up .ensures)) ∙ at-if1 .if1 .left)
+    (subst (AddsUp (a .s) orders T) (not-false (sh .squares-hold .result) (if4 .if4 .left)) (sh .squares-hold .ensures)) (c .large-fits .ensures e)
+    (ap (λ k. getD orders k 0) (sym (up .up .ensures)) ∙ if1 .if1 .left)
 
 pub fits-spec : {M : Type 1} → statement M
 fits-spec =

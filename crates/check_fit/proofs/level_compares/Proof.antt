@@ -25,22 +25,22 @@ loop-holds c = λ q l. absurd (omega arith)
 
 add-rep-at : tie.Need-add-rep-at Inv-loop μ-loop
 add-rep-at c =
-    let at-loop = c .before .before in
-    let z = at-loop .before .before .before in
-    omega (arith, high-place (z .pre) (at-loop .loop .r) (omega arith) .0, z .good)
+    let lo = c .before .before in
+    let z = lo .before .before .before in
+    omega (arith, high-place (z .pre) (lo .loop .r) (omega arith) .0, z .good)
 
 rep-at-requires : tie.Need-rep-at-requires Inv-loop μ-loop
 rep-at-requires c κs =
-    let at-loop = c .before .before in
-    let z = at-loop .before .before .before in
-    high-place (z .pre) (at-loop .loop .r) (omega arith)
+    let lo = c .before .before in
+    let z = lo .before .before .before in
+    high-place (z .pre) (lo .loop .r) (omega arith)
 
 rep-fits-requires : tie.Need-rep-fits-requires Inv-loop μ-loop
 rep-fits-requires c κs =
-    let at-loop = c .before .before .before in
-    let z = at-loop .before .before .before in
+    let lo = c .before .before .before in
+    let z = lo .before .before .before in
     let S = z .pre in
-    (S, found-inside (S .whole) (S .short) (high-at S (at-loop .loop .r) (omega arith) (c .rep-at .ensures) refl))
+    (S, found-inside (S .whole) (S .short) (high-at S (lo .loop .r) (omega arith) (c .rep-at .ensures) refl))
 
 returns : tie.Need-returns Inv-loop μ-loop
 returns c = λ e. absurd (false≢true e)
@@ -53,19 +53,20 @@ loop-less c = omega arith
 
 loop-again : tie.Need-loop-again Inv-loop μ-loop
 loop-again c =
-    let at-rep-fits = c .before in
-    let at-rep-at = at-rep-fits .before in
-    let at-loop = at-rep-at .before .before .before in
-    let z = at-loop .before .before .before in
+    let rf = c .before in
+    let ra = rf .before in
+    let lo = ra .before .before .before in
+    let z = lo .before .before .before in
     let a = z .args in
     let T = now (a .words) in
-    below-more (λ q. RepFits (a .s) T (a .g) (repAtLevel (a .s) T (suc (a .g .top)) q)) (at-loop .loop .r) (at-loop .loop .inv)
-    (subst (RepFits (a .s) T (a .g)) (high-is (z .pre) (at-loop .loop .r) (omega arith) (at-rep-at .rep-at .ensures)) (at-rep-fits .rep-fits .ensures (not-false (at-rep-fits .rep-fits .result) (c .if1 .left))))
+    below-more (λ q. RepFits (a .s) T (a .g) (repAtLevel (a .s) T (suc (a .g .top)) q)) (lo .loop .r) (lo .loop .inv)
+    (subst (RepFits (a .s) T (a .g)) (high-is (z .pre) (lo .loop .r) (omega arith) (ra .rep-at .ensures))
+    (rf .rep-fits .ensures (not-false (rf .rep-fits .result) (c .if1 .left))))
 
 returns-2 : tie.Need-returns-2 Inv-loop μ-loop
 returns-2 c = λ e.
-    let at-loop = c .before in
-    record { each = λ r l. at-loop .loop .inv r (omega arith) }
+    let lo = c .before in
+    record { each = λ r l. lo .loop .inv r (omega arith) }
 
 pub level-compares-spec : {M : Type 1} → statement M
 level-compares-spec =

@@ -15,9 +15,9 @@ returns c = λ e. absurd (false≢true e)
 
 level-relates-requires : tie.Need-level-relates-requires
 level-relates-requires c κs =
-    let at-level-compares = c .before in
-    let z = at-level-compares .before .before .before in
-    (z .pre, at-level-compares .level-compares .ensures (not-false (at-level-compares .level-compares .result) (c .if1 .left)))
+    let lc = c .before in
+    let z = lc .before .before .before in
+    (z .pre, lc .level-compares .ensures (not-false (lc .level-compares .result) (c .if1 .left)))
 
 returns-2 : tie.Need-returns-2
 returns-2 c = λ e. absurd (false≢true e)
@@ -29,13 +29,13 @@ disjoint-requires c κs =
 
 returns-3 : tie.Need-returns-3
 returns-3 c = λ e.
-    let at-if2 = c .before in
-    let at-level-relates = at-if2 .before in
-    let at-if1 = at-level-relates .before in
-    let at-level-compares = at-if1 .before in
-    let z = at-level-compares .before .before .before in
-    level.level-fits (z .pre) (at-level-compares .level-compares .ensures (not-false (at-level-compares .level-compares .result) (at-if1 .if1 .left)))
-    (at-level-relates .level-relates .ensures (not-false (at-level-relates .level-relates .result) (at-if2 .if2 .left))) (c .disjoint .ensures e)
+    let if2 = c .before in
+    let lr = if2 .before in
+    let if1 = lr .before in
+    let lc = if1 .before in
+    let z = lc .before .before .before in
+    level.level-fits (z .pre) (lc .level-compares .ensures (not-false (lc .level-compares .result) (if1 .if1 .left)))
+    (lr .level-relates .ensures (not-false (lr .level-relates .result) (if2 .if2 .left))) (c .disjoint .ensures e)
 
 pub level-fits-spec : {M : Type 1} → statement M
 level-fits-spec =

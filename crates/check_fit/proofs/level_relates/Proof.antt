@@ -39,22 +39,22 @@ loop-holds c = λ q l. absurd (omega arith)
 
 add-rep-at : tie.Need-add-rep-at Inv-loop μ-loop
 add-rep-at c =
-    let at-loop = c .before .before in
-    let z = at-loop .before .before .before .before .before in
-    omega (arith, high-place (z .pre .0) (at-loop .loop .r) (omega arith) .0, z .good)
+    let lo = c .before .before in
+    let z = lo .before .before .before .before .before in
+    omega (arith, high-place (z .pre .0) (lo .loop .r) (omega arith) .0, z .good)
 
 rep-at-requires : tie.Need-rep-at-requires Inv-loop μ-loop
 rep-at-requires c κs =
-    let at-loop = c .before .before in
-    let z = at-loop .before .before .before .before .before in
-    high-place (z .pre .0) (at-loop .loop .r) (omega arith)
+    let lo = c .before .before in
+    let z = lo .before .before .before .before .before in
+    high-place (z .pre .0) (lo .loop .r) (omega arith)
 
 word-at-requires : tie.Need-word-at-requires Inv-loop μ-loop
 word-at-requires c κs =
-    let at-loop = c .before .before .before in
-    let z = at-loop .before .before .before .before .before in
+    let lo = c .before .before .before in
+    let z = lo .before .before .before .before .before in
     let S = z .pre .0 in
-    let I = listed-inside S (z .pre .1) (at-loop .loop .r) (omega arith) (c .rep-at .ensures) in
+    let I = listed-inside S (z .pre .1) (lo .loop .r) (omega arith) (c .rep-at .ensures) in
     (omega (arith, inside-matrix I 0 (S .whole .some), I .positive), omega arith)
 
 up-requires-2 : tie.Need-up-requires-2 Inv-loop μ-loop
@@ -62,43 +62,43 @@ up-requires-2 c κs = search needs
 
 add-rep-at-2 : tie.Need-add-rep-at-2 Inv-loop μ-loop
 add-rep-at-2 c =
-    let at-up2 = c .before in
-    let at-word-at = at-up2 .before in
-    let at-rep-at = at-word-at .before in
-    let at-loop = at-rep-at .before .before .before in
-    let z = at-loop .before .before .before .before .before in
+    let up2 = c .before in
+    let wa = up2 .before in
+    let ra = wa .before in
+    let lo = ra .before .before .before in
+    let z = lo .before .before .before .before .before in
     let S = z .pre .0 in
-    let b = listed-refers S (z .pre .1) (at-loop .loop .r) (omega arith) (at-rep-at .rep-at .ensures) in
-    omega (arith, low-place S (at-up2 .up2 .result) (omega (arith, b, at-up2 .up2 .ensures, at-word-at .word-at .ensures)) .0, z .good)
+    let b = listed-refers S (z .pre .1) (lo .loop .r) (omega arith) (ra .rep-at .ensures) in
+    omega (arith, low-place S (up2 .up2 .result) (omega (arith, b, up2 .up2 .ensures, wa .word-at .ensures)) .0, z .good)
 
 rep-at-requires-2 : tie.Need-rep-at-requires-2 Inv-loop μ-loop
 rep-at-requires-2 c κs =
-    let at-up2 = c .before in
-    let at-word-at = at-up2 .before in
-    let at-rep-at = at-word-at .before in
-    let at-loop = at-rep-at .before .before .before in
-    let z = at-loop .before .before .before .before .before in
+    let up2 = c .before in
+    let wa = up2 .before in
+    let ra = wa .before in
+    let lo = ra .before .before .before in
+    let z = lo .before .before .before .before .before in
     let S = z .pre .0 in
-    let b = listed-refers S (z .pre .1) (at-loop .loop .r) (omega arith) (at-rep-at .rep-at .ensures) in
-    low-place S (at-up2 .up2 .result) (omega (arith, b, at-up2 .up2 .ensures, at-word-at .word-at .ensures))
+    let b = listed-refers S (z .pre .1) (lo .loop .r) (omega arith) (ra .rep-at .ensures) in
+    low-place S (up2 .up2 .result) (omega (arith, b, up2 .up2 .ensures, wa .word-at .ensures))
 
 rep-relates-requires : tie.Need-rep-relates-requires Inv-loop μ-loop
 rep-relates-requires c κs =
-    let at-rep-at2 = c .before in
-    let at-up2 = at-rep-at2 .before .before in
-    let at-word-at = at-up2 .before in
-    let at-rep-at = at-word-at .before in
-    let at-loop = at-rep-at .before .before .before in
-    let at-reaches = at-loop .before in
-    let at-up = at-reaches .before in
-    let z = at-up .before .before .before in
+    let ra2 = c .before in
+    let up2 = ra2 .before .before in
+    let wa = up2 .before in
+    let ra = wa .before in
+    let lo = ra .before .before .before in
+    let re = lo .before in
+    let up = re .before in
+    let z = up .before .before .before in
     let S = z .pre .0 in
-    let b = listed-refers S (z .pre .1) (at-loop .loop .r) (omega arith) (at-rep-at .rep-at .ensures) in
-    let F = low-at S (at-up2 .up2 .result) (omega (arith, b, at-up2 .up2 .ensures, at-word-at .word-at .ensures)) (at-rep-at2 .rep-at2 .ensures) refl in (
-      listed-reached S (z .pre .1) (at-loop .loop .r) (omega arith) (at-rep-at .rep-at .ensures),
+    let b = listed-refers S (z .pre .1) (lo .loop .r) (omega arith) (ra .rep-at .ensures) in
+    let F = low-at S (up2 .up2 .result) (omega (arith, b, up2 .up2 .ensures, wa .word-at .ensures)) (ra2 .rep-at2 .ensures) refl in (
+      listed-reached S (z .pre .1) (lo .loop .r) (omega arith) (ra .rep-at .ensures),
       F .positive,
       found-inside (S .whole) (S .short) F .narrow,
-      subst (λ n. Quiet n (now (z .args .rows)) (at-reaches .reaches .result)) (at-up .up .ensures) (at-reaches .reaches .ensures),
+      subst (λ n. Quiet n (now (z .args .rows)) (re .reaches .result)) (up .up .ensures) (re .reaches .ensures),
     )
 
 returns : tie.Need-returns Inv-loop μ-loop
@@ -112,26 +112,27 @@ loop-less c = omega arith
 
 loop-again : tie.Need-loop-again Inv-loop μ-loop
 loop-again c =
-    let at-rep-relates = c .before in
-    let at-rep-at2 = at-rep-relates .before .before in
-    let at-up2 = at-rep-at2 .before .before in
-    let at-word-at = at-up2 .before in
-    let at-rep-at = at-word-at .before in
-    let at-loop = at-rep-at .before .before .before in
-    let z = at-loop .before .before .before .before .before in
+    let rr = c .before in
+    let ra2 = rr .before .before in
+    let up2 = ra2 .before .before in
+    let wa = up2 .before in
+    let ra = wa .before in
+    let lo = ra .before .before .before in
+    let z = lo .before .before .before .before .before in
     let a = z .args in
     let T = now (a .words) in
     let firsts = now (a .firsts) in
-    let v : at-rep-at2 .rep-at2 .result .deg ≡ widthBelow T firsts (a .g) (at-rep-at .rep-at .result)
-    = ap (λ (F : Listed). F .deg) (at-rep-at2 .rep-at2 .ensures) ∙ ap (λ x. wordAt T (getD firsts (a .g .low + x) 0) DEG) (at-up2 .up2 .ensures ∙ at-word-at .word-at .ensures) in
+    let v : ra2 .rep-at2 .result .deg ≡ widthBelow T firsts (a .g) (ra .rep-at .result)
+    = ap (λ (F : Listed). F .deg) (ra2 .rep-at2 .ensures) ∙ ap (λ x. wordAt T (getD firsts (a .g .low + x) 0) DEG) (up2 .up2 .ensures ∙ wa .word-at .ensures) in
     below-more (λ q. let D = repAtLevel (a .s) T (suc (a .g .top)) q in RepRelates (a .s) T firsts (a .g) D (now (a .rows)) (widthBelow T firsts (a .g) D))
-    (at-loop .loop .r) (at-loop .loop .inv)
-    (listed-relates (z .pre .0) (z .pre .1) (at-loop .loop .r) (omega arith) (at-rep-at .rep-at .ensures) v (at-rep-relates .rep-relates .ensures (not-false (at-rep-relates .rep-relates .result) (c .if1 .left))))
+    (lo .loop .r) (lo .loop .inv)
+    (listed-relates (z .pre .0) (z .pre .1) (lo .loop .r) (omega arith) (ra .rep-at .ensures) v
+    (rr .rep-relates .ensures (not-false (rr .rep-relates .result) (c .if1 .left))))
 
 returns-2 : tie.Need-returns-2 Inv-loop μ-loop
 returns-2 c = λ e.
-    let at-loop = c .before in
-    record { each = λ r l. at-loop .loop .inv r (omega arith) }
+    let lo = c .before in
+    record { each = λ r l. lo .loop .inv r (omega arith) }
 
 pub level-relates-spec : {M : Type 1} → statement M
 level-relates-spec =

@@ -15,8 +15,8 @@ first-lines-requires c κs =
 
 same-length : tie.Need-same-length
 same-length c =
-    let at-first-lines = c .before .before .before in
-    at-first-lines .first-lines .ensures .size
+    let fl = c .before .before .before in
+    fl .first-lines .ensures .size
 
 returns : tie.Need-returns
 returns c = λ e. absurd (false≢true e)
@@ -26,38 +26,39 @@ element-copy-out-t13 c = search needs
 
 first-fits-requires : tie.Need-first-fits-requires
 first-fits-requires c κs =
-    let at-if1 = c .before .before in
-    let at-first-lines = at-if1 .before .before .before in
-    let z = at-first-lines .before .before .before .before in
-    first-staged (z .pre .0) (z .pre .1) (z .pre .2, z .pre .3) (at-first-lines .first-lines .ensures) (at-if1 .if1 .left) _
+    let if1 = c .before .before in
+    let fl = if1 .before .before .before in
+    let z = fl .before .before .before .before in
+    first-staged (z .pre .0) (z .pre .1) (z .pre .2, z .pre .3) (fl .first-lines .ensures) (if1 .if1 .left) _
 
 same-length-2 : tie.Need-same-length-2
 same-length-2 c =
-    let at-first-lines = c .before .before .before .before .before .before .before in
-    at-first-lines .first-lines .ensures .size
+    let fl = c .before .before .before .before .before .before .before in
+    fl .first-lines .ensures .size
 
 returns-2 : tie.Need-returns-2
 returns-2 c = λ e. absurd (false≢true e)
 
 upper-levels-fit-requires : tie.Need-upper-levels-fit-requires
 upper-levels-fit-requires c κs =
-    let at-if2 = c .before in
-    let at-first-fits = at-if2 .before in
-    let at-if1 = at-first-fits .before .before .before in
-    let at-first-lines = at-if1 .before .before .before in
-    let z = at-first-lines .before .before .before .before in
-    level-one (z .pre .0) (z .pre .1) (z .pre .2, z .pre .3) (at-first-lines .first-lines .ensures) (at-if1 .if1 .left) (at-first-fits .first-fits .ensures (not-false (at-first-fits .first-fits .result) (at-if2 .if2 .left)))
+    let if2 = c .before in
+    let ff = if2 .before in
+    let if1 = ff .before .before .before in
+    let fl = if1 .before .before .before in
+    let z = fl .before .before .before .before in
+    level-one (z .pre .0) (z .pre .1) (z .pre .2, z .pre .3) (fl .first-lines .ensures) (if1 .if1 .left)
+    (ff .first-fits .ensures (not-false (ff .first-fits .result) (if2 .if2 .left)))
 
 same-length-3 : tie.Need-same-length-3
 same-length-3 c =
-    let at-upper-levels-fit = c .before .before in
-    let at-first-lines = at-upper-levels-fit .before .before .before .before .before .before .before .before .before in
-    at-upper-levels-fit .upper-levels-fit .ensures .1 ∙ at-first-lines .first-lines .ensures .size
+    let ulf = c .before .before in
+    let fl = ulf .before .before .before .before .before .before .before .before .before in
+    ulf .upper-levels-fit .ensures .1 ∙ fl .first-lines .ensures .size
 
 returns-3 : tie.Need-returns-3
 returns-3 c = λ e.
-    let at-upper-levels-fit = c .before .before in
-    at-upper-levels-fit .upper-levels-fit .ensures .0 e
+    let ulf = c .before .before in
+    ulf .upper-levels-fit .ensures .0 e
 
 pub levels-fit-spec : {M : Type 1} → statement M
 levels-fit-spec =

@@ -24,9 +24,9 @@ loop-holds c =
 
 add-high : tie.Need-add-high Inv-loop μ-loop
 add-high c =
-    let at-loop = c .before in
-    let z = at-loop .before .before .before in
-    omega (arith, at-loop .loop .inv .listed .room, at-loop .loop .inv .size, z .good)
+    let lo = c .before in
+    let z = lo .before .before .before in
+    omega (arith, lo .loop .inv .listed .room, lo .loop .inv .size, z .good)
 
 add-first-lines : tie.Need-add-first-lines Inv-loop μ-loop
 add-first-lines c =
@@ -35,21 +35,21 @@ add-first-lines c =
 
 first-lines-requires : tie.Need-first-lines-requires Inv-loop μ-loop
 first-lines-requires c κs =
-    let at-loop = c .before .before in
-    let z = at-loop .before .before .before in
-    (z .pre .whole, z .pre .short, omega arith, omega arith, at-loop .loop .inv .listed .room)
+    let lo = c .before .before in
+    let z = lo .before .before .before in
+    (z .pre .whole, z .pre .short, omega arith, omega arith, lo .loop .inv .listed .room)
 
 same-length : tie.Need-same-length Inv-loop μ-loop
 same-length c =
-    let at-first-lines = c .before .before .before in
-    let at-loop = at-first-lines .before .before .before in
-    at-first-lines .first-lines .ensures .size ∙ at-loop .loop .inv .size
+    let fl = c .before .before .before in
+    let lo = fl .before .before .before in
+    fl .first-lines .ensures .size ∙ lo .loop .inv .size
 
 returns : tie.Need-returns Inv-loop μ-loop
 returns c =
-    let at-first-lines = c .before .before .before in
-    let at-loop = at-first-lines .before .before .before in
-    ((λ e. absurd (false≢true e)), at-first-lines .first-lines .ensures .size ∙ at-loop .loop .inv .size)
+    let fl = c .before .before .before in
+    let lo = fl .before .before .before in
+    ((λ e. absurd (false≢true e)), fl .first-lines .ensures .size ∙ lo .loop .inv .size)
 
 up-requires : tie.Need-up-requires Inv-loop μ-loop
 up-requires c κs = search needs
@@ -66,24 +66,24 @@ element-copy-out-t15 c =
 
 level-fits-requires : tie.Need-level-fits-requires Inv-loop μ-loop
 level-fits-requires c κs =
-    let at-up = c .before .before in
-    let at-if1 = at-up .before in
-    let at-first-lines = at-if1 .before .before .before in
-    let at-loop = at-first-lines .before .before .before in
-    let z = at-loop .before .before .before in
-    reaching-staged (z .pre) (at-loop .loop .inv) (omega arith) (at-first-lines .first-lines .ensures) (at-if1 .if1 .left) (getD (now (z .args .primes)) (at-up .up .result) 0)
+    let up = c .before .before in
+    let if1 = up .before in
+    let fl = if1 .before .before .before in
+    let lo = fl .before .before .before in
+    let z = lo .before .before .before in
+    reaching-staged (z .pre) (lo .loop .inv) (omega arith) (fl .first-lines .ensures) (if1 .if1 .left) (getD (now (z .args .primes)) (up .up .result) 0)
 
 same-length-2 : tie.Need-same-length-2 Inv-loop μ-loop
 same-length-2 c =
-    let at-first-lines = c .before .before .before .before .before .before .before .before in
-    let at-loop = at-first-lines .before .before .before in
-    at-first-lines .first-lines .ensures .size ∙ at-loop .loop .inv .size
+    let fl = c .before .before .before .before .before .before .before .before in
+    let lo = fl .before .before .before in
+    fl .first-lines .ensures .size ∙ lo .loop .inv .size
 
 returns-2 : tie.Need-returns-2 Inv-loop μ-loop
 returns-2 c =
-    let at-first-lines = c .before .before .before .before .before .before .before .before in
-    let at-loop = at-first-lines .before .before .before in
-    ((λ e. absurd (false≢true e)), at-first-lines .first-lines .ensures .size ∙ at-loop .loop .inv .size)
+    let fl = c .before .before .before .before .before .before .before .before in
+    let lo = fl .before .before .before in
+    ((λ e. absurd (false≢true e)), fl .first-lines .ensures .size ∙ lo .loop .inv .size)
 
 add-i : tie.Need-add-i Inv-loop μ-loop
 add-i c =
@@ -95,26 +95,27 @@ loop-less c = omega arith
 
 loop-again : tie.Need-loop-again Inv-loop μ-loop
 loop-again c =
-    let at-level-fits = c .before in
-    let at-up = at-level-fits .before .before .before in
-    let at-if1 = at-up .before in
-    let at-first-lines = at-if1 .before .before .before in
-    let at-loop = at-first-lines .before .before .before in
-    let z = at-loop .before .before .before in
+    let lf = c .before in
+    let up = lf .before .before .before in
+    let if1 = up .before in
+    let fl = if1 .before .before .before in
+    let lo = fl .before .before .before in
+    let z = lo .before .before .before in
     let primes = now (z .args .primes) in
-    reaching-more (z .pre) (at-loop .loop .inv) (omega arith) (at-first-lines .first-lines .ensures) (at-if1 .if1 .left) (getD primes (at-up .up .result) 0) (ap (λ k. getD primes k 0) (at-up .up .ensures))
-    (at-level-fits .level-fits .ensures (not-false (at-level-fits .level-fits .result) (c .if2 .left)))
+    reaching-more (z .pre) (lo .loop .inv) (omega arith) (fl .first-lines .ensures) (if1 .if1 .left) (getD primes (up .up .result) 0)
+    (ap (λ k. getD primes k 0) (up .up .ensures))
+    (lf .level-fits .ensures (not-false (lf .level-fits .result) (c .if2 .left)))
 
 same-length-3 : tie.Need-same-length-3 Inv-loop μ-loop
 same-length-3 c =
-    let at-loop = c .before in
-    at-loop .loop .inv .size
+    let lo = c .before in
+    lo .loop .inv .size
 
 returns-3 : tie.Need-returns-3 Inv-loop μ-loop
 returns-3 c =
-    let at-loop = c .before in
-    let z = at-loop .before .before .before in
-    ((λ e. reaching-all (z .pre) (at-loop .loop .inv) (omega arith)), at-loop .loop .inv .size)
+    let lo = c .before in
+    let z = lo .before .before .before in
+    ((λ e. reaching-all (z .pre) (lo .loop .inv) (omega arith)), lo .loop .inv .size)
 
 pub upper-levels-fit-spec : {M : Type 1} → statement M
 upper-levels-fit-spec =

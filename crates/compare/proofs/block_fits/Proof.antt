@@ -18,17 +18,17 @@ up-requires c κs = search needs
 
 add-word-at : tie.Need-add-word-at
 add-word-at c =
-    let at-up = c .before in
-    let z = at-up .before .before .before in
+    let up = c .before in
+    let z = up .before .before .before in
     let l = inside-column (z .pre .1) (z .args .o) (z .pre .0 .whole .some) (omega (arith, z .pre .2, z .pre .3)) in
-    omega (arith, l, at-up .up .ensures, z .good)
+    omega (arith, l, up .up .ensures, z .good)
 
 word-at-requires : tie.Need-word-at-requires
 word-at-requires c κs =
-    let at-up = c .before in
-    let z = at-up .before .before .before in
+    let up = c .before in
+    let z = up .before .before .before in
     let l = inside-column (z .pre .1) (z .args .o) (z .pre .0 .whole .some) (omega (arith, z .pre .2, z .pre .3)) in
-    (omega (arith, l, at-up .up .ensures), omega arith)
+    (omega (arith, l, up .up .ensures), omega arith)
 
 up-requires-2 : tie.Need-up-requires-2
 up-requires-2 c κs = search needs
@@ -38,29 +38,29 @@ returns c = never
 
 add-rep-at : tie.Need-add-rep-at
 add-rep-at c =
-    let at-if1 = c .before in
-    let at-up2 = at-if1 .before .before in
-    let z = at-up2 .before .before .before .before .before .before in
-    omega (arith, low-place (z .pre .0) (at-up2 .up2 .result) (omega (arith, at-if1 .if1 .left)), z .good)
+    let if1 = c .before in
+    let up2 = if1 .before .before in
+    let z = up2 .before .before .before .before .before .before in
+    omega (arith, low-place (z .pre .0) (up2 .up2 .result) (omega (arith, if1 .if1 .left)), z .good)
 
 rep-at-requires : tie.Need-rep-at-requires
 rep-at-requires c κs =
-    let at-if1 = c .before in
-    let at-up2 = at-if1 .before .before in
-    let z = at-up2 .before .before .before .before .before .before in
-    low-place (z .pre .0) (at-up2 .up2 .result) (omega (arith, at-if1 .if1 .left))
+    let if1 = c .before in
+    let up2 = if1 .before .before in
+    let z = up2 .before .before .before .before .before .before in
+    low-place (z .pre .0) (up2 .up2 .result) (omega (arith, if1 .if1 .left))
 
 returns-2 : tie.Need-returns-2
 returns-2 c = never
 
 lower-fits-requires : tie.Need-lower-fits-requires
 lower-fits-requires c κs =
-    let at-rep-at = c .before .before in
-    let at-if1 = at-rep-at .before .before in
-    let at-up2 = at-if1 .before .before in
-    let z = at-up2 .before .before .before .before .before .before in
+    let ra = c .before .before in
+    let if1 = ra .before .before in
+    let up2 = if1 .before .before in
+    let z = up2 .before .before .before .before .before .before in
     let S = z .pre .0 in
-    let F = low-at S (at-up2 .up2 .result) (omega (arith, at-if1 .if1 .left)) (at-rep-at .rep-at .ensures) (at-up2 .up2 .ensures) in
+    let F = low-at S (up2 .up2 .result) (omega (arith, if1 .if1 .left)) (ra .rep-at .ensures) (up2 .up2 .ensures) in
     (over S (z .pre .1) (z .args .o) F (omega (arith, z .pre .3, c .if2 .left)), omega (arith, S .level .1))
 
 returns-3 : tie.Need-returns-3
@@ -68,48 +68,48 @@ returns-3 c = never
 
 generator-fits-requires : tie.Need-generator-fits-requires
 generator-fits-requires c κs =
-    let at-if2 = c .before .before in
-    let at-rep-at = at-if2 .before .before in
-    let at-if1 = at-rep-at .before .before in
-    let at-up2 = at-if1 .before .before in
-    let z = at-up2 .before .before .before .before .before .before in
+    let if2 = c .before .before in
+    let ra = if2 .before .before in
+    let if1 = ra .before .before in
+    let up2 = if1 .before .before in
+    let z = up2 .before .before .before .before .before .before in
     let S = z .pre .0 in
-    let F = low-at S (at-up2 .up2 .result) (omega (arith, at-if1 .if1 .left)) (at-rep-at .rep-at .ensures) (at-up2 .up2 .ensures) in
-    (over S (z .pre .1) (z .args .o) F (omega (arith, z .pre .3, at-if2 .if2 .left)), z .pre .1, refl, S .level .1)
+    let F = low-at S (up2 .up2 .result) (omega (arith, if1 .if1 .left)) (ra .rep-at .ensures) (up2 .up2 .ensures) in
+    (over S (z .pre .1) (z .args .o) F (omega (arith, z .pre .3, if2 .if2 .left)), z .pre .1, refl, S .level .1)
 
 returns-4 : tie.Need-returns-4
 returns-4 c = never
 
 upper-fits-requires : tie.Need-upper-fits-requires
 upper-fits-requires c κs =
-    let at-if2 = c .before .before .before .before in
-    let at-rep-at = at-if2 .before .before in
-    let at-if1 = at-rep-at .before .before in
-    let at-up2 = at-if1 .before .before in
-    let z = at-up2 .before .before .before .before .before .before in
+    let if2 = c .before .before .before .before in
+    let ra = if2 .before .before in
+    let if1 = ra .before .before in
+    let up2 = if1 .before .before in
+    let z = up2 .before .before .before .before .before .before in
     let S = z .pre .0 in
-    let F = low-at S (at-up2 .up2 .result) (omega (arith, at-if1 .if1 .left)) (at-rep-at .rep-at .ensures) (at-up2 .up2 .ensures) in
-    (S, over S (z .pre .1) (z .args .o) F (omega (arith, z .pre .3, at-if2 .if2 .left)))
+    let F = low-at S (up2 .up2 .result) (omega (arith, if1 .if1 .left)) (ra .rep-at .ensures) (up2 .up2 .ensures) in
+    (S, over S (z .pre .1) (z .args .o) F (omega (arith, z .pre .3, if2 .if2 .left)))
 
 returns-5 : tie.Need-returns-5
 returns-5 c = λ e.
-    let at-if4 = c .before in
-    let at-generator-fits = at-if4 .before in
-    let at-if3 = at-generator-fits .before in
-    let at-lower-fits = at-if3 .before in
-    let at-if2 = at-lower-fits .before in
-    let at-rep-at = at-if2 .before .before in
-    let at-if1 = at-rep-at .before .before in
-    let at-up2 = at-if1 .before .before in
-    let at-word-at = at-up2 .before in
-    let at-up = at-word-at .before .before in
-    let z = at-up .before .before .before in
+    let if4 = c .before in
+    let gf = if4 .before in
+    let if3 = gf .before in
+    let lf = if3 .before in
+    let if2 = lf .before in
+    let ra = if2 .before .before in
+    let if1 = ra .before .before in
+    let up2 = if1 .before .before in
+    let wa = up2 .before in
+    let up = wa .before .before in
+    let z = up .before .before .before in
     let a = z .args in
-    let x : at-word-at .word-at .result ≡ refAt (a .s) (now (a .words)) (a .g) (a .d) (a .o)
-    = at-word-at .word-at .ensures ∙ ap (λ k. wordAt (now (a .words)) (a .d .line + k) REF) (at-up .up .ensures) in
-    fitting-block x (low-at (z .pre .0) (at-up2 .up2 .result) (omega (arith, at-if1 .if1 .left)) (at-rep-at .rep-at .ensures) (at-up2 .up2 .ensures)) (at-if2 .if2 .left)
-    (at-lower-fits .lower-fits .ensures (not-false (at-lower-fits .lower-fits .result) (at-if3 .if3 .left)))
-    (at-generator-fits .generator-fits .ensures (not-false (at-generator-fits .generator-fits .result) (at-if4 .if4 .left))) (c .upper-fits .ensures e)
+    let x : wa .word-at .result ≡ refAt (a .s) (now (a .words)) (a .g) (a .d) (a .o)
+    = wa .word-at .ensures ∙ ap (λ k. wordAt (now (a .words)) (a .d .line + k) REF) (up .up .ensures) in
+    fitting-block x (low-at (z .pre .0) (up2 .up2 .result) (omega (arith, if1 .if1 .left)) (ra .rep-at .ensures) (up2 .up2 .ensures)) (if2 .if2 .left)
+    (lf .lower-fits .ensures (not-false (lf .lower-fits .result) (if3 .if3 .left)))
+    (gf .generator-fits .ensures (not-false (gf .generator-fits .result) (if4 .if4 .left))) (c .upper-fits .ensures e)
 
 pub block-fits-spec : {M : Type 1} → statement M
 block-fits-spec =

@@ -5,7 +5,7 @@ use native.Mathlib.Omega.{arith}
 use denote.Ref.{now}
 use Rattle.definitions.specs.Table.{REF, wordAt}
 use Rattle.level.specs.Stored.{targetIn}
-use Rattle.compare.specs.Blocks.{Carried}
+use Rattle.compare.specs.Blocks.{TakesBlock}
 use Rattle.compare.proofs.Shifted.{never}
 use Rattle.compare.proofs.Staged.{found-inside, low-at, high-at, low-place, high-place}
 use Rattle.compare.proofs.Blocks.{inside-matrix}
@@ -31,29 +31,29 @@ returns c = never
 
 add-rep-at : tie.Need-add-rep-at
 add-rep-at c =
-    let at-if1 = c .before in
-    let at-up = at-if1 .before .before in
-    let z = at-up .before .before .before .before .before in
-    omega (arith, high-place (z .pre .0) (at-up .up .result) (omega (arith, at-if1 .if1 .left)), z .good)
+    let if1 = c .before in
+    let up = if1 .before .before in
+    let z = up .before .before .before .before .before in
+    omega (arith, high-place (z .pre .0) (up .up .result) (omega (arith, if1 .if1 .left)), z .good)
 
 rep-at-requires : tie.Need-rep-at-requires
 rep-at-requires c κs =
-    let at-if1 = c .before in
-    let at-up = at-if1 .before .before in
-    let z = at-up .before .before .before .before .before in
-    high-place (z .pre .0) (at-up .up .result) (omega (arith, at-if1 .if1 .left))
+    let if1 = c .before in
+    let up = if1 .before .before in
+    let z = up .before .before .before .before .before in
+    high-place (z .pre .0) (up .up .result) (omega (arith, if1 .if1 .left))
 
 returns-2 : tie.Need-returns-2
 returns-2 c = never
 
 word-at-requires-2 : tie.Need-word-at-requires-2
 word-at-requires-2 c κs =
-    let at-rep-at = c .before .before .before in
-    let at-if1 = at-rep-at .before .before in
-    let at-up = at-if1 .before .before in
-    let z = at-up .before .before .before .before .before in
+    let ra = c .before .before .before in
+    let if1 = ra .before .before in
+    let up = if1 .before .before in
+    let z = up .before .before .before .before .before in
     let S = z .pre .0 in
-    let I = found-inside (S .whole) (S .short) (high-at S (at-up .up .result) (omega (arith, at-if1 .if1 .left)) (at-rep-at .rep-at .ensures) (at-up .up .ensures)) in
+    let I = found-inside (S .whole) (S .short) (high-at S (up .up .result) (omega (arith, if1 .if1 .left)) (ra .rep-at .ensures) (up .up .ensures)) in
     (omega (arith, inside-matrix I 0 (S .whole .some), I .positive), omega arith)
 
 up-requires-2 : tie.Need-up-requires-2
@@ -64,58 +64,58 @@ returns-3 c = never
 
 add-rep-at-2 : tie.Need-add-rep-at-2
 add-rep-at-2 c =
-    let at-if3 = c .before in
-    let at-up2 = at-if3 .before .before in
-    let z = at-up2 .before .before .before .before .before .before .before .before .before .before .before .before .before .before in
-    omega (arith, low-place (z .pre .0) (at-up2 .up2 .result) (omega (arith, at-if3 .if3 .left)), z .good)
+    let if3 = c .before in
+    let up2 = if3 .before .before in
+    let z = up2 .before .before .before .before .before .before .before .before .before .before .before .before .before .before in
+    omega (arith, low-place (z .pre .0) (up2 .up2 .result) (omega (arith, if3 .if3 .left)), z .good)
 
 rep-at-requires-2 : tie.Need-rep-at-requires-2
 rep-at-requires-2 c κs =
-    let at-if3 = c .before in
-    let at-up2 = at-if3 .before .before in
-    let z = at-up2 .before .before .before .before .before .before .before .before .before .before .before .before .before .before in
-    low-place (z .pre .0) (at-up2 .up2 .result) (omega (arith, at-if3 .if3 .left))
+    let if3 = c .before in
+    let up2 = if3 .before .before in
+    let z = up2 .before .before .before .before .before .before .before .before .before .before .before .before .before .before in
+    low-place (z .pre .0) (up2 .up2 .result) (omega (arith, if3 .if3 .left))
 
 returns-4 : tie.Need-returns-4
 returns-4 c = never
 
 generator-fits-requires : tie.Need-generator-fits-requires
 generator-fits-requires c κs =
-    let at-if2 = c .before .before .before .before .before .before .before .before .before .before in
-    let at-rep-at = at-if2 .before .before .before in
-    let at-if1 = at-rep-at .before .before in
-    let at-up = at-if1 .before .before in
-    let z = at-up .before .before .before .before .before in
+    let if2 = c .before .before .before .before .before .before .before .before .before .before in
+    let ra = if2 .before .before .before in
+    let if1 = ra .before .before in
+    let up = if1 .before .before in
+    let z = up .before .before .before .before .before in
     let S = z .pre .0 in
-    let F = high-at S (at-up .up .result) (omega (arith, at-if1 .if1 .left)) (at-rep-at .rep-at .ensures) (at-up .up .ensures) in
-    (z .pre .1, found-inside (S .whole) (S .short) F, at-if2 .if2 .left, z .pre .2)
+    let F = high-at S (up .up .result) (omega (arith, if1 .if1 .left)) (ra .rep-at .ensures) (up .up .ensures) in
+    (z .pre .1, found-inside (S .whole) (S .short) F, if2 .if2 .left, z .pre .2)
 
 returns-5 : tie.Need-returns-5
 returns-5 c = λ e.
-    let at-if4 = c .before in
-    let at-rep-at2 = at-if4 .before .before .before .before in
-    let at-if3 = at-rep-at2 .before .before in
-    let at-up2 = at-if3 .before .before in
-    let at-word-at2 = at-up2 .before in
-    let at-if2 = at-word-at2 .before in
-    let at-rep-at = at-if2 .before .before .before in
-    let at-if1 = at-rep-at .before .before in
-    let at-up = at-if1 .before .before in
-    let at-word-at = at-up .before in
-    let at-matrix-line = at-word-at .before in
-    let z = at-matrix-line .before .before .before in
+    let if4 = c .before in
+    let ra2 = if4 .before .before .before .before in
+    let if3 = ra2 .before .before in
+    let up2 = if3 .before .before in
+    let wa2 = up2 .before in
+    let if2 = wa2 .before in
+    let ra = if2 .before .before .before in
+    let if1 = ra .before .before in
+    let up = if1 .before .before in
+    let wa = up .before in
+    let ml = wa .before in
+    let z = ml .before .before .before in
     let a = z .args in
     let S = z .pre .0 in
     let T = now (a .words) in
-    let x : at-word-at .word-at .result ≡ targetIn T (a .d) (a .j) = at-word-at .word-at .ensures ∙ ap (λ l. wordAt T l REF) (at-matrix-line .matrix-line .ensures) in
+    let x : wa .word-at .result ≡ targetIn T (a .d) (a .j) = wa .word-at .ensures ∙ ap (λ l. wordAt T l REF) (ml .matrix-line .ensures) in
     record {
-      target = at-rep-at .rep-at .result;
-      found = high-at S (at-up .up .result) (omega (arith, at-if1 .if1 .left)) (at-rep-at .rep-at .ensures) (at-up .up .ensures ∙ x);
-      degree = at-if2 .if2 .left;
-      first = at-rep-at2 .rep-at2 .result;
-      refers = low-at S (at-up2 .up2 .result) (omega (arith, at-if3 .if3 .left)) (at-rep-at2 .rep-at2 .ensures) (at-up2 .up2 .ensures ∙ at-word-at2 .word-at2 .ensures);
-      width = at-if4 .if4 .left;
-      carried = subst (Carried (a .s) T (a .d) (at-rep-at .rep-at .result) (a .b) (a .j)) x (c .generator-fits .ensures e);
+      target = ra .rep-at .result;
+      found = high-at S (up .up .result) (omega (arith, if1 .if1 .left)) (ra .rep-at .ensures) (up .up .ensures ∙ x);
+      degree = if2 .if2 .left;
+      first = ra2 .rep-at2 .result;
+      refers = low-at S (up2 .up2 .result) (omega (arith, if3 .if3 .left)) (ra2 .rep-at2 .ensures) (up2 .up2 .ensures ∙ wa2 .word-at2 .ensures);
+      width = if4 .if4 .left;
+      carried = subst (TakesBlock (a .s) T (a .d) (ra .rep-at .result) (a .b) (a .j)) x (c .generator-fits .ensures e);
     }
 
 pub led-to-spec : {M : Type 1} → statement M

@@ -24,15 +24,15 @@ returns-2 c = never
 
 returns-3 : tie.Need-returns-3
 returns-3 c = λ e.
-    let at-if2 = c .before .before in
-    let at-entry-at2 = at-if2 .before .before .before in
-    let at-entry-at = at-entry-at2 .before in
-    let at-if1 = at-entry-at .before in
-    let at-word-at = at-if1 .before in
-    let z = at-word-at .before .before in
+    let if2 = c .before .before in
+    let ea2 = if2 .before .before .before in
+    let ea = ea2 .before in
+    let if1 = ea .before in
+    let wa = if1 .before in
+    let z = wa .before .before in
     let a = z .args in
-    line-same (now (a .words)) (a .at) (a .src) (a .x) (at-entry-at .entry-at .result) (at-entry-at2 .entry-at2 .result)
-    (sym (at-word-at .word-at .ensures) ∙ at-if1 .if1 .left) (at-entry-at .entry-at .ensures) (at-entry-at2 .entry-at2 .ensures) (at-if2 .if2 .left) (eqb-true _ _ e)
+    line-same (now (a .words)) (a .at) (a .src) (a .x) (ea .entry-at .result) (ea2 .entry-at2 .result)
+    (sym (wa .word-at .ensures) ∙ if1 .if1 .left) (ea .entry-at .ensures) (ea2 .entry-at2 .ensures) (if2 .if2 .left) (eqb-true _ _ e)
 
 pub line-same-spec : {M : Type 1} → statement M
 line-same-spec = tie.close (tie.spec word-at-requires returns entry-at-requires entry-at-requires-2 returns-2 returns-3)

@@ -23,9 +23,9 @@ entry-at-requires-2 c κs = search needs
 
 add-if2 : tie.Need-add-if2
 add-if2 c =
-    let at-entry-at = c .before .before .before in
-    let z = at-entry-at .before .before .before .before .before in
-    let from = ap (λ (x : Entry). x .row) (at-entry-at .entry-at .ensures) in
+    let ea = c .before .before .before in
+    let z = ea .before .before .before .before .before in
+    let from = ap (λ (x : Entry). x .row) (ea .entry-at .ensures) in
     omega (arith, z .pre .1 .3, from)
 
 returns-2 : tie.Need-returns-2
@@ -33,23 +33,23 @@ returns-2 c = never
 
 add-mod-requires : tie.Need-add-mod-requires
 add-mod-requires c κs =
-    let at-entry-at = c .before .before .before .before .before in
-    let z = at-entry-at .before .before .before .before .before in
-    let from = ap (λ (x : Entry). x .exp) (at-entry-at .entry-at .ensures) in
+    let ea = c .before .before .before .before .before in
+    let z = ea .before .before .before .before .before in
+    let from = ap (λ (x : Entry). x .exp) (ea .entry-at .ensures) in
     (omega (arith, z .pre .1 .0, from), z .pre .1 .1, z .pre .1 .2)
 
 returns-3 : tie.Need-returns-3
 returns-3 c = λ e.
-    let at-add-mod = c .before in
-    let at-if2 = at-add-mod .before in
-    let at-entry-at2 = at-if2 .before .before .before .before in
-    let at-entry-at = at-entry-at2 .before in
-    let at-if1 = at-entry-at .before in
-    let at-word-at = at-if1 .before .before in
-    let z = at-word-at .before .before in
+    let am = c .before in
+    let if2 = am .before in
+    let ea2 = if2 .before .before .before .before in
+    let ea = ea2 .before in
+    let if1 = ea .before in
+    let wa = if1 .before .before in
+    let z = wa .before .before in
     let a = z .args in
-    line-shifted (a .m) (now (a .words)) (a .at) (a .src) (a .t) (at-entry-at .entry-at .result) (at-entry-at2 .entry-at2 .result) (at-add-mod .add-mod .result)
-    (sym (at-word-at .word-at .ensures) ∙ at-if1 .if1 .left) (at-entry-at .entry-at .ensures) (at-entry-at2 .entry-at2 .ensures) (at-if2 .if2 .left) (at-add-mod .add-mod .ensures .0) (eqb-true _ _ e)
+    line-shifted (a .m) (now (a .words)) (a .at) (a .src) (a .t) (ea .entry-at .result) (ea2 .entry-at2 .result) (am .add-mod .result)
+    (sym (wa .word-at .ensures) ∙ if1 .if1 .left) (ea .entry-at .ensures) (ea2 .entry-at2 .ensures) (if2 .if2 .left) (am .add-mod .ensures .0) (eqb-true _ _ e)
 
 pub line-shifted-spec : {M : Type 1} → statement M
 line-shifted-spec =

@@ -48,18 +48,18 @@ loop-less c = omega arith
 
 loop-again : tie.Need-loop-again Inv-loop μ-loop
 loop-again c =
-    let at-line-same = c .before in
-    let at-up = at-line-same .before in
-    let at-loop = at-up .before .before in
-    let z = at-loop .before .before in
+    let ls = c .before in
+    let up = ls .before in
+    let lo = up .before .before in
+    let z = lo .before .before in
     let a = z .args in
-    let line = at-line-same .line-same .ensures (not-false (at-line-same .line-same .result) (c .if1 .left)) in
-    same-more (at-loop .loop .inv) (subst (λ k. LineSame (now (a .words)) (a .at + k) (a .src + k) (a .x)) (at-up .up .ensures) line)
+    let line = ls .line-same .ensures (not-false (ls .line-same .result) (c .if1 .left)) in
+    same-more (lo .loop .inv) (subst (λ k. LineSame (now (a .words)) (a .at + k) (a .src + k) (a .x)) (up .up .ensures) line)
 
 returns-2 : tie.Need-returns-2 Inv-loop μ-loop
 returns-2 c = λ e.
-    let at-loop = c .before in
-    same-fewer (at-loop .loop .inv) (omega arith)
+    let lo = c .before in
+    same-fewer (lo .loop .inv) (omega arith)
 
 pub lines-same-spec : {M : Type 1} → statement M
 lines-same-spec =

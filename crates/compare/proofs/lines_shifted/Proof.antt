@@ -51,18 +51,18 @@ loop-less c = omega arith
 
 loop-again : tie.Need-loop-again Inv-loop μ-loop
 loop-again c =
-    let at-line-shifted = c .before in
-    let at-up = at-line-shifted .before in
-    let at-loop = at-up .before .before in
-    let z = at-loop .before .before in
+    let ls = c .before in
+    let up = ls .before in
+    let lo = up .before .before in
+    let z = lo .before .before in
     let a = z .args in
-    let line = at-line-shifted .line-shifted .ensures (not-false (at-line-shifted .line-shifted .result) (c .if1 .left)) in
-    shifting-more (at-loop .loop .inv) (subst (λ k. LineShifted (a .m) (now (a .words)) (a .at + k) (a .src + k) (a .t)) (at-up .up .ensures) line)
+    let line = ls .line-shifted .ensures (not-false (ls .line-shifted .result) (c .if1 .left)) in
+    shifting-more (lo .loop .inv) (subst (λ k. LineShifted (a .m) (now (a .words)) (a .at + k) (a .src + k) (a .t)) (up .up .ensures) line)
 
 returns-2 : tie.Need-returns-2 Inv-loop μ-loop
 returns-2 c = λ e.
-    let at-loop = c .before in
-    shifting-all (at-loop .loop .inv) (omega arith)
+    let lo = c .before in
+    shifting-all (lo .loop .inv) (omega arith)
 
 pub lines-shifted-spec : {M : Type 1} → statement M
 lines-shifted-spec =

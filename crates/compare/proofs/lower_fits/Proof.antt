@@ -25,46 +25,46 @@ lines-same-requires c κs =
 
 returns : tie.Need-returns Inv-loop μ-loop
 returns c = λ e.
-    let at-if1 = c .before in
-    let z = at-if1 .before .before .before .before in
-    lower-single (z .pre .0) (at-if1 .if1 .taken) (z .pre .1) (c .lines-same .ensures e)
+    let if1 = c .before in
+    let z = if1 .before .before .before .before in
+    lower-single (z .pre .0) (if1 .if1 .taken) (z .pre .1) (c .lines-same .ensures e)
 
 loop-holds : tie.Need-loop-holds Inv-loop μ-loop
 loop-holds c = lowering-none
 
 matrix-line-requires : tie.Need-matrix-line-requires Inv-loop μ-loop
 matrix-line-requires c κs =
-    let at-loop = c .before in
-    let z = at-loop .before .before .before .before .before in
-    omega (arith, inside-matrix (z .pre .0 .inside) (at-loop .loop .g) (omega (arith, z .pre .1)), z .good)
+    let lo = c .before in
+    let z = lo .before .before .before .before .before in
+    omega (arith, inside-matrix (z .pre .0 .inside) (lo .loop .g) (omega (arith, z .pre .1)), z .good)
 
 up-requires : tie.Need-up-requires Inv-loop μ-loop
 up-requires c κs = search needs
 
 add-at : tie.Need-add-at Inv-loop μ-loop
 add-at c =
-    let at-matrix-line = c .before in
-    let at-loop = at-matrix-line .before .before in
-    let z = at-loop .before .before .before .before .before in
-    omega (arith, block-lines (z .pre .0) (at-loop .loop .g) (omega (arith, z .pre .1)), at-matrix-line .matrix-line .ensures, c .up .ensures, z .good)
+    let ml = c .before in
+    let lo = ml .before .before in
+    let z = lo .before .before .before .before .before in
+    omega (arith, block-lines (z .pre .0) (lo .loop .g) (omega (arith, z .pre .1)), ml .matrix-line .ensures, c .up .ensures, z .good)
 
 matrix-line-requires-2 : tie.Need-matrix-line-requires-2 Inv-loop μ-loop
 matrix-line-requires-2 c κs =
-    let at-loop = c .before .before .before in
-    let z = at-loop .before .before .before .before .before in
-    omega (arith, z .pre .0 .stored .holds (at-loop .loop .g) (omega (arith, z .pre .1)) .fits, z .good)
+    let lo = c .before .before .before in
+    let z = lo .before .before .before .before .before in
+    omega (arith, z .pre .0 .stored .holds (lo .loop .g) (omega (arith, z .pre .1)) .fits, z .good)
 
 lines-shifted-requires : tie.Need-lines-shifted-requires Inv-loop μ-loop
 lines-shifted-requires c κs =
-    let at-up = c .before in
-    let at-matrix-line = at-up .before in
-    let at-loop = at-matrix-line .before .before in
-    let z = at-loop .before .before .before .before .before in
+    let up = c .before in
+    let ml = up .before in
+    let lo = ml .before .before in
+    let z = lo .before .before .before .before .before in
     let a = z .args in
     let O = z .pre .0 in
-    let l : at-loop .loop .g < a .s .gens = omega (arith, z .pre .1) in (
-      omega (arith, block-lines O (at-loop .loop .g) l, at-matrix-line .matrix-line .ensures, at-up .up .ensures),
-      subst (λ l. Holds (a .s .m) (now (a .words)) l (a .b .part .deg)) (sym (c .matrix-line2 .ensures)) (O .stored .holds (at-loop .loop .g) l),
+    let l : lo .loop .g < a .s .gens = omega (arith, z .pre .1) in (
+      omega (arith, block-lines O (lo .loop .g) l, ml .matrix-line .ensures, up .up .ensures),
+      subst (λ l. Holds (a .s .m) (now (a .words)) l (a .b .part .deg)) (sym (c .matrix-line2 .ensures)) (O .stored .holds (lo .loop .g) l),
       O .modulus,
       block-shift O (a .b .start) (omega (arith, O .within, O .stored .positive)),
     )
@@ -80,23 +80,24 @@ loop-less c = omega arith
 
 loop-again : tie.Need-loop-again Inv-loop μ-loop
 loop-again c =
-    let at-lines-shifted = c .before in
-    let at-matrix-line2 = at-lines-shifted .before in
-    let at-up = at-matrix-line2 .before in
-    let at-matrix-line = at-up .before in
-    let at-loop = at-matrix-line .before .before in
-    let z = at-loop .before .before .before .before .before in
+    let ls = c .before in
+    let ml2 = ls .before in
+    let up = ml2 .before in
+    let ml = up .before in
+    let lo = ml .before .before in
+    let z = lo .before .before .before .before .before in
     let a = z .args in
-    let H = at-lines-shifted .lines-shifted .ensures (not-false (at-lines-shifted .lines-shifted .result) (c .if2 .left)) in
-    lowering-more (at-loop .loop .inv) (
-    subst (λ l. Shifted (a .s .m) (now (a .words)) (lineIn (a .d) (at-loop .loop .g) + a .b .start) l (a .b .part .deg) (shift (a .b .refn) (a .b .start) 0)) (at-matrix-line2 .matrix-line2 .ensures) (
-    subst (λ l. Shifted (a .s .m) (now (a .words)) l (at-matrix-line2 .matrix-line2 .result) (a .b .part .deg) (shift (a .b .refn) (a .b .start) 0))
-    (ap₂ _+_ (at-matrix-line .matrix-line .ensures) (at-up .up .ensures)) H))
+    let H = ls .lines-shifted .ensures (not-false (ls .lines-shifted .result) (c .if2 .left)) in
+    lowering-more (lo .loop .inv) (
+    subst (λ l. Shifted (a .s .m) (now (a .words)) (lineIn (a .d) (lo .loop .g) + a .b .start) l (a .b .part .deg)
+    (shift (a .b .refn) (a .b .start) 0)) (ml2 .matrix-line2 .ensures) (
+    subst (λ l. Shifted (a .s .m) (now (a .words)) l (ml2 .matrix-line2 .result) (a .b .part .deg) (shift (a .b .refn) (a .b .start) 0))
+    (ap₂ _+_ (ml .matrix-line .ensures) (up .up .ensures)) H))
 
 returns-3 : tie.Need-returns-3 Inv-loop μ-loop
 returns-3 c = λ e.
-    let at-loop = c .before in
-    lowering-all (at-loop .loop .inv) (omega arith)
+    let lo = c .before in
+    lowering-all (lo .loop .inv) (omega arith)
 
 pub lower-fits-spec : {M : Type 1} → statement M
 lower-fits-spec =

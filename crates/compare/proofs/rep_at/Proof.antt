@@ -23,9 +23,9 @@ representation-requires c κs =
 
 returns : tie.Need-returns
 returns c =
-    let at-up = c .before in
-    let z = at-up .before .before .before .before in
-    c .representation .ensures ∙ ap (λ l. listedIn (now (z .args .words)) l) (at-up .up .ensures)
+    let up = c .before in
+    let z = up .before .before .before .before in
+    c .representation .ensures ∙ ap (λ l. listedIn (now (z .args .words)) l) (up .up .ensures)
 
 pub rep-at-spec : {M : Type 1} → statement M
 rep-at-spec = tie.close (tie.spec mul-up shared-slice-read-up up-requires representation-requires returns)

@@ -21,8 +21,8 @@ width-requires c κs =
 returns : tie.Need-returns Inv-loop μ-loop
 returns c = never
 
-sound-requires : tie.Need-sound-requires Inv-loop μ-loop
-sound-requires c κs =
+proper-requires : tie.Need-proper-requires Inv-loop μ-loop
+proper-requires c κs =
     let z = c .before .before .before .before in
     z .pre .1
 
@@ -34,43 +34,43 @@ loop-holds c = blocking-none
 
 block-fits-requires : tie.Need-block-fits-requires Inv-loop μ-loop
 block-fits-requires c κs =
-    let at-loop = c .before in
-    let at-if1 = at-loop .before .before .before in
-    let at-width = at-if1 .before in
-    let z = at-width .before .before .before in
-    let W = at-width .width .ensures (at-if1 .if1 .left) in
-    (z .pre .0, z .pre .1, omega (arith, at-if1 .if1 .left), blocking-room (at-loop .loop .inv) W (omega arith))
+    let lo = c .before in
+    let if1 = lo .before .before .before in
+    let wi = if1 .before in
+    let z = wi .before .before .before in
+    let W = wi .width .ensures (if1 .if1 .left) in
+    (z .pre .0, z .pre .1, omega (arith, if1 .if1 .left), blocking-room (lo .loop .inv) W (omega arith))
 
 returns-3 : tie.Need-returns-3 Inv-loop μ-loop
 returns-3 c = never
 
 add-o : tie.Need-add-o Inv-loop μ-loop
 add-o c =
-    let at-loop = c .before .before .before in
-    let at-if1 = at-loop .before .before .before in
-    let at-width = at-if1 .before in
-    let z = at-width .before .before .before in
-    omega (arith, blocking-room (at-loop .loop .inv) (at-width .width .ensures (at-if1 .if1 .left)) (omega arith), z .pre .1 .narrow)
+    let lo = c .before .before .before in
+    let if1 = lo .before .before .before in
+    let wi = if1 .before in
+    let z = wi .before .before .before in
+    omega (arith, blocking-room (lo .loop .inv) (wi .width .ensures (if1 .if1 .left)) (omega arith), z .pre .1 .narrow)
 
 loop-less : tie.Need-loop-less Inv-loop μ-loop
 loop-less c =
-    let at-if1 = c .before .before .before .before .before .before in
-    omega (arith, at-if1 .if1 .left)
+    let if1 = c .before .before .before .before .before .before in
+    omega (arith, if1 .if1 .left)
 
 loop-again : tie.Need-loop-again Inv-loop μ-loop
 loop-again c =
-    let at-block-fits = c .before in
-    let at-loop = at-block-fits .before .before in
-    blocking-more (at-loop .loop .inv) (at-block-fits .block-fits .ensures (not-false (at-block-fits .block-fits .result) (c .if3 .left)))
+    let bf = c .before in
+    let lo = bf .before .before in
+    blocking-more (lo .loop .inv) (bf .block-fits .ensures (not-false (bf .block-fits .result) (c .if3 .left)))
 
 returns-4 : tie.Need-returns-4 Inv-loop μ-loop
 returns-4 c = λ e.
-    let at-loop = c .before in
-    let at-if2 = at-loop .before in
-    let at-sound = at-if2 .before in
-    let at-if1 = at-sound .before in
-    let at-width = at-if1 .before in
-    blocking-all (at-loop .loop .inv) (at-width .width .ensures (at-if1 .if1 .left)) (at-sound .sound .ensures (not-false (at-sound .sound .result) (at-if2 .if2 .left))) (omega arith)
+    let lo = c .before in
+    let if2 = lo .before in
+    let pr = if2 .before in
+    let if1 = pr .before in
+    let wi = if1 .before in
+    blocking-all (lo .loop .inv) (wi .width .ensures (if1 .if1 .left)) (pr .proper .ensures (not-false (pr .proper .result) (if2 .if2 .left))) (omega arith)
 
 pub rep-fits-spec : {M : Type 1} → statement M
 rep-fits-spec =
@@ -80,7 +80,7 @@ rep-fits-spec =
     μ-loop
     width-requires
     returns
-    sound-requires
+    proper-requires
     returns-2
     loop-holds
     block-fits-requires

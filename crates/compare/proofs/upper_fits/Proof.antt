@@ -41,14 +41,14 @@ loop-less c = omega arith
 
 loop-again : tie.Need-loop-again Inv-loop μ-loop
 loop-again c =
-    let at-led-to = c .before in
-    let at-loop = at-led-to .before .before in
-    raising-more (at-loop .loop .inv) (at-led-to .led-to .ensures (not-false (at-led-to .led-to .result) (c .if1 .left)))
+    let lt = c .before in
+    let lo = lt .before .before in
+    raising-more (lo .loop .inv) (lt .led-to .ensures (not-false (lt .led-to .result) (c .if1 .left)))
 
 returns-2 : tie.Need-returns-2 Inv-loop μ-loop
 returns-2 c = λ e.
-    let at-loop = c .before in
-    raising-all (at-loop .loop .inv) (omega arith)
+    let lo = c .before in
+    raising-all (lo .loop .inv) (omega arith)
 
 pub upper-fits-spec : {M : Type 1} → statement M
 upper-fits-spec =

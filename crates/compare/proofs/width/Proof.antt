@@ -26,28 +26,28 @@ returns c = λ n. absurd (n refl)
 
 add-rep-at : tie.Need-add-rep-at
 add-rep-at c =
-    let at-if1 = c .before in
-    let at-up = at-if1 .before .before in
-    let z = at-up .before .before .before .before in
-    omega (arith, low-place (z .pre .0) (at-up .up .result) (omega (arith, at-if1 .if1 .left)), z .good)
+    let if1 = c .before in
+    let up = if1 .before .before in
+    let z = up .before .before .before .before in
+    omega (arith, low-place (z .pre .0) (up .up .result) (omega (arith, if1 .if1 .left)), z .good)
 
 rep-at-requires : tie.Need-rep-at-requires
 rep-at-requires c κs =
-    let at-if1 = c .before in
-    let at-up = at-if1 .before .before in
-    let z = at-up .before .before .before .before in
-    low-place (z .pre .0) (at-up .up .result) (omega (arith, at-if1 .if1 .left))
+    let if1 = c .before in
+    let up = if1 .before .before in
+    let z = up .before .before .before .before in
+    low-place (z .pre .0) (up .up .result) (omega (arith, if1 .if1 .left))
 
 returns-2 : tie.Need-returns-2
 returns-2 c = λ n.
-    let at-rep-at = c .before .before .before in
-    let at-if1 = at-rep-at .before .before in
-    let at-up = at-if1 .before .before in
-    let at-word-at = at-up .before in
-    let z = at-word-at .before .before .before in
+    let ra = c .before .before .before in
+    let if1 = ra .before .before in
+    let up = if1 .before .before in
+    let wa = up .before in
+    let z = wa .before .before .before in
     record {
-      first = at-rep-at .rep-at .result;
-      found = low-at (z .pre .0) (at-up .up .result) (omega (arith, at-if1 .if1 .left)) (at-rep-at .rep-at .ensures) (at-up .up .ensures ∙ at-word-at .word-at .ensures);
+      first = ra .rep-at .result;
+      found = low-at (z .pre .0) (up .up .result) (omega (arith, if1 .if1 .left)) (ra .rep-at .ensures) (up .up .ensures ∙ wa .word-at .ensures);
       width = refl;
       split = inl (sym (c .if2 .taken));
     }
@@ -60,17 +60,17 @@ up-requires-3 c κs = search needs
 
 mul-if3 : tie.Need-mul-if3
 mul-if3 c =
-    let at-up2 = c .before in
-    let at-rep-at = at-up2 .before .before .before .before in
-    let at-if1 = at-rep-at .before .before in
-    let at-struct-known = at-if1 .before in
-    let at-up = at-struct-known .before in
-    let z = at-up .before .before .before .before in
+    let up2 = c .before in
+    let ra = up2 .before .before .before .before in
+    let if1 = ra .before .before in
+    let sk = if1 .before in
+    let up = sk .before in
+    let z = up .before .before .before .before in
     let S = z .pre .0 in
-    let F = low-at S (at-up .up .result) (omega (arith, at-if1 .if1 .left)) (at-rep-at .rep-at .ensures) (at-up .up .ensures) in
+    let F = low-at S (up .up .result) (omega (arith, if1 .if1 .left)) (ra .rep-at .ensures) (up .up .ensures) in
     let n : c .up3 .result ≤ 16777216 = omega (arith, c .up3 .ensures, found-inside (S .whole) (S .short) F .narrow) in
-    let q : at-up2 .up2 .result * c .up3 .result ≤ at-up2 .up2 .result * 16777216 = mul-le-mul-left (at-up2 .up2 .result) n in
-    omega (arith, q, at-up2 .up2 .ensures, at-struct-known .struct-known .given)
+    let q : up2 .up2 .result * c .up3 .result ≤ up2 .up2 .result * 16777216 = mul-le-mul-left (up2 .up2 .result) n in
+    omega (arith, q, up2 .up2 .ensures, sk .struct-known .given)
 
 up-requires-4 : tie.Need-up-requires-4
 up-requires-4 c κs = search needs
@@ -80,22 +80,22 @@ returns-3 c = λ n. absurd (n refl)
 
 matrix-line-requires : tie.Need-matrix-line-requires
 matrix-line-requires c κs =
-    let at-rep-at = c .before .before .before .before .before .before .before in
-    let at-if1 = at-rep-at .before .before in
-    let at-up = at-if1 .before .before in
-    let z = at-up .before .before .before .before in
+    let ra = c .before .before .before .before .before .before .before in
+    let if1 = ra .before .before in
+    let up = if1 .before .before in
+    let z = up .before .before .before .before in
     let S = z .pre .0 in
-    let F = low-at S (at-up .up .result) (omega (arith, at-if1 .if1 .left)) (at-rep-at .rep-at .ensures) (at-up .up .ensures) in
+    let F = low-at S (up .up .result) (omega (arith, if1 .if1 .left)) (ra .rep-at .ensures) (up .up .ensures) in
     omega (arith, inside-matrix (found-inside (S .whole) (S .short) F) (z .args .g .top) (S .level .1), z .good)
 
 word-at-requires-2 : tie.Need-word-at-requires-2
 word-at-requires-2 c κs =
-    let at-rep-at = c .before .before .before .before .before .before .before .before in
-    let at-if1 = at-rep-at .before .before in
-    let at-up = at-if1 .before .before in
-    let z = at-up .before .before .before .before in
+    let ra = c .before .before .before .before .before .before .before .before in
+    let if1 = ra .before .before in
+    let up = if1 .before .before in
+    let z = up .before .before .before .before in
     let S = z .pre .0 in
-    let F = low-at S (at-up .up .result) (omega (arith, at-if1 .if1 .left)) (at-rep-at .rep-at .ensures) (at-up .up .ensures) in
+    let F = low-at S (up .up .result) (omega (arith, if1 .if1 .left)) (ra .rep-at .ensures) (up .up .ensures) in
     (omega (arith, inside-matrix (found-inside (S .whole) (S .short) F) (z .args .g .top) (S .level .1), F .positive, c .matrix-line .ensures), omega arith)
 
 returns-4 : tie.Need-returns-4
@@ -103,26 +103,26 @@ returns-4 c = λ n. absurd (n refl)
 
 returns-5 : tie.Need-returns-5
 returns-5 c = λ n.
-    let at-word-at2 = c .before in
-    let at-matrix-line = at-word-at2 .before in
-    let at-if3 = at-matrix-line .before in
-    let at-up4 = at-if3 .before in
-    let at-up3 = at-up4 .before in
-    let at-up2 = at-up3 .before in
-    let at-rep-at = at-up2 .before .before .before .before in
-    let at-if1 = at-rep-at .before .before in
-    let at-up = at-if1 .before .before in
-    let at-word-at = at-up .before in
-    let z = at-word-at .before .before .before in
+    let wa2 = c .before in
+    let ml = wa2 .before in
+    let if3 = ml .before in
+    let up4 = if3 .before in
+    let up3 = up4 .before in
+    let up2 = up3 .before in
+    let ra = up2 .before .before .before .before in
+    let if1 = ra .before .before in
+    let up = if1 .before .before in
+    let wa = up .before in
+    let z = wa .before .before .before in
     let a = z .args in
     let T = now (a .words) in
     record {
-      first = at-rep-at .rep-at .result;
-      found = low-at (z .pre .0) (at-up .up .result) (omega (arith, at-if1 .if1 .left)) (at-rep-at .rep-at .ensures) (at-up .up .ensures ∙ at-word-at .word-at .ensures);
+      first = ra .rep-at .result;
+      found = low-at (z .pre .0) (up .up .result) (omega (arith, if1 .if1 .left)) (ra .rep-at .ensures) (up .up .ensures ∙ wa .word-at .ensures);
       width = refl;
       split = inr (
-        sym (at-up4 .up4 .ensures) ∙ sym (at-if3 .if3 .left) ∙ ap₂ _*_ (at-up2 .up2 .ensures) (at-up3 .up3 .ensures),
-        λ e. c .if4 .left (at-word-at2 .word-at2 .ensures ∙ ap (λ l. wordAt T l REF) (at-matrix-line .matrix-line .ensures) ∙ e ∙ sym (at-word-at .word-at .ensures)),
+        sym (up4 .up4 .ensures) ∙ sym (if3 .if3 .left) ∙ ap₂ _*_ (up2 .up2 .ensures) (up3 .up3 .ensures),
+        λ e. c .if4 .left (wa2 .word-at2 .ensures ∙ ap (λ l. wordAt T l REF) (ml .matrix-line .ensures) ∙ e ∙ sym (wa .word-at .ensures)),
       );
     }
 

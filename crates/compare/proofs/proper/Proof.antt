@@ -1,8 +1,8 @@
--- `sound` asks for valid matrices where there are several blocks.
+-- `proper` asks for valid matrices where there are several blocks.
 use mathlib.Core.Path.{sym, _∙_}
 use Rattle.seek.proofs.Halves.{lines-there}
-use Rattle.compare.proofs.sound.Statement.{statement}
-use Rattle.compare.proofs.sound.Tie as tie
+use Rattle.compare.proofs.proper.Statement.{statement}
+use Rattle.compare.proofs.proper.Tie as tie
 
 returns : tie.Need-returns
 returns c = λ e. record { valid = λ n. absurd (n (c .if1 .taken)) }
@@ -15,5 +15,5 @@ matrices-ok-requires c κs =
 returns-2 : tie.Need-returns-2
 returns-2 c = λ e. record { valid = λ n. sym (c .matrices-ok .ensures) ∙ e }
 
-pub sound-spec : {M : Type 1} → statement M
-sound-spec = tie.close (tie.spec returns matrices-ok-requires returns-2)
+pub proper-spec : {M : Type 1} → statement M
+proper-spec = tie.close (tie.spec returns matrices-ok-requires returns-2)
