@@ -5,7 +5,8 @@
 //!     harness answers FILE..           the answer to each text
 //!     harness times FILE..             the answer, and the time of a call in microseconds: of the text, and of reading it alone
 //!     harness builds FILE..            the answer, the lines of the table, and the time of a call, beside that of a plain copy
-//!     harness checks FILE..            the answer to the table that is built, and the time of its check beside that of its build
+//!     harness checks FILE..            the answers to the table that is built and to one in other bases, and their times beside that
+//!                                      of building and of reading it
 //!     harness tables LINES..           so many lines written as table text and read back: the bytes, and the median times
 //!     harness bench FILE..             all calls on each text, nanoseconds a word
 //!     harness growth                   the same on groups of order 64 to 4,096

@@ -3,9 +3,12 @@
 //!   answers    the answer to each text
 //!   times      the answer, and the time of a call in microseconds: of the text, and of reading it alone
 //!   builds     the answer, the lines of the table, and the time of a call, beside that of a plain copy
-//!   checks     the answer to the table that is built, and the time of its check beside that of its build
+//!   checks     the times of checking the table that is built, and one in other bases, beside those of building and of reading it
 //!   tables     so many lines written as table text and read back: the bytes, and the median times
 
+use crate::naive;
+use crate::random::Random;
+use crate::tables::other_basis;
 use chieftables::raw::{accept, build, check, read_table, write_table, Counted};
 use std::hint::black_box;
 use std::time::{Duration, Instant};
@@ -104,14 +107,29 @@ pub fn builds(text: &[u8], path: &str) {
     println!("; {path}");
 }
 
-/// Checks the table that is built of a text, and times that and the build.
+/// The sum of words: what reading each once costs at least.
+fn sum(words: &[u32]) -> u32 {
+    words.iter().fold(0, |sum, &word| sum.wrapping_add(word))
+}
+
+/// A table of the same group in other bases and another order of representations; none where the text is not accepted.
+fn foreign(text: &[u8]) -> Vec<u32> {
+    let Ok(relations) = naive::accept(text) else { return Vec::new() };
+    other_basis(&mut Random::new(1), &naive::steps::levels(&relations), relations.order() as u32)
+}
+
+/// Checks the table that is built of a text, and the same in other bases; times both, the build, and a plain read.
 pub fn checks(text: &[u8], path: &str) {
     let mut words = vec![7u32; WORDS];
     let size = LINE * build(text, &mut words).count;
     let building = median(|| build(black_box(text), &mut words));
-    let answer = check(text, &words[..size]);
-    let checking = median(|| check(black_box(text), black_box(&words[..size])));
-    println!("{answer:2} {size:7} words: built {building:.2} us, checked {checking:.2} us, {:.2} times; {path}", checking / building);
+    let reading = median(|| sum(black_box(&words[..size])));
+    print!("{size:7} words: built {building:.2} us, read {reading:.2} us");
+    for (basis, table) in [("checked", &words[..size]), ("in other bases", &foreign(text)[..])] {
+        let checking = median(|| check(black_box(text), black_box(table)));
+        print!("; {basis} {checking:.2} us, {:.2} times, answer {}", checking / building, check(text, table));
+    }
+    println!("; {path}");
 }
 
 pub fn answers(text: &[u8], path: &str) {
