@@ -17,7 +17,7 @@ ghost use Prim.Native.Nat.{ℕ, suc, _+_, _*_, _-_, _≤_, _<_};
 ghost use lib.ListN.{length};
 ghost use Rattle.definitions.specs.Presentation.{maxGenerators, maxOrder};
 ghost use Rattle.definitions.specs.Monomial.{repOf};
-ghost use Rattle.definitions.specs.Table.{REP, wordAt, lineCount, levelAt};
+ghost use Rattle.definitions.specs.Table.{REP, wordAt, lineCount, levelAt, firstLine};
 ghost use Rattle.heads.specs.Order.{before, Split, Splits};
 ghost use Rattle.seek.specs.Seek.{Whole, Found, Follows};
 use level::Listed;
@@ -154,9 +154,10 @@ pub fn found(words: &[u32], s: Scope, i: u32, r: usize) -> Listed
     found_near(words, s, i, r, s.lines)
 }
 
-// The first line of level i, a place to look near; 0 for level 0, which has no lines.
+// The first line of level i, a place to look near; level 0 has no lines.
 pub fn start_of(words: &[u32], s: Scope, i: u32) -> usize
     requires { ⌜ Whole s (now words) × (i ≤ s .gens) ⌝ }
+    ensures { λ x. ⌜ (0 < i → x ≡ firstLine (s .gens) (now (words .entry)) i 0) ⌝ }
 {
     if i == 0 {
         return 0;
