@@ -1,2 +1,4 @@
--- Laws of building.
-pub mod Laws
+-- Laws of the words of a level.
+pub mod Above
+pub mod InWords
+pub mod Named

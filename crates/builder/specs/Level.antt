@@ -1,15 +1,27 @@
--- What is asked of a level before the next is built.
+-- What making a level asks, and what it leaves.
 --
---   Sound                      the level below stands, its generators move the blocks of each orbit around, and lead
---                              what the one on top fixes to what it fixes
+--   LevelAsked f words rows            the level below stands in the words, is sound, and there is room behind it
+--   ArraysLent f notes blocks                the arrays have a row for each of its representations, and for each block of an orbit
+--   LevelMade f words rows t words′    the level is written, and t tells where it ends and how many representations it has
+use mathlib.Core.Path.{_≡_}
 use mathlib.Core.List.{List}
-use Prim.Native.Nat.{ℕ}
+use Prim.Native.Nat.{ℕ, _+_, _*_, _≤_}
+use lib.ListN.{length}
+use Rattle.text.specs.Writing.{Wrote}
 use Rattle.survey.specs.declared.Frame.{Frame}
-use Rattle.survey.specs.Below.{Stands, Rows, Fixing}
-use Rattle.orbits.specs.Orbit.{Cycling}
+use Rattle.survey.specs.Notes.{noteWidth}
+use Rattle.survey.specs.Below.{lowOf, numberIn, Sound}
+use Rattle.builder.specs.declared.Written.{Written}
+use Rattle.builder.specs.Above.{nextWords}
 
-pub record Sound (f : Frame) (W : List ℕ) (rows : List (List ℕ)) : Type 0 where
-  pub stands : Stands f W
-  pub words : Rows f W rows
-  pub cycles : Cycling f W rows
-  pub fixes : Fixing f W
+pub record LevelAsked (f : Frame) (words : List ℕ) (rows : List (List ℕ)) : Type 0 where
+  pub sound : Sound f (lowOf f words) rows
+  pub room : 8 * f .end + length (nextWords f (lowOf f words) rows) ≤ length words
+
+pub record ArraysLent (f : Frame) (notes blocks : List ℕ) : Type 0 where
+  pub notes-long : noteWidth * f .reps ≤ length notes
+  pub blocks-long : 2 * f .p ≤ length blocks
+
+pub record LevelMade (f : Frame) (words : List ℕ) (rows : List (List ℕ)) (t : Written) (words′ : List ℕ) : Type 0 where
+  pub wrote : Wrote words (8 * f .end) (nextWords f (lowOf f words) rows) words′ (8 * t .end)
+  pub reps-is : t .reps ≡ numberIn f (lowOf f words) (f .reps)

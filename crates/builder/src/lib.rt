@@ -1,41 +1,77 @@
-// A level behind the level below, with arrays that are lent.
+// A level behind the level below, with arrays that are lent: first what is noted of the level below, then the representations
+// above each of its representations.
 //
-//   survey_level     fills the arrays of a level
-//   Written          what level_in returns
-//   level_in         surveys a level and appends the next
+//   survey_level     notes what the next level is made with
+//   append_above     the representations above one
+//   append_all       those above all
+//   Written          what append_level returns
+//   append_level     surveys a level and appends the next
 ghost use mathlib.Core.Path.{_≡_};
-ghost use Prim.Native.Nat.{suc, _+_, _*_, _≤_};
-ghost use lib.ListN.{length, take};
-ghost use Rattle.definitions.specs.Table.{levelWords};
-ghost use Rattle.formulas.specs.Formulas.{levelBy};
+ghost use Prim.Native.Nat.{_*_, _≤_, _<_};
+ghost use lib.ListN.{length};
 ghost use Rattle.text.specs.Writing.{Wrote};
-ghost use Rattle.survey.specs.Below.{sourceIn, numberIn};
-ghost use Rattle.induce.specs.Inducing.{Surveyed};
-ghost use Rattle.builder.specs.Level.{Sound};
+ghost use Rattle.lines.specs.Lines.{Space};
+ghost use Rattle.survey.specs.Notes.{noteWidth};
+ghost use Rattle.survey.specs.Below.{lowOf, numberIn, Sound, Surveyed};
+ghost use Rattle.builder.specs.Above.{aboveIn, nextWords};
+ghost use Rattle.builder.specs.Level.{ArraysLent, LevelAsked, LevelMade};
 use rows::Words;
 use survey::Frame;
 
-// Fills the arrays of a level. Returns how many representations the next has.
-pub fn survey_level(
-    low: &[u32],
-    rows: &Words,
-    first: &mut [u32],
-    leaders: &mut [u32],
-    places: &mut [u32],
-    numbers: &mut [u32],
-    shifts: &mut [u32],
-    f: Frame,
-) -> u32
-    requires { ⌜ Sound f (now low) (now rows) × (f .reps ≤ length (now first)) × (f .reps ≤ length (now leaders)) × (f .reps ≤ length (now places)) × (f .reps ≤ length (now numbers)) × (f .reps ≤ length (now shifts)) ⌝ }
-    ensures { λ x. ⌜ (x ≡ numberIn f (now (low .entry)) (f .reps)) × Surveyed f (now (low .entry)) (now (rows .entry)) (now (first .exit)) (now (leaders .exit)) (now (places .exit)) (now (numbers .exit)) (now (shifts .exit)) ⌝ }
+// Notes what the next level is made with. Returns how many representations the next has.
+fn survey_level(low: &[u32], rows: &Words, notes: &mut [u32], f: Frame) -> u32
+    requires { ⌜ Sound f (now low) (now rows) × (noteWidth * f .reps ≤ length (now notes)) ⌝ }
+    ensures { λ x. ⌜ x ≡ numberIn f (now (low .entry)) (f .reps) ⌝ }
+    ensures { λ _. ⌜ Surveyed f (now (low .entry)) (now (rows .entry)) (now (notes .exit)) ⌝ }
 {
-    survey::find_lines(low, first, f);
-    survey::mark_orbits(low, first, leaders, places, f);
-    let x = survey::count_numbers(low, first, leaders, numbers, f);
+    survey::find_lines(low, notes, f);
+    survey::mark_orbits(low, notes, f);
+    let x = survey::count_numbers(low, notes, f);
     let t = level::up(f.top);
     let u = rows::word(rows, t, t);
-    survey::find_shifts(low, first, leaders, &u, shifts, f);
+    survey::find_shifts(low, notes, &u, f);
     x
+}
+
+// Appends the representations above representation r of the level below. Returns the next line's number.
+fn append_above(
+    words: &mut [u32],
+    rows: &Words,
+    notes: &[u32],
+    blocks: &mut [u32],
+    f: Frame,
+    at: usize,
+    r: u32,
+) -> usize
+    requires { ⌜ Surveyed f (lowOf f (now words)) (now rows) (now notes) × (r < f .reps) × (2 * f .p ≤ length (now blocks)) ⌝ }
+    requires { ⌜ Space (f .end) at (length (aboveIn f (lowOf f (now words)) (now rows) r)) (now words) ⌝ }
+    ensures { λ x. ⌜ Wrote (now (words .entry)) (8 * at) (aboveIn f (lowOf f (now (words .entry))) (now (rows .entry)) r) (now (words .exit)) (8 * x) ⌝ }
+{
+    let n = 8 * f.end;
+    let d = survey::listed(&words[..n], notes, f, r);
+    let t = level::target(&words[..n], d, f.top);
+    if t == r {
+        return extend::append_extensions(words, rows, notes, f, at, r);
+    }
+    let l = survey::note(notes, survey::LEADER, r);
+    if l == r {
+        return induce::append_induction(words, rows, notes, blocks, f, at, r);
+    }
+    at
+}
+
+// Appends the representations above all of them.
+fn append_all(words: &mut [u32], rows: &Words, notes: &[u32], blocks: &mut [u32], f: Frame) -> usize
+    requires { ⌜ Surveyed f (lowOf f (now words)) (now rows) (now notes) × (2 * f .p ≤ length (now blocks)) ⌝ }
+    requires { ⌜ Space (f .end) (f .end) (length (nextWords f (lowOf f (now words)) (now rows))) (now words) ⌝ }
+    ensures { λ x. ⌜ Wrote (now (words .entry)) (8 * f .end) (nextWords f (lowOf f (now (words .entry))) (now (rows .entry))) (now (words .exit)) (8 * x) ⌝ }
+{
+    let mut pos = f.end;
+    let reps = f.reps;
+    for r in 0..reps {
+        pos = append_above(words, rows, notes, blocks, f, pos, r);
+    }
+    pos
 }
 
 // A written level: the line behind it, and how many representations it has.
@@ -44,45 +80,21 @@ pub struct Written {
     pub reps: u32,
 }
 
-// Appends the level above the one that the frame shows, with arrays as long as its numbers of representations and of blocks.
-pub fn level_in(
+// Appends the level above the one that the frame shows, with an array for what is noted of its representations, and one for
+// the blocks of an orbit.
+pub fn append_level(
     words: &mut [u32],
     rows: &Words,
-    first: &mut [u32],
-    leaders: &mut [u32],
-    places: &mut [u32],
-    numbers: &mut [u32],
-    shifts: &mut [u32],
-    orbit: &mut [u32],
-    c: &mut [u32],
+    notes: &mut [u32],
+    blocks: &mut [u32],
     f: Frame,
 ) -> Written
-    requires { ⌜ Sound f (take (8 * f .end) (now words)) (now rows) × (8 * f .end + length (levelWords (f .gens) (suc (f .top)) (levelBy (sourceIn f (take (8 * f .end) (now words)) (now rows)))) ≤ length (now words)) × (f .reps ≤ length (now first)) × (f .reps ≤ length (now leaders)) × (f .reps ≤ length (now places)) × (f .reps ≤ length (now numbers)) × (f .reps ≤ length (now shifts)) × (f .p ≤ length (now orbit)) × (f .p ≤ length (now c)) ⌝ }
-    ensures { λ t. ⌜ Wrote (now (words .entry)) (8 * f .end) (levelWords (f .gens) (suc (f .top)) (levelBy (sourceIn f (take (8 * f .end) (now (words .entry))) (now (rows .entry))))) (now (words .exit)) (8 * t .end) × (t .reps ≡ numberIn f (take (8 * f .end) (now (words .entry))) (f .reps)) ⌝ }
+    requires { ⌜ LevelAsked f (now words) (now rows) × ArraysLent f (now notes) (now blocks) ⌝ }
+    ensures { λ t. ⌜ LevelMade f (now (words .entry)) (now (rows .entry)) t (now (words .exit)) ⌝ }
 {
     let n = 8 * f.end;
-    let reps = survey_level(
-        &words[..n],
-        rows,
-        first,
-        leaders,
-        places,
-        numbers,
-        shifts,
-        f,
-    );
-    let end = turns::append_turns(
-        words,
-        first,
-        rows,
-        leaders,
-        places,
-        numbers,
-        shifts,
-        orbit,
-        c,
-        f,
-    );
+    let reps = survey_level(&words[..n], rows, notes, f);
+    let end = append_all(words, rows, notes, blocks, f);
     Written {
         end: end,
         reps: reps,

@@ -69,7 +69,7 @@ pub fn words_lent(a: u32, words: &[u32]) -> usize
     words.len()
 }
 
-// The same of bytes.
+// The number, or how many bytes there are if that is less.
 pub fn bytes_lent(a: u32, bytes: &[u8]) -> usize
     ensures { λ r. ⌜ Part a (length (now (bytes .entry))) r ⌝ }
 {

@@ -5,7 +5,7 @@
 --   column-there                    the lines of the first generator are there
 --   whole-listed, whole-refers      what a whole block refers to is listed, and has room
 --   block-is                        the test of a block
---   Going                           the test of the blocks from column o on says what the whole test says
+--   CutTo                           the test of the blocks from column o on says what the whole test says
 --   going-none, going-whole, going-more, going-fails, going-all      the steps of the loop
 use mathlib.Core.Path.{_≡_, sym, _∙_, ap, ap₂, subst}
 use mathlib.Core.Logic.{_≢_}
@@ -117,18 +117,18 @@ module _ {s : Scope} {T : List ℕ} {i : ℕ} {D : Listed} {o : ℕ} {F : Listed
 
 -- ---- The blocks of a representation
 
-pub record Going (s : Scope) (T : List ℕ) (i : ℕ) (D : Listed) (o : ℕ) : Type 0 where
+pub record CutTo (s : Scope) (T : List ℕ) (i : ℕ) (D : Listed) (o : ℕ) : Type 0 where
   pub whole : Cutting (levelAt (s .gens) T i) (repIn T D) (wholeBlock (levelAt (s .gens) T i) (repIn T D)) o
   pub acts : (P : Presentation) → Formed P s T → Cutting (levelAt (P .n) T i) (repIn T D) (blockRestricts P (s .m) T i (repIn T D)) o
 
 module _ (s : Scope) (T : List ℕ) (i : ℕ) (D : Listed) where
-  pub going-none : Going s T i D 0
+  pub going-none : CutTo s T i D 0
   going-none = record { whole = cutting-none _ _ _; acts = λ P p. cutting-none _ _ _ }
 
   abbrev pub Acts : Bool → Type 0
   Acts b = Tells s T (λ P. restricts P (s .m) T (suc i) (repIn T D)) b
 
-  module _ (M : Among s T (suc i) D) {o : ℕ} (G : Going s T i D o) where
+  module _ (M : Among s T (suc i) D) {o : ℕ} (G : CutTo s T i D o) where
     pub going-whole : o < D .deg → wholeBlock (levelAt (s .gens) T i) (repIn T D) o ≡ true
     unfolding repAt
     going-whole l = cutting-passes _ _ _ o (G .whole) l (among-whole M)
@@ -146,7 +146,7 @@ module _ (s : Scope) (T : List ℕ) (i : ℕ) (D : Listed) where
       unfolding restricts repAt
       going-fails e = record { is = λ P p. sym (cutting-fails _ _ _ o (G .acts P p) l (sym (test-is P p) ∙ e)) }
 
-      pub going-more : b ≡ true → Going s T i D (o + F .deg)
+      pub going-more : b ≡ true → CutTo s T i D (o + F .deg)
       unfolding repAt
       going-more e = record {
         whole = subst (λ d. Cutting low Rp (wholeBlock low Rp) (o + d)) (sym (R .found .deg))

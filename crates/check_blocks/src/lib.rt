@@ -135,7 +135,7 @@ pub fn restrictions_hold(words: &[u32], s: Scope) -> bool
 // ---- Squares of degrees
 
 // d times d.
-fn square(d: u32) -> usize
+pub fn square(d: u32) -> usize
     ensures { λ r. ⌜ r ≡ d * d ⌝ }
 {
     level::up(d) * level::up(d)

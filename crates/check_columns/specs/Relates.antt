@@ -3,22 +3,21 @@
 --   SaysTop s rows i p P              p is the prime of generator i of P, and rows are its words with the generators above it
 --   Carries s T D E i j v P        the intertwiner of generator j carries generator i from D to E, in every v-th column
 --   ledTo T firsts g D j           where the intertwiner of generator j leads from D
---   Leads s T firsts g D j         it leads to lines that hold matrices of the same degree
+--   LeadsTo s T firsts g D j         it leads to lines that hold matrices of the same degree
 --   Reached s T firsts g D         so for every generator above the top, and D holds matrices
 --   CarriesAll s T firsts g D rows v     all of them carry generator i over, in every v-th column
---   RepRelates s T firsts g D rows v     and the power relation holds in column 0
 use mathlib.Core.Path.{_≡_}
 use mathlib.Core.Bool.{true}
 use mathlib.Core.List.{List, []}
 use Prim.Native.Nat.{ℕ, suc, _+_, _*_, _≤_, _<_}
 use lib.ListN.{length, getD}
 use Rattle.definitions.specs.Presentation.{Presentation, toNF, pairNumber}
-use Rattle.columns.specs.Columns.{powerAt, intertwinesAt}
+use Rattle.columns.specs.Columns.{intertwinesAt}
 use Rattle.level.specs.declared.Listed.{Listed}
 use Rattle.level.specs.Stored.{listedIn, targetIn}
 use Rattle.seek.specs.declared.Scope.{Scope}
 use Rattle.seek.specs.Among.{repIn}
-use Rattle.relations.specs.Kept.{Kept}
+use Rattle.relations.specs.Kept.{MatricesStored}
 use Rattle.compare.specs.declared.Stage.{Stage}
 
 pub record SaysTop (s : Scope) (rows : List (List ℕ)) (i p : ℕ) (P : Presentation) : Type 0 where
@@ -33,21 +32,17 @@ abbrev pub ledTo : (T firsts : List ℕ) → Stage → Listed → ℕ → Listed
 ledTo T firsts g D j = listedIn T (getD firsts (g .high + targetIn T D j) 0)
 
 module _ (s : Scope) (T firsts : List ℕ) (g : Stage) (D : Listed) where
-  pub record Leads (j : ℕ) : Type 0 where
+  pub record LeadsTo (j : ℕ) : Type 0 where
     pub place : (g .high + targetIn T D j < length firsts) × (8 * getD firsts (g .high + targetIn T D j) 0 + 8 ≤ length T)
-    pub kept : Kept s T (ledTo T firsts g D j)
+    pub kept : MatricesStored s T (ledTo T firsts g D j)
     pub degree : ledTo T firsts g D j .deg ≡ D .deg
 
   pub record Reached : Type 0 where
     pub top : g .top < s .gens
-    pub kept : Kept s T D
+    pub kept : MatricesStored s T D
     pub narrow : D .deg ≤ 16777216
-    pub leads : (j : ℕ) → g .top < j → j < s .gens → Leads j
+    pub leads : (j : ℕ) → g .top < j → j < s .gens → LeadsTo j
 
   pub record CarriesAll (rows : List (List ℕ)) (v : ℕ) : Type 0 where
     pub each : (j : ℕ) → g .top < j → j < s .gens → (P : Presentation) → SaysTop s rows (g .top) (g .p) P
         → Carries s T D (ledTo T firsts g D j) (g .top) j v P
-
-  pub record RepRelates (rows : List (List ℕ)) (v : ℕ) : Type 0 where
-    pub power : (P : Presentation) → SaysTop s rows (g .top) (g .p) P → powerAt P (s .m) (repIn T D) (g .top) 0 ≡ true
-    pub carries : CarriesAll rows v

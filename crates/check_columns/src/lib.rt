@@ -1,20 +1,19 @@
-// The relations of the generator on top of a level, asked in column 0 and in the first column of each block. A test here is
+// The intertwiners of a representation and the generator on top of its level, asked in the first column of each block. A test here is
 // answered one way: where it says true, what it asks holds.
 //
 //   commutes_at, commutes        the intertwiner of a generator that commutes with the one on top
 //   carries, carries_all         the intertwiner of any generator above the top, and those of all
-//   rep_relates                  the power relation and the intertwiners of a representation
 ghost use mathlib.Core.Path.{_≡_};
 ghost use mathlib.Core.Bool.{true};
 ghost use mathlib.Core.List.{[]};
 ghost use Prim.Native.Nat.{_≤_, _<_};
 ghost use Rattle.definitions.specs.Presentation.{Presentation};
 ghost use Rattle.commuting.specs.Commuting.{Quiet};
-ghost use Rattle.relations.specs.Kept.{Kept};
+ghost use Rattle.relations.specs.Kept.{MatricesStored};
 ghost use Rattle.relations.specs.Said.{Decides, WordOf};
 ghost use Rattle.relations.specs.Tests.{carriesAtIn};
 ghost use Rattle.compare.specs.Staged.{maxLines};
-ghost use Rattle.check_columns.specs.Relates.{Carries, CarriesAll, Reached, RepRelates};
+ghost use Rattle.check_columns.specs.Relates.{Carries, CarriesAll, Reached};
 use commuting::Reaches;
 use compare::Stage;
 use definitions::Entry;
@@ -26,7 +25,7 @@ use seek::Scope;
 // Generators i < j commute: the intertwiner of generator j carries generator i from d to e, of the same degree, at column c; where
 // the degree is 1, generator i has the same exponent in both.
 fn commutes_at(words: &[u32], s: Scope, d: Listed, e: Listed, i: u32, j: u32, c: u32) -> bool
-    requires { ⌜ Kept s (now words) d × Kept s (now words) e × (e .deg ≡ d .deg) × (i < s .gens) × (j < s .gens) × (c < d .deg) ⌝ }
+    requires { ⌜ MatricesStored s (now words) d × MatricesStored s (now words) e × (e .deg ≡ d .deg) × (i < s .gens) × (j < s .gens) × (c < d .deg) ⌝ }
     ensures { λ r. ⌜ Decides (WordOf i j []) (carriesAtIn s (now (words .entry)) d e i j c) r ⌝ }
 {
     let x = Entry { row: c, exp: 0 };
@@ -46,7 +45,7 @@ fn commutes_at(words: &[u32], s: Scope, d: Listed, e: Listed, i: u32, j: u32, c:
 
 // So in every v-th column.
 fn commutes(words: &[u32], s: Scope, d: Listed, e: Listed, i: u32, j: u32, v: u32) -> bool
-    requires { ⌜ Kept s (now words) d × Kept s (now words) e × (e .deg ≡ d .deg) × (i < j) × (j < s .gens) × (0 < v) × (v ≤ maxLines) × (d .deg ≤ maxLines) ⌝ }
+    requires { ⌜ MatricesStored s (now words) d × MatricesStored s (now words) e × (e .deg ≡ d .deg) × (i < j) × (j < s .gens) × (0 < v) × (v ≤ maxLines) × (d .deg ≤ maxLines) ⌝ }
     ensures { λ r. ⌜ (r ≡ true → (P : Presentation) → WordOf i j [] P → Carries s (now (words .entry)) d e i j v P) ⌝ }
 {
     let deg = d.deg;
@@ -63,7 +62,7 @@ fn commutes(words: &[u32], s: Scope, d: Listed, e: Listed, i: u32, j: u32, v: u3
 // The intertwiner of generator j, whose word with generator i is w, carries generator i from d to e, of the same degree, in every
 // v-th column.
 fn carries(words: &[u32], s: Scope, d: Listed, e: Listed, i: u32, j: u32, w: &Row, v: u32) -> bool
-    requires { ⌜ Kept s (now words) d × Kept s (now words) e × (e .deg ≡ d .deg) × (i < j) × (j < s .gens) × (0 < v) × (v ≤ maxLines) × (d .deg ≤ maxLines) ⌝ }
+    requires { ⌜ MatricesStored s (now words) d × MatricesStored s (now words) e × (e .deg ≡ d .deg) × (i < j) × (j < s .gens) × (0 < v) × (v ≤ maxLines) × (d .deg ≤ maxLines) ⌝ }
     ensures { λ r. ⌜ (r ≡ true → (P : Presentation) → WordOf i j (now (w .entry)) P → Carries s (now (words .entry)) d e i j v P) ⌝ }
 {
     let deg = d.deg;
@@ -78,7 +77,7 @@ fn carries(words: &[u32], s: Scope, d: Listed, e: Listed, i: u32, j: u32, w: &Ro
 }
 
 // So do those of all generators above the top; `reach` tells which of them commute with the one on top.
-fn carries_all(
+pub fn carries_all(
     words: &[u32],
     firsts: &[u32],
     rows: &Words,
@@ -113,26 +112,4 @@ fn carries_all(
         }
     }
     true
-}
-
-// The power relation of the generator on top holds in column 0 of d, and the intertwiners carry it over in every v-th column.
-pub fn rep_relates(
-    words: &[u32],
-    firsts: &[u32],
-    rows: &Words,
-    reach: &Reaches,
-    s: Scope,
-    g: Stage,
-    d: Listed,
-    v: u32,
-) -> bool
-    requires { ⌜ Reached s (now words) (now firsts) g d × (0 < v) × (v ≤ maxLines) × Quiet (s .gens) (now rows) (now reach) ⌝ }
-    ensures { λ r. ⌜ (r ≡ true → RepRelates s (now (words .entry)) (now (firsts .entry)) g d (now (rows .entry)) v) ⌝ }
-{
-    let t = level::up(g.top);
-    let at = rows::pair(t, t);
-    if !relations::power_at(words, s, d, g.top, g.p, &rows[at], 0) {
-        return false;
-    }
-    carries_all(words, firsts, rows, reach, s, g, d, v)
 }

@@ -1,6 +1,5 @@
 -- What is compared of a representation is what fitting asks of it.
 --
---   found-column, found-ref, found-first-ref     a representation that is found, read off its lines
 --   BlockCount, cut-of                                  how many blocks it has
 --   compared                                     the fields of `Fitting` that are comparisons
 use mathlib.Core.Path.{_≡_, refl, sym, _∙_, ap, ap₂, subst}
@@ -14,8 +13,8 @@ use native.Mathlib.Decide.{decLt}
 use Rattle.definitions.specs.declared.Entry.{Entry}
 use Rattle.definitions.specs.Presentation.{Presentation}
 use Rattle.definitions.specs.Monomial.{entry, col, less, Rep, Level, repOf}
-use Rattle.definitions.specs.Table.{REF, wordAt, repAt, levelAt}
-use Rattle.monomial.proofs.Frames.{col-table, entry-path}
+use Rattle.definitions.specs.Table.{REF, wordAt, levelAt}
+use Rattle.monomial.proofs.Frames.{entry-path}
 use Rattle.columns.specs.Columns.{powerAt, intertwinesAt}
 use Rattle.clifford.specs.Stands.{Restricts}
 use Rattle.fitting.specs.Fits.{Fitting}
@@ -26,26 +25,7 @@ use Rattle.seek.specs.Seek.{Found}
 use Rattle.compare.specs.declared.Stage.{Stage}
 use Rattle.compare.specs.Staged.{Staged}
 use Rattle.compare.specs.Blocks.{block, TakesBlock, rowTo, Upper, refAt, BlockFits, Wide, RepFits}
-
--- ---- A representation that is found
-
-module _ {n : ℕ} {T : List ℕ} {i r : ℕ} {D : Listed} (G : Found n T i r D) where
-  pub found-column : (g c : ℕ) → c < D .deg → col (repOf (levelAt n T i) r .matrix g) c ≡ entryIn T (lineIn D g + c)
-  unfolding repAt
-  found-column g c l = ap (λ (X : Rep). col (X .matrix g) c) (G .rep) ∙ col-table (λ c. entryIn T (lineIn D g + c)) (D .deg) c l
-
-  pub found-ref : (g c : ℕ) → repOf (levelAt n T i) r .ref g c ≡ wordAt T (lineIn D g + c) REF
-  unfolding repAt
-  found-ref g c = ap (λ (X : Rep). X .ref g c) (G .rep)
-
-  pub found-first-ref : (c : ℕ) → repOf (levelAt n T i) r .ref 0 c ≡ wordAt T (D .line + c) REF
-  found-first-ref c = let e : lineIn D 0 + c ≡ D .line + c = omega arith in found-ref 0 c ∙ ap (λ l. wordAt T l REF) e
-
-  pub found-target : (g : ℕ) → repOf (levelAt n T i) r .ref g 0 ≡ targetIn T D g
-  found-target g = let e : lineIn D g + 0 ≡ lineIn D g = omega arith in found-ref g 0 ∙ ap (λ l. wordAt T l REF) e
-
-  pub found-head : (g : ℕ) → col (repOf (levelAt n T i) r .matrix g) 0 ≡ entryIn T (lineIn D g)
-  found-head g = let e : lineIn D g + 0 ≡ lineIn D g = omega arith in found-column g 0 (G .positive) ∙ ap (entryIn T) e
+use Rattle.check_first.proofs.Found.{found-column, found-ref, found-first-ref, found-target, found-head}
 
 -- ---- How many blocks
 

@@ -1,7 +1,8 @@
 -- A level that is compared, and whose relations are asked in single columns.
 --
 --   found-is                   a representation that is found stands at its first line
---   high-is                    so does one that the list names
+--   high-is, high-found        so does one that the list names
+--   high-inside, high-kept, high-fits, high-power     its lines, and what is asked of it
 --   listed-inside, listed-refers, listed-reached, listed-relates     one of a level that is compared
 --   level-fits                 what is known of the level
 use mathlib.Core.Path.{_≡_, refl, sym, _∙_, ap, subst}
@@ -20,16 +21,17 @@ use Rattle.level.specs.Stored.{listedIn, targetIn, Stored}
 use Rattle.seek.specs.declared.Scope.{Scope}
 use Rattle.seek.specs.Seek.{Found}
 use Rattle.seek.specs.Among.{repIn}
-use Rattle.relations.specs.Kept.{Kept}
-use Rattle.claims.specs.Claims.{Unshared}
+use Rattle.relations.specs.Kept.{MatricesStored}
 use Rattle.compare.specs.declared.Stage.{Stage}
 use Rattle.compare.specs.Staged.{Staged}
 use Rattle.compare.specs.Blocks.{block, Present, Upper, refAt, BlockFits, RepFits}
 use Rattle.compare.proofs.Staged.{found-inside, high-at, high-place}
 use Rattle.compare.proofs.Stored.{fits-stored}
-use Rattle.check_columns.specs.Relates.{SaysTop, ledTo, Leads, Reached, RepRelates}
+use Rattle.check_columns.specs.Relates.{SaysTop, ledTo, LeadsTo, Reached, CarriesAll}
+use Rattle.check_single.specs.Power.{PowerHolds}
 use Rattle.check_fit.specs.Fit.{repAtLevel, widthBelow, Compares, Relates, LevelFits}
-use Rattle.check_fit.proofs.Compared.{found-target, compared}
+use Rattle.check_first.proofs.Found.{found-target}
+use Rattle.check_fit.proofs.Compared.{compared}
 
 pub found-is : (s : Scope) {T : List ℕ} {i r : ℕ} {D : Listed} → Found (s .gens) T i r D → D ≡ repAtLevel s T i r
 found-is s {T} {i} {r} {D} G = λ o. record { line = G .line o; deg = (sym (G .said) ∙ ap (λ l. wordAt T l DEG) (G .line)) o }
@@ -47,13 +49,30 @@ module _ {s : Scope} {T firsts : List ℕ} {g : Stage} (S : Staged s T firsts g)
   pub high-is : (r : ℕ) → r < g .above → {E : Listed} → E ≡ listedIn T (getD firsts (g .high + r) 0) → E ≡ repAtLevel s T (suc (g .top)) r
   high-is r h e = e ∙ ap (listedIn T) (S .high .line r h)
 
+  pub high-found : (r : ℕ) → r < g .above → Found (s .gens) T (suc (g .top)) r (repAtLevel s T (suc (g .top)) r)
+  high-found r h = high-at S r h (sym (high-is r h refl)) refl
+
+  -- one that the list names, before the level is known to be compared
+  module _ (r : ℕ) (h : r < g .above) {E : Listed} (e : E ≡ listedIn T (getD firsts (g .high + r) 0)) where
+    pub high-inside : Present s T E
+    high-inside = found-inside (S .whole) (S .short) (high-at S r h e refl)
+
+    pub high-kept : RepFits s T g E → MatricesStored s T E
+    high-kept R = record { few = S .whole .few; modulus = S .modulus .0; stored = fits-stored S (high-at S r h e refl) R }
+
+    pub high-fits : RepFits s T g E → RepFits s T g (repAtLevel s T (suc (g .top)) r)
+    high-fits R = subst (RepFits s T g) (high-is r h e) R
+
+    pub high-power : {rows : List (List ℕ)} → PowerHolds s T rows g E → PowerHolds s T rows g (repAtLevel s T (suc (g .top)) r)
+    high-power {rows} H = subst (PowerHolds s T rows g) (high-is r h e) H
+
   listed-below : (x : ℕ) → x < length (levelAt n T (suc i)) → x < g .above
   listed-below x l = omega (arith, S .high .counts)
 
-  module _ (C : Compares s T g) where
+  module _ {rows : List (List ℕ)} (C : Compares s T rows g) where
     module _ (r : ℕ) (h : r < g .above) where
       compared-found : Found (s .gens) T (suc (g .top)) r (repAtLevel s T (suc (g .top)) r)
-      compared-found = high-at S r h (sym (high-is r h refl)) refl
+      compared-found = high-found r h
 
       abbrev R : RepFits s T g (D r)
       R = C .each r h
@@ -61,7 +80,7 @@ module _ {s : Scope} {T firsts : List ℕ} {g : Stage} (S : Staged s T firsts g)
       compared-stored : Stored (s .m) (s .gens) T (repAtLevel s T (suc (g .top)) r)
       compared-stored = fits-stored S compared-found R
 
-      compared-kept : Kept s T (D r)
+      compared-kept : MatricesStored s T (D r)
       compared-kept = record { few = S .whole .few; modulus = S .modulus .0; stored = compared-stored }
 
       compared-refers : wordAt T (repAtLevel s T (suc (g .top)) r .line) REF < g .below
@@ -92,10 +111,10 @@ module _ {s : Scope} {T firsts : List ℕ} {g : Stage} (S : Staged s T firsts g)
         led-degree : ledTo T firsts g (D r) j .deg ≡ D r .deg
         led-degree = led-found .deg ∙ sym (U .found .deg) ∙ U .degree
 
-    compared-leads : (r : ℕ) (h : r < g .above) (j : ℕ) → i < j → j < n → Leads s T firsts g (D r) j
+    compared-leads : (r : ℕ) (h : r < g .above) (j : ℕ) → i < j → j < n → LeadsTo s T firsts g (D r) j
     compared-leads r h j a b = record {
       place = high-place S (targetIn T (D r) j) (target-below r h j a b);
-      kept = subst (Kept s T) (sym (led-is r h j a b)) (compared-kept (targetIn T (D r) j) (target-below r h j a b));
+      kept = subst (MatricesStored s T) (sym (led-is r h j a b)) (compared-kept (targetIn T (D r) j) (target-below r h j a b));
       degree = led-degree r h j a b;
     }
 
@@ -121,19 +140,19 @@ module _ {s : Scope} {T firsts : List ℕ} {g : Stage} (S : Staged s T firsts g)
       pub listed-reached : Reached s T firsts g E
       listed-reached = subst (Reached s T firsts g) (sym is) (compared-reached r h)
 
-      pub listed-relates : {rows : List (List ℕ)} {v : ℕ} → v ≡ widthBelow T firsts g E → RepRelates s T firsts g E rows v
-          → RepRelates s T firsts g (repAtLevel s T (suc (g .top)) r) rows (widthBelow T firsts g (repAtLevel s T (suc (g .top)) r))
-      listed-relates {rows} q M =
-          subst (λ (E : Listed). RepRelates s T firsts g E rows (widthBelow T firsts g E)) is (subst (RepRelates s T firsts g E rows) q M)
+      pub listed-relates : {v : ℕ} → v ≡ widthBelow T firsts g E → CarriesAll s T firsts g E rows v
+          → CarriesAll s T firsts g (repAtLevel s T (suc (g .top)) r) rows (widthBelow T firsts g (repAtLevel s T (suc (g .top)) r))
+      listed-relates q M =
+          subst (λ (E : Listed). CarriesAll s T firsts g E rows (widthBelow T firsts g E)) is (subst (CarriesAll s T firsts g E rows) q M)
 
     -- ---- Fitting
 
-    module _ {rows : List (List ℕ)} (Q : Relates s T firsts g rows) (P : Presentation) (Y : SaysTop s rows (g .top) (g .p) P) (r : ℕ) (h : r < g .above) where
+    module _ (Q : Relates s T firsts g rows) (P : Presentation) (Y : SaysTop s rows (g .top) (g .p) P) (r : ℕ) (h : r < g .above) where
       abbrev X : Rep
       X = repOf (levelAt n T (suc i)) r
 
       power-holds : powerAt P (s .m) X i 0 ≡ true
-      power-holds = subst (λ (X : Rep). powerAt P (s .m) X i 0 ≡ true) (sym (compared-found r h .rep)) (Q .each r h .power P Y)
+      power-holds = subst (λ (X : Rep). powerAt P (s .m) X i 0 ≡ true) (sym (compared-found r h .rep)) (C .powers r h .is P Y)
 
       conjugate-holds : (j k : ℕ) → i < j → j < n → k * C .each r h .w < D r .deg
           → intertwinesAt P (s .m) X (repOf (levelAt n T (suc i)) (X .ref j 0)) i j (k * C .each r h .w) ≡ true
@@ -142,17 +161,16 @@ module _ {s : Scope} {T firsts : List ℕ} {g : Stage} (S : Staged s T firsts g)
           let to : repIn T (ledTo T firsts g (D r) j) ≡ repOf (levelAt n T (suc i)) (X .ref j 0)
           = sym (led-found r h j a b .rep) ∙ ap (repOf (levelAt n T (suc i))) (sym (found-target G j)) in
           let q = subst (λ v. k * v < D r .deg → intertwinesAt P (s .m) (repIn T (D r)) (repIn T (ledTo T firsts g (D r) j)) i j (k * v) ≡ true) (width-is r h)
-          (λ l. Q .each r h .carries .each j a b P Y k l) l in
+          (λ l. Q .each r h .each j a b P Y k l) l in
           subst (λ (F : Rep). intertwinesAt P (s .m) X F i j (k * C .each r h .w) ≡ true) to (
           subst (λ (X : Rep). intertwinesAt P (s .m) X (repIn T (ledTo T firsts g (D r) j)) i j (k * C .each r h .w) ≡ true) (sym (G .rep)) q)
 
       fitting : Fitting P n (s .m) i (levelAt n T i) (levelAt n T (suc i)) r
       fitting = compared S (compared-found r h) (C .each r h) P (Y .prime) power-holds conjugate-holds
 
-    pub level-fits : {rows : List (List ℕ)} → Relates s T firsts g rows → Unshared (g .top) (levelAt (s .gens) T (suc (g .top)))
-        → LevelFits s T rows (g .top) (g .p)
-    level-fits Q unshared = record {
+    pub level-fits : Relates s T firsts g rows → LevelFits s T rows (g .top) (g .p)
+    level-fits Q = record {
       fit = λ P Y r l. fitting Q P Y r (listed-below r l);
-      unshared = unshared;
+      unshared = C .unshared;
       stored = λ r G. subst (Stored (s .m) n T) (sym (found-is s G)) (compared-stored r (listed-below r (G .listed)));
     }

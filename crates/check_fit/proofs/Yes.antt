@@ -11,14 +11,11 @@ use native.Mathlib.Omega.{arith}
 use native.Mathlib.Decide.{ℕ-discrete}
 use lib.Dec.{eqb}
 use lib.ListN.{length, getD}
-use borrow.Author.Tests.{eqb-true}
 use Rattle.definitions.specs.Lists.{sum}
 use Rattle.definitions.specs.Presentation.{lineWords, Presentation, order}
 use Rattle.definitions.specs.Monomial.{col, Level, repOf}
 use Rattle.definitions.specs.Table.{levelAt, complete}
-use Rattle.definitions.specs.Judgement.{everyLevel, squares}
 use Rattle.definitions.specs.Answers.{judgement}
-use Rattle.numbers.proofs.Lists.{allBelow-elim}
 use Rattle.clifford.specs.Accepted.{Accepted}
 use Rattle.fitting.specs.Fits.{blockTo, Fitting, Fits}
 use Rattle.fitting.proofs.Passes.{fits-passes}
@@ -28,7 +25,7 @@ use Rattle.seek.specs.Seek.{Whole}
 use Rattle.seek.specs.Formed.{Ordered}
 use Rattle.seek.proofs.Seek.{found-first}
 use Rattle.claims.specs.Claims.{OneReference, Unshared}
-use Rattle.check_blocks.specs.Squares.{AddsUp}
+use Rattle.check_blocks.specs.Squares.{squaresIn}
 use Rattle.check_columns.specs.Relates.{SaysTop}
 use Rattle.check_fit.specs.Fit.{LevelsFit, Passes}
 
@@ -74,7 +71,7 @@ module _ {P : Presentation} {n m i : ℕ} {Low High : Level} (in-range : i < n) 
 -- ---- The table
 
 module _ {s : Scope} {T : List ℕ} {rows : List (List ℕ)} {primes orders : List ℕ} (whole : eqb (length T % lineWords) 0 ≡ true) (W : Whole s T)
-    (A : AddsUp s orders T true) (L : LevelsFit s T rows primes (s .gens)) (modulus : getD orders (s .gens) 0 ≡ s .m) where
+    (L : LevelsFit s T rows primes orders (s .gens)) (modulus : getD orders (s .gens) 0 ≡ s .m) where
   module _ (C : Accepted) (reads : Reads (C .C .P) (s .gens) primes rows) (ordered : Ordered (C .C .P) s orders) where
     abbrev P : Presentation
     P = C .C .P
@@ -84,12 +81,8 @@ module _ {s : Scope} {T : List ℕ} {rows : List (List ℕ)} {primes orders : Li
 
     squares-are : (i : ℕ) → i < s .gens
         → sum (length (levelAt (s .gens) T (suc i))) (λ r. repOf (levelAt (s .gens) T (suc i)) r .deg * repOf (levelAt (s .gens) T (suc i)) r .deg) ≡ order P (suc i)
-    unfolding everyLevel squares
-    squares-are i l =
-        let n = ordered .gens-are in
-        let q = allBelow-elim (P .n) _ (sym (A .is P ordered)) i (subst (λ n. i < n) n l) in
-        subst (λ n. sum (length (levelAt n T (suc i))) (λ r. repOf (levelAt n T (suc i)) r .deg * repOf (levelAt n T (suc i)) r .deg) ≡ order P (suc i)) (sym n)
-        (eqb-true _ (order P (suc i)) q)
+    unfolding squaresIn
+    squares-are i l = L .squares i l ∙ ordered .orders-are (suc i) (subst (λ n. i < n) (ordered .gens-are) l)
 
     fits-at : (i : ℕ) → i < s .gens → Fits P (s .gens) (s .m) i (levelAt (s .gens) T i) (levelAt (s .gens) T (suc i))
     fits-at i l =

@@ -2,26 +2,26 @@
 // relations of the generator on top are asked in column 0 and in the first column of each block. The answer is one way: where it
 // says true the table passes, and nothing else is said.
 //
-//   first_lines                          the first lines of a level, in a list
-//   level_compares, level_relates        all representations of a level above the first
+//   first_lines, character_lines            the first lines of a level, in a list; those of level 1
+//   level_compares, small_compares, large_compares, compares     all representations of a level above the first
+//   level_relates                        their intertwiners
 //   level_fits                           such a level
-//   character_ok, characters_ok, characters_relate, first_fits     level 1
 //   upper_levels_fit, levels_fit         all levels
 //   small_fits, large_fits, fits         a table, with a list as long as it wants
 ghost use mathlib.Core.Path.{_≡_};
 ghost use mathlib.Core.Bool.{true};
-ghost use Prim.Native.Nat.{_≤_, _<_};
+ghost use Prim.Native.Nat.{_*_, _≤_, _<_};
 ghost use lib.ListN.{length};
+ghost use Rattle.definitions.specs.Presentation.{maxGenerators};
+ghost use Rattle.commuting.specs.Commuting.{Quiet};
 ghost use Rattle.seek.specs.Seek.{Whole};
 ghost use Rattle.compare.specs.Staged.{maxLines, Staged};
-ghost use Rattle.compare.specs.Blocks.{Present};
-ghost use Rattle.check_heads.specs.Places.{Counted};
-ghost use Rattle.check_fit.specs.Lines.{FirstLines};
-ghost use Rattle.check_fit.specs.Fit.{Compares, Relates, LevelFits, LevelOne, LevelsFit, Passes};
-ghost use Rattle.check_fit.specs.Fit.{FirstStaged, Character, Characters, CharactersRelate};
+ghost use Rattle.check_heads.specs.Places.{Scoped};
+ghost use Rattle.check_fit.specs.Lines.{FirstLines, CharacterLines};
+ghost use Rattle.check_fit.specs.Fit.{Compares, Relates, LevelFits, Started, LevelOne, LevelsFit, Passes};
+use commuting::Reaches;
 use compare::Stage;
 use conditions::size::Orders;
-use level::Listed;
 use rows::Row;
 use rows::Words;
 use seek::Scope;
@@ -30,22 +30,31 @@ use seek::Scope;
 const MAX_LINES: usize = 16777216;
 
 // Writes the first lines of the representations of level i into a list, from place `at` on, and returns how many there are; 0 where
-// the list has no room for them.
-fn first_lines(words: &[u32], s: Scope, i: u32, firsts: &mut [u32], at: usize) -> usize
+// the list has no room for them, or the squares of their degrees do not add up to the order of the level.
+fn first_lines(words: &[u32], s: Scope, i: u32, order: u32, firsts: &mut [u32], at: usize) -> usize
     requires { ⌜ Whole s (now words) × (s .lines ≤ maxLines) × (0 < i) × (i ≤ s .gens) × (at ≤ length (now firsts)) ⌝ }
-    ensures { λ r. ⌜ FirstLines s (now (words .entry)) i at (now (firsts .entry)) (now (firsts .exit)) r ⌝ }
+    ensures { λ r. ⌜ FirstLines s (now (words .entry)) i order at (now (firsts .entry)) (now (firsts .exit)) r ⌝ }
 {
     let reps = seek::count_of(words, s, i);
     if firsts.len() - at < reps {
         return 0;
     }
     let mut d = seek::found(words, s, i, 0);
+    let mut left = level::up(order);
     let mut r: usize = 0;
     loop {
+        let q = check_blocks::square(d.deg);
+        if left < q {
+            return 0;
+        }
+        left -= q;
         firsts[at + r] = d.line as u32;
         r += 1;
         if r == reps {
-            return reps;
+            if left == 0 {
+                return reps;
+            }
+            return 0;
         }
         d = seek::following(words, s, d);
     }
@@ -53,33 +62,95 @@ fn first_lines(words: &[u32], s: Scope, i: u32, firsts: &mut [u32], at: usize) -
 
 // ---- A level above the first
 
-// Every representation of the level is compared with those below.
-fn level_compares(words: &[u32], firsts: &[u32], s: Scope, g: Stage) -> bool
+// Every representation of the level is compared with those below, and asked the power relation of the generator on top; no two claim
+// the same of the level below, by marks.
+fn level_compares(
+    words: &[u32],
+    firsts: &[u32],
+    rows: &Words,
+    s: Scope,
+    g: Stage,
+    marks: &mut [u8],
+    slots: &mut [u8],
+) -> bool
     requires { ⌜ Staged s (now words) (now firsts) g ⌝ }
-    ensures { λ r. ⌜ (r ≡ true → Compares s (now (words .entry)) g) ⌝ }
+    ensures { λ r. ⌜ (r ≡ true → Compares s (now (words .entry)) (now (rows .entry)) g) ⌝ }
 {
+    if g.p == 0 {
+        return false;
+    }
+    let part = s.m / g.p;
+    if part == 0 {
+        return false;
+    }
     let above = g.above;
     for r in 0..above {
         let d = compare::rep_at(words, firsts, g.high + r);
-        if !compare::rep_fits(words, firsts, s, g, d) {
+        if !check_single::rep_fits(words, firsts, s, g, d) {
+            return false;
+        }
+        if !check_single::power_holds(words, rows, s, g, d) {
+            return false;
+        }
+        if !claims::claim(words, g.top, g.p, part, d, marks, slots) {
             return false;
         }
     }
     true
 }
 
-// The relations of the generator on top hold in single columns of every representation of a level that is compared.
-fn level_relates(words: &[u32], firsts: &[u32], rows: &Words, s: Scope, g: Stage) -> bool
-    requires { ⌜ Staged s (now words) (now firsts) g × Compares s (now words) g ⌝ }
+// Compares the level with marks for 64 representations and slots, which suffice for orders up to 64.
+fn small_compares(words: &[u32], firsts: &[u32], rows: &Words, s: Scope, g: Stage) -> bool
+    requires { ⌜ Staged s (now words) (now firsts) g ⌝ }
+    ensures { λ r. ⌜ (r ≡ true → Compares s (now (words .entry)) (now (rows .entry)) g) ⌝ }
+{
+    let mut marks = [0u8; 64];
+    let mut slots = [0u8; 64];
+    level_compares(words, firsts, rows, s, g, &mut marks, &mut slots)
+}
+
+// Compares the level with marks for 4096.
+fn large_compares(words: &[u32], firsts: &[u32], rows: &Words, s: Scope, g: Stage) -> bool
+    requires { ⌜ Staged s (now words) (now firsts) g ⌝ }
+    ensures { λ r. ⌜ (r ≡ true → Compares s (now (words .entry)) (now (rows .entry)) g) ⌝ }
+{
+    let mut marks = [0u8; 4096];
+    let mut slots = [0u8; 4096];
+    level_compares(words, firsts, rows, s, g, &mut marks, &mut slots)
+}
+
+// Compares the level with as many marks as the order wants.
+fn compares(words: &[u32], firsts: &[u32], rows: &Words, s: Scope, g: Stage) -> bool
+    requires { ⌜ Staged s (now words) (now firsts) g ⌝ }
+    ensures { λ r. ⌜ (r ≡ true → Compares s (now (words .entry)) (now (rows .entry)) g) ⌝ }
+{
+    if s.m <= 64 {
+        return small_compares(words, firsts, rows, s, g);
+    }
+    large_compares(words, firsts, rows, s, g)
+}
+
+// The intertwiners of every representation of a level that is compared carry the generator on top over, in single columns.
+fn level_relates(
+    words: &[u32],
+    firsts: &[u32],
+    rows: &Words,
+    reach: &Reaches,
+    s: Scope,
+    g: Stage,
+) -> bool
+    requires { ⌜ Staged s (now words) (now firsts) g × Compares s (now words) (now rows) g × Quiet (s .gens) (now rows) (now reach) ⌝ }
     ensures { λ r. ⌜ (r ≡ true → Relates s (now (words .entry)) (now (firsts .entry)) g (now (rows .entry))) ⌝ }
 {
-    let reach = commuting::reaches(rows, level::up(s.gens));
+    if g.top + 1 == s.gens {
+        return true;
+    }
     let above = g.above;
     for r in 0..above {
         let d = compare::rep_at(words, firsts, g.high + r);
         let x = level::up(level::word_at(words, d.line, level::REF));
         let f = compare::rep_at(words, firsts, g.low + x);
-        if !check_columns::rep_relates(words, firsts, rows, &reach, s, g, d, f.deg) {
+        if !check_columns::carries_all(words, firsts, rows, reach, s, g, d, f.deg) {
             return false;
         }
     }
@@ -87,84 +158,21 @@ fn level_relates(words: &[u32], firsts: &[u32], rows: &Words, s: Scope, g: Stage
 }
 
 // The level fits on the level below.
-fn level_fits(words: &[u32], firsts: &[u32], rows: &Words, s: Scope, g: Stage) -> bool
-    requires { ⌜ Staged s (now words) (now firsts) g ⌝ }
+fn level_fits(
+    words: &[u32],
+    firsts: &[u32],
+    rows: &Words,
+    reach: &Reaches,
+    s: Scope,
+    g: Stage,
+) -> bool
+    requires { ⌜ Staged s (now words) (now firsts) g × Quiet (s .gens) (now rows) (now reach) ⌝ }
     ensures { λ r. ⌜ (r ≡ true → LevelFits s (now (words .entry)) (now (rows .entry)) (g .top) (g .p)) ⌝ }
 {
-    if !level_compares(words, firsts, s, g) {
+    if !compares(words, firsts, rows, s, g) {
         return false;
     }
-    if !level_relates(words, firsts, rows, s, g) {
-        return false;
-    }
-    claims::disjoint(words, s, g.top, g.p)
-}
-
-// ---- Level 1
-
-// d has one column, over level 0, valid matrices, and targets below `many`.
-fn character_ok(words: &[u32], s: Scope, d: Listed, many: usize) -> bool
-    requires { ⌜ Present s (now words) d × (0 < s .gens) ⌝ }
-    ensures { λ r. ⌜ (r ≡ true → Character s (now (words .entry)) d many) ⌝ }
-{
-    if d.deg != 1 {
-        return false;
-    }
-    if level::word_at(words, d.line, level::REF) != 0 {
-        return false;
-    }
-    if !check_lines::matrices_ok(words, d, s.gens, s.m) {
-        return false;
-    }
-    check_lines::targets_ok(words, d, 1, s.gens, many)
-}
-
-// Every representation of level 1 is such a character.
-fn characters_ok(words: &[u32], firsts: &[u32], s: Scope, g: Stage) -> bool
-    requires { ⌜ FirstStaged s (now words) (now firsts) g ⌝ }
-    ensures { λ r. ⌜ (r ≡ true → Characters s (now (words .entry)) g) ⌝ }
-{
-    let above = g.above;
-    for r in 0..above {
-        let d = compare::rep_at(words, firsts, g.high + r);
-        if !character_ok(words, s, d, above) {
-            return false;
-        }
-    }
-    true
-}
-
-// The relations of the first generator hold in the column of each.
-fn characters_relate(words: &[u32], firsts: &[u32], rows: &Words, s: Scope, g: Stage) -> bool
-    requires { ⌜ FirstStaged s (now words) (now firsts) g × Characters s (now words) g ⌝ }
-    ensures { λ r. ⌜ (r ≡ true → CharactersRelate s (now (words .entry)) (now (firsts .entry)) g (now (rows .entry))) ⌝ }
-{
-    let reach = commuting::reaches(rows, level::up(s.gens));
-    let above = g.above;
-    for r in 0..above {
-        let d = compare::rep_at(words, firsts, g.high + r);
-        if !check_columns::rep_relates(words, firsts, rows, &reach, s, g, d, 1) {
-            return false;
-        }
-    }
-    true
-}
-
-// Level 1 fits on level 0, which stands in no words.
-fn first_fits(words: &[u32], firsts: &[u32], rows: &Words, s: Scope, g: Stage) -> bool
-    requires { ⌜ FirstStaged s (now words) (now firsts) g ⌝ }
-    ensures { λ r. ⌜ (r ≡ true → LevelFits s (now (words .entry)) (now (rows .entry)) 0 (g .p)) ⌝ }
-{
-    if g.above != level::up(g.p) {
-        return false;
-    }
-    if !characters_ok(words, firsts, s, g) {
-        return false;
-    }
-    if !characters_relate(words, firsts, rows, s, g) {
-        return false;
-    }
-    claims::disjoint(words, s, 0, g.p)
+    level_relates(words, firsts, rows, reach, s, g)
 }
 
 // ---- All levels
@@ -174,32 +182,35 @@ fn upper_levels_fit(
     words: &[u32],
     rows: &Words,
     primes: &Row,
+    orders: &Orders,
     s: Scope,
     firsts: &mut [u32],
     many: usize,
 ) -> bool
-    requires { ⌜ LevelOne s (now words) (now rows) (now primes) (now firsts) many ⌝ }
-    ensures { λ r. ⌜ (r ≡ true → LevelsFit s (now (words .entry)) (now (rows .entry)) (now (primes .entry)) (s .gens)) ⌝ }
+    requires { ⌜ LevelOne s (now words) (now rows) (now primes) (now orders) (now firsts) many ⌝ }
+    ensures { λ r. ⌜ (r ≡ true → LevelsFit s (now (words .entry)) (now (rows .entry)) (now (primes .entry)) (now (orders .entry)) (s .gens)) ⌝ }
     ensures { λ r. ⌜ length (now (firsts .exit)) ≡ length (now (firsts .entry)) ⌝ }
 {
     let gens = s.gens;
+    let reach = commuting::reaches(rows, level::up(gens));
     let mut low: usize = 0;
     let mut below = many;
     for i in 1..gens {
         let high = low + below;
-        let above = first_lines(words, s, i + 1, firsts, high);
+        let k = level::up(i);
+        let above = first_lines(words, s, i + 1, orders[k + 1], firsts, high);
         if above == 0 {
             return false;
         }
         let g = Stage {
             top: i,
-            p: primes[level::up(i)],
+            p: primes[k],
             low,
             below,
             high,
             above,
         };
-        if !level_fits(words, firsts, rows, s, g) {
+        if !level_fits(words, firsts, rows, &reach, s, g) {
             return false;
         }
         low = high;
@@ -208,53 +219,62 @@ fn upper_levels_fit(
     true
 }
 
-// Every level fits on the level below, with a list for the first lines of all representations.
-fn levels_fit(words: &[u32], rows: &Words, primes: &Row, s: Scope, firsts: &mut [u32]) -> bool
-    requires { ⌜ Whole s (now words) × (s .lines ≤ maxLines) × (0 < s .m) × (s .m ≤ 2147483648) ⌝ }
-    ensures { λ r. ⌜ (r ≡ true → LevelsFit s (now (words .entry)) (now (rows .entry)) (now (primes .entry)) (s .gens)) ⌝ }
+// Writes the first lines of the representations of level 1 into a list.
+fn character_lines(firsts: &mut [u32], many: usize, n: u32)
+    requires { ⌜ (many ≤ length (now firsts)) × (many * n ≤ maxLines) × (n ≤ maxGenerators) ⌝ }
+    ensures { λ _. ⌜ CharacterLines n many (now (firsts .exit)) × (length (now (firsts .exit)) ≡ length (now (firsts .entry))) ⌝ }
 {
-    let many = first_lines(words, s, 1, firsts, 0);
-    if many == 0 {
+    let mut l: u32 = 0;
+    for r in 0..many {
+        firsts[r] = l;
+        l += n;
+    }
+}
+
+// Every level fits on the level below, with a list for the first lines of all representations.
+fn levels_fit(
+    words: &[u32],
+    rows: &Words,
+    primes: &Row,
+    orders: &Orders,
+    s: Scope,
+    firsts: &mut [u32],
+) -> bool
+    requires { ⌜ Started s (now words) (now rows) (now primes) (now orders) ⌝ }
+    ensures { λ r. ⌜ (r ≡ true → LevelsFit s (now (words .entry)) (now (rows .entry)) (now (primes .entry)) (now (orders .entry)) (s .gens)) ⌝ }
+{
+    let many = level::up(primes[0]);
+    if firsts.len() < many {
         return false;
     }
-    let g = Stage {
-        top: 0,
-        p: primes[0],
-        low: 0,
-        below: 0,
-        high: 0,
-        above: many,
-    };
-    if !first_fits(words, firsts, rows, s, g) {
-        return false;
-    }
-    upper_levels_fit(words, rows, primes, s, firsts, many)
+    character_lines(firsts, many, s.gens);
+    upper_levels_fit(words, rows, primes, orders, s, firsts, many)
 }
 
 // ---- A table
 
-// The same with a list for 128 representations, which suffice for orders up to 64: the order of a level is at least twice that of
+// Every level fits on the level below, with a list for 128 representations, which suffice for orders up to 64: the order of a level is at least twice that of
 // the level below.
-fn small_fits(words: &[u32], rows: &Words, primes: &Row, s: Scope) -> bool
-    requires { ⌜ Whole s (now words) × (s .lines ≤ maxLines) × (0 < s .m) × (s .m ≤ 2147483648) ⌝ }
-    ensures { λ r. ⌜ (r ≡ true → LevelsFit s (now (words .entry)) (now (rows .entry)) (now (primes .entry)) (s .gens)) ⌝ }
+fn small_fits(words: &[u32], rows: &Words, primes: &Row, orders: &Orders, s: Scope) -> bool
+    requires { ⌜ Started s (now words) (now rows) (now primes) (now orders) ⌝ }
+    ensures { λ r. ⌜ (r ≡ true → LevelsFit s (now (words .entry)) (now (rows .entry)) (now (primes .entry)) (now (orders .entry)) (s .gens)) ⌝ }
 {
     let mut firsts = [0u32; 128];
-    levels_fit(words, rows, primes, s, &mut firsts)
+    levels_fit(words, rows, primes, orders, s, &mut firsts)
 }
 
-// The same with a list for 8192 representations.
-fn large_fits(words: &[u32], rows: &Words, primes: &Row, s: Scope) -> bool
-    requires { ⌜ Whole s (now words) × (s .lines ≤ maxLines) × (0 < s .m) × (s .m ≤ 2147483648) ⌝ }
-    ensures { λ r. ⌜ (r ≡ true → LevelsFit s (now (words .entry)) (now (rows .entry)) (now (primes .entry)) (s .gens)) ⌝ }
+// Every level fits on the level below, with a list for 8192 representations.
+fn large_fits(words: &[u32], rows: &Words, primes: &Row, orders: &Orders, s: Scope) -> bool
+    requires { ⌜ Started s (now words) (now rows) (now primes) (now orders) ⌝ }
+    ensures { λ r. ⌜ (r ≡ true → LevelsFit s (now (words .entry)) (now (rows .entry)) (now (primes .entry)) (now (orders .entry)) (s .gens)) ⌝ }
 {
     let mut firsts = [0u32; 8192];
-    levels_fit(words, rows, primes, s, &mut firsts)
+    levels_fit(words, rows, primes, orders, s, &mut firsts)
 }
 
 // Every level of the table fits on the level below, with exponents modulo the order: the table passes.
 pub fn fits(words: &[u32], rows: &Words, primes: &Row, orders: &Orders, s: Scope) -> bool
-    requires { ⌜ Counted s (now words) × (0 < s .m) × (s .m ≤ 2147483648) ⌝ }
+    requires { ⌜ Scoped s (now words) × (0 < s .m) × (s .m ≤ 2147483648) ⌝ }
     ensures { λ r. ⌜ (r ≡ true → Passes s (now (rows .entry)) (now (primes .entry)) (now (orders .entry)) (now (words .entry))) ⌝ }
 {
     let n = level::up(s.gens);
@@ -264,14 +284,14 @@ pub fn fits(words: &[u32], rows: &Words, primes: &Row, orders: &Orders, s: Scope
     if s.lines > MAX_LINES {
         return false;
     }
-    if !check_heads::heads(words, orders, s) {
+    if !check_first::level_one(words, rows, orders, s, primes[0]) {
         return false;
     }
-    if !check_blocks::squares_hold(words, orders, s) {
-        return false;
+    if s.gens == 1 {
+        return true;
     }
     if s.m <= 64 {
-        return small_fits(words, rows, primes, s);
+        return small_fits(words, rows, primes, orders, s);
     }
-    large_fits(words, rows, primes, s)
+    large_fits(words, rows, primes, orders, s)
 }

@@ -1,7 +1,7 @@
 -- A representation, a level, all levels, and with the heads of the lines the whole of 21.
 --
 --   body-matrices, body-blocks, body-refs, body-targets      a representation, test after test
---   Reading                    a representation of a level that is come to
+--   ReadUpTo                    a representation of a level that is come to
 --   reading-first, reading-next, reading-follows, reading-fits      representation after representation
 --   reading-fails, reading-last      how that ends
 --   over-first, over-next, over-there, over-some      level after level
@@ -38,9 +38,9 @@ use Rattle.seek.specs.Seek.{Whole, Found, Follows}
 use Rattle.seek.specs.Formed.{Formed, Ordered}
 use Rattle.seek.proofs.Halves.{lines-there}
 use Rattle.seek.proofs.Seek.{zero-count}
-use Rattle.check_heads.specs.Places.{ordersIn, Counted}
+use Rattle.check_heads.specs.Places.{ordersIn, Scoped}
 use Rattle.check_lines.specs.Lines.{refsAs, targetOk}
-use Rattle.check_form.specs.Form.{listedRep, blocksOk, body, levelOk, Over, Fits, TellsForm}
+use Rattle.check_form.specs.Form.{listedRep, blocksOk, body, levelOk, LevelOver, Spans, TellsForm}
 
 -- ---- A representation
 
@@ -94,15 +94,15 @@ module _ (s : Scope) (T : List ℕ) (i : ℕ) where
   abbrev test : ℕ → Bool
   test r = body (s .gens) (s .m) T i (repOf (levelAt (s .gens) T (suc i)) r)
 
-  pub record Reading (r : ℕ) (D : Listed) : Type 0 where
+  pub record ReadUpTo (r : ℕ) (D : Listed) : Type 0 where
     pub here : Found (s .gens) T (suc i) r D
     pub passed : Tested (λ r. body (s .gens) (s .m) T i (repOf (levelAt (s .gens) T (suc i)) r)) r
 
-  pub reading-first : (D : Listed) → Found (s .gens) T (i + 1) 0 D → Reading 0 D
+  pub reading-first : (D : Listed) → Found (s .gens) T (i + 1) 0 D → ReadUpTo 0 D
   reading-first D F = record { here = subst (λ k. Found (s .gens) T k 0 D) (add-one i) F; passed = tested-none }
 
-  module _ {r : ℕ} {D : Listed} (R : Reading r D) where
-    pub reading-fits : Fits s T D
+  module _ {r : ℕ} {D : Listed} (R : ReadUpTo r D) where
+    pub reading-fits : Spans s T D
     reading-fits = record { room = lines-there T _ (R .here .inside); positive = R .here .positive }
 
     pub reading-follows : suc r < length (levelAt (s .gens) T (suc i)) → Follows (s .gens) T D
@@ -114,7 +114,7 @@ module _ (s : Scope) (T : List ℕ) (i : ℕ) where
     pub reading-fails : body (s .gens) (s .m) T i (listedRep T D) ≡ false → false ≡ levelOk (s .gens) (s .m) T i
     reading-fails h = tested-fails (R .passed) (R .here .listed) (test-is ∙ h)
 
-    pub reading-next : {E : Listed} → body (s .gens) (s .m) T i (listedRep T D) ≡ true → Found (s .gens) T (suc i) (suc r) E → Reading (r + 1) E
+    pub reading-next : {E : Listed} → body (s .gens) (s .m) T i (listedRep T D) ≡ true → Found (s .gens) T (suc i) (suc r) E → ReadUpTo (r + 1) E
     reading-next {E} h F =
         record { here = subst (λ k. Found (s .gens) T (suc i) k E) (sym (add-one r)) F; passed = tested-more (R .passed) (test-is ∙ h) }
 
@@ -127,17 +127,17 @@ module _ (s : Scope) (T : List ℕ) (i : ℕ) where
 -- ---- Level after level
 
 module _ (s : Scope) (T : List ℕ) (W : Whole s T) where
-  pub over-first : Over s T 0 1
+  pub over-first : LevelOver s T 0 1
   over-first = record { whole = W; level = omega arith; counts = zero-count s T W 0 refl }
 
-  pub over-next : (i many : ℕ) → i < s .gens → many ≡ length (levelAt (s .gens) T (i + 1)) → Over s T (suc i) many
+  pub over-next : (i many : ℕ) → i < s .gens → many ≡ length (levelAt (s .gens) T (i + 1)) → LevelOver s T (suc i) many
   over-next i many l e = record { whole = W; level = l; counts = e ∙ ap (λ k. length (levelAt (s .gens) T k)) (add-one i) }
 
-  pub over-there : (i many : ℕ) → Over s T (suc i) many → 0 < length (levelAt (s .gens) T (i + 1))
+  pub over-there : (i many : ℕ) → LevelOver s T (suc i) many → 0 < length (levelAt (s .gens) T (i + 1))
   over-there i many O =
       subst (λ k. 0 < length (levelAt (s .gens) T k)) (sym (add-one i)) (complete-some (s .gens) (W .some) T (W .all) i (O .level))
 
-  pub over-some : (i many : ℕ) → Over s T (suc i) many → 0 < many
+  pub over-some : (i many : ℕ) → LevelOver s T (suc i) many → 0 < many
   over-some i many O = subst (λ z. 0 < z) (sym (O .counts)) (complete-some (s .gens) (W .some) T (W .all) i (O .level))
 
 -- ---- The whole of 21
@@ -146,7 +146,7 @@ pub ordered : (P : Presentation) (s : Scope) {primes orders : List ℕ} → s .g
     → LevelOrders primes (s .gens) orders → Ordered P s orders
 ordered P s e is L = record { gens-are = e; orders-are = λ k l. orders-are P L is k (omega (arith, e)) }
 
-module _ (s : Scope) (orders T : List ℕ) (C : Counted s T) where
+module _ (s : Scope) (orders T : List ℕ) (C : Scoped s T) where
   abbrev ord : ℕ → ℕ
   ord = ordersIn orders
 

@@ -5,8 +5,8 @@
 --   Width low D o x           x is the length of the block from column o, and 0 where it is none
 --   body n m T i D            matrices, blocks and targets of a representation of the level above level i
 --   levelOk n m T i           those of every representation of that level
---   Over s T i count          a complete table, a level of it, and how many representations that has
---   Fits s T D                the lines of D are there
+--   LevelOver s T i count          a complete table, a level of it, and how many representations that has
+--   Spans s T D                the lines of D are there
 --   TellsForm s orders T r    r says whether 21 does not apply, for every such presentation
 use mathlib.Core.Path.{_≡_}
 use mathlib.Core.Bool.{Bool, true, false, _&&_, _||_, not}
@@ -47,12 +47,12 @@ module _ (n m : ℕ) (T : List ℕ) (i : ℕ) where
   abbrev pub levelOk : Bool
   levelOk = allBelow (length (levelAt n T (suc i))) (λ r. body (repOf (levelAt n T (suc i)) r))
 
-pub record Over (s : Scope) (T : List ℕ) (i count : ℕ) : Type 0 where
+pub record LevelOver (s : Scope) (T : List ℕ) (i count : ℕ) : Type 0 where
   pub whole : Whole s T
   pub level : i ≤ s .gens
   pub counts : count ≡ length (levelAt (s .gens) T i)
 
-pub record Fits (s : Scope) (T : List ℕ) (D : Listed) : Type 0 where
+pub record Spans (s : Scope) (T : List ℕ) (D : Listed) : Type 0 where
   pub room : 8 * lineIn D (s .gens) ≤ length T
   pub positive : 0 < D .deg
 

@@ -11,15 +11,15 @@ ghost use Rattle.definitions.specs.Lists.{allBelow};
 ghost use Rattle.definitions.specs.Table.{levelAt};
 ghost use Rattle.level.specs.Stored.{lineIn};
 ghost use Rattle.seek.specs.Seek.{Whole};
-ghost use Rattle.check_heads.specs.Places.{Counted};
-ghost use Rattle.check_form.specs.Form.{listedRep, blocksOk, Width, body, levelOk, Over, Fits, TellsForm};
+ghost use Rattle.check_heads.specs.Places.{Scoped};
+ghost use Rattle.check_form.specs.Form.{listedRep, blocksOk, Width, body, levelOk, LevelOver, Spans, TellsForm};
 use conditions::size::Orders;
 use level::Listed;
 use seek::Scope;
 
 // How long the block from column o is, over a level i of `low` representations, looked for near a line, and 0 where it is none.
 fn block(words: &[u32], s: Scope, i: u32, low: usize, near: usize, d: Listed, o: u32) -> u32
-    requires { ⌜ Over s (now words) i low × (8 * (lineIn d 0 + d .deg) ≤ length (now words)) × (o < d .deg) ⌝ }
+    requires { ⌜ LevelOver s (now words) i low × (8 * (lineIn d 0 + d .deg) ≤ length (now words)) × (o < d .deg) ⌝ }
     ensures { λ x. ⌜ Width (levelAt (s .gens) (now (words .entry)) i) (listedRep (now (words .entry)) d) o x ⌝ }
 {
     let at = level::matrix_line(d, 0) + level::up(o);
@@ -40,7 +40,7 @@ fn block(words: &[u32], s: Scope, i: u32, low: usize, near: usize, d: Listed, o:
 
 // The blocks of a representation are whole, from column 0 on.
 fn blocks_ok(words: &[u32], s: Scope, i: u32, low: usize, near: usize, d: Listed) -> bool
-    requires { ⌜ Over s (now words) i low × (8 * (lineIn d 0 + d .deg) ≤ length (now words)) ⌝ }
+    requires { ⌜ LevelOver s (now words) i low × (8 * (lineIn d 0 + d .deg) ≤ length (now words)) ⌝ }
     ensures { λ b. ⌜ b ≡ blocksOk (levelAt (s .gens) (now (words .entry)) i) (listedRep (now (words .entry)) d) ⌝ }
 {
     let mut o: u32 = 0;
@@ -57,7 +57,7 @@ fn blocks_ok(words: &[u32], s: Scope, i: u32, low: usize, near: usize, d: Listed
 // Matrices, blocks and targets of a representation of the level above level i; they have `many` and `low`, the latter looked for
 // near a line.
 fn rep_ok(words: &[u32], s: Scope, i: u32, low: usize, many: usize, near: usize, d: Listed) -> bool
-    requires { ⌜ Over s (now words) i low × Over s (now words) (suc i) many × Fits s (now words) d ⌝ }
+    requires { ⌜ LevelOver s (now words) i low × LevelOver s (now words) (suc i) many × Spans s (now words) d ⌝ }
     ensures { λ b. ⌜ b ≡ body (s .gens) (s .m) (now (words .entry)) i (listedRep (now (words .entry)) d) ⌝ }
 {
     if !check_lines::matrices_ok(words, d, s.gens, s.m) {
@@ -74,7 +74,7 @@ fn rep_ok(words: &[u32], s: Scope, i: u32, low: usize, many: usize, near: usize,
 
 // Those of every representation of the level.
 fn level_ok(words: &[u32], s: Scope, i: u32, low: usize, many: usize) -> bool
-    requires { ⌜ Over s (now words) i low × Over s (now words) (suc i) many ⌝ }
+    requires { ⌜ LevelOver s (now words) i low × LevelOver s (now words) (suc i) many ⌝ }
     ensures { λ b. ⌜ b ≡ levelOk (s .gens) (s .m) (now (words .entry)) i ⌝ }
 {
     let last = many - 1;
@@ -111,7 +111,7 @@ fn levels_ok(words: &[u32], s: Scope) -> bool
 
 // The words are a well-formed table of a presentation with these orders of levels: 21 does not apply.
 pub fn well_formed(words: &[u32], orders: &Orders, s: Scope) -> bool
-    requires { ⌜ Counted s (now words) ⌝ }
+    requires { ⌜ Scoped s (now words) ⌝ }
     ensures { λ r. ⌜ TellsForm s (now (orders .entry)) (now (words .entry)) r ⌝ }
 {
     if !check_heads::heads(words, orders, s) {

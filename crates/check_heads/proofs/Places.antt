@@ -9,13 +9,16 @@
 --   first-stays, other-stays, next-turns      the level of a place
 --   Stepped                        a place that the walk has come to
 --   stepped-none, stepped-more, stepped-inside, stepped-forth      the steps of the walk
+--   opened-stepped                 the walk over representations of level 1 and degree 1
+--   opened-none                    none of them
 --   stepped-fails, stepped-short, stepped-all, uneven      how it ends
 use mathlib.Core.Path.{_≡_, refl, sym, _∙_, ap, ap₂, subst}
 use mathlib.Core.Bool.{Bool, true, false, _&&_, false≢true}
 use mathlib.Core.List.{List}
-use Prim.Native.Nat.{ℕ, suc, _+_, _*_, _-_, _/_, _%_, _≤_, _<_}
-use native.Mathlib.Nat.{mul-pos, mul-le-mul}
+use Prim.Native.Nat.{ℕ, zero, suc, _+_, _*_, _-_, _/_, _%_, _≤_, _<_}
+use native.Mathlib.Nat.{mul-pos, mul-le-mul, mul-le-mul-right}
 use native.Mathlib.Numerals.{add-one}
+use native.Mathlib.Decide.{ℕ-discrete}
 use native.Mathlib.Omega.{arith}
 use lib.Dec.{eqb, leb, ltb}
 use lib.ListN.{length}
@@ -24,6 +27,7 @@ use Rattle.definitions.specs.Lists.{allBelow}
 use Rattle.definitions.specs.Presentation.{maxGenerators, lineWords}
 use Rattle.definitions.specs.Table.{LEVEL, REP, DEG, GEN, COL, wordAt, lineCount}
 use Rattle.numbers.proofs.Bools.{and-left, and-right, and-intro, same-test, refuted}
+use Rattle.numbers.proofs.Lists.{allBelow-intro}
 use Rattle.heads.specs.Walk.{headIs, matrixHeads, begins, nextLevel, nextRep, repHeads, stepOk, walkFrom, headsOk}
 use Rattle.heads.proofs.Walk.{head-is, is-head, Passing, begins-yes, begins-no, step-kept}
 use Rattle.heads.proofs.Going.{Walking, going-none, going-more, going-fails, going-ends}
@@ -32,11 +36,11 @@ use Rattle.level.specs.Stored.{lineIn, listedIn}
 use Rattle.seek.specs.declared.Scope.{Scope}
 use Rattle.seek.proofs.Halves.{lines-there}
 use Rattle.check_heads.specs.declared.Place.{Place}
-use Rattle.check_heads.specs.Places.{Counted, turnedTo, behind, Inside, sizeOk, placeOk}
+use Rattle.check_heads.specs.Places.{Scoped, turnedTo, behind, InsideTable, sizeOk, placeOk, Opened}
 
 -- ---- Lines
 
-pub counted : (s : Scope) (T : List ℕ) → s .lines ≡ length T / 8 → 0 < s .gens → s .gens ≤ maxGenerators → Counted s T
+pub counted : (s : Scope) (T : List ℕ) → s .lines ≡ length T / 8 → 0 < s .gens → s .gens ≤ maxGenerators → Scoped s T
 unfolding lineCount lineWords
 counted s T e a b = record { lines-are = e; some = a; few = b }
 
@@ -207,8 +211,8 @@ module _ (n : ℕ) (T : List ℕ) (ord : ℕ → ℕ) where
       kept : Passing n T ord (p .line) (nextLevel T (p .line) (p .level) (p .rep)) (nextRep T (p .line) (p .level) (p .rep))
       kept = step-kept n T ord (p .line) (p .level) (p .rep) (step-is ∙ ok)
 
-      pub stepped-inside : Inside n T t
-      stepped-inside = subst (Inside n T) (sym turns) (record {
+      pub stepped-inside : InsideTable n T t
+      stepped-inside = subst (InsideTable n T) (sym turns) (record {
         here = more;
         room = kept .heads .inside;
         reps = omega (arith, S .reps, fewer (p .line) (p .level) (p .rep));
@@ -243,3 +247,64 @@ module _ (n : ℕ) (T : List ℕ) (ord : ℕ → ℕ) where
 
     pub stepped-all : p .level ≡ n → ltb 0 (p .rep) ≡ headsOk n T ord
     stepped-all h = sym (ends-is ∙ ap (λ t. t && ltb 0 (p .rep)) (eq-eqb (p .level) n h))
+
+-- ---- Representations of level 1 and degree 1
+
+pub opened-none : (s : Scope) (ord : ℕ → ℕ) (T : List ℕ) → Opened s ord T 0
+opened-none s ord T = record { room = omega arith; order = λ l. absurd (omega arith); heads = λ r g l. absurd (omega arith) }
+
+module _ {s : Scope} {ord : ℕ → ℕ} {T : List ℕ} {k : ℕ} (some : 0 < s .gens) (O : Opened s ord T k) where
+  abbrev n : ℕ
+  n = s .gens
+
+  -- the place of representation r
+  abbrev at : ℕ → Place
+  at r = record { line = r * n; level = 1; rep = r }
+
+  module _ (r : ℕ) (l : r < k) where
+    start : r * n ≡ r * n + 0
+    start = omega arith
+
+    first : headIs T (r * n) 1 r 1 0 0 ≡ true
+    first = subst (λ a. headIs T a 1 r 1 0 0 ≡ true) (sym start) (O .heads r 0 l some)
+
+    degree : wordAt T (r * n) DEG ≡ 1
+    degree = head-is T (r * n) 1 r 1 0 0 first .deg
+
+    level-one : wordAt T (r * n) LEVEL ≡ 1
+    level-one = head-is T (r * n) 1 r 1 0 0 first .level
+
+    room : r * n + n ≤ lineCount T
+    room = let e : suc r * n ≤ k * n = mul-le-mul-right {m = suc r} {n = k} n l in omega (arith, O .room, e)
+
+    stays-there : at r ≡ turnedTo T (at r)
+    stays-there = go (ℕ-discrete r 0)
+      where
+        go : Dec (r ≡ 0) → at r ≡ turnedTo T (at r)
+        go (yes e) = first-stays T (at r) e
+        go (no e) = other-stays T (at r) e (λ q. omega (arith, q, level-one))
+
+    lines-there-all : allBelow n (λ g. matrixHeads T (r * n) 1 r 1 g) ≡ true
+    lines-there-all = allBelow-intro n _ (λ g h. sym (single-is T (r * n) 1 r g) ∙ O .heads r g l h)
+
+    place-ok : placeOk n T ord (at r) ≡ true
+    unfolding repHeads
+    place-ok =
+        let a = ltb 0 (wordAt T (r * n) DEG) in
+        subst (λ d. (leb 1 n && (ltb 0 d && leb (d * d) (ord 1) && leb (r * n + n * d) (lineCount T) && allBelow n (λ g. matrixHeads T (r * n) 1 r d g))) ≡ true)
+        (sym degree)
+        (and-intro _ _ (le-leb 1 n some)
+        (and-intro _ _ (and-intro _ _ (and-intro _ _ (lt-ltb 0 1 (omega arith)) (le-leb 1 (ord 1) (O .order (omega arith))))
+        (le-leb (r * n + n * 1) (lineCount T) (omega (arith, room)))) lines-there-all))
+
+  opened-up : (r : ℕ) → r ≤ k → Stepped n T ord (at r)
+  opened-up zero l = let e : 0 ≡ 0 * n = omega arith in
+      subst (λ x. Stepped n T ord (record { line = x; level = 1; rep = 0 })) e (stepped-none n T ord some)
+  opened-up (suc r) l =
+      let e : suc r * n ≡ r * n + n * wordAt T (r * n) DEG = omega (arith, ap (λ d. n * d) (degree r l)) in
+      let more : r * n < lineCount T = omega (arith, room r l, some) in
+      stepped-more n T ord (at r) (at r) (opened-up r (omega arith)) more (stays-there r l) (place-ok r l) some (at (suc r))
+      (ap (λ x. record { line = x; level = 1; rep = suc r }) e)
+
+  pub opened-stepped : Stepped (s .gens) T ord (record { line = k * s .gens; level = 1; rep = k })
+  opened-stepped = opened-up k (omega arith)

@@ -8,7 +8,7 @@
 //   size_ok          whether a level and a degree are possible, and their lines are there
 //   place_ok         whether a representation stands at a place
 //   turned, onward   the level of a place, and the place behind a representation
-//   heads            the whole walk
+//   heads_behind, heads     the walk behind representations of level 1 and degree 1, and the whole walk
 ghost use mathlib.Core.Path.{_≡_};
 ghost use Prim.Native.Nat.{ℕ, _+_, _*_, _≤_, _<_};
 ghost use lib.ListN.{length};
@@ -16,7 +16,7 @@ ghost use Rattle.definitions.specs.Lists.{allBelow};
 ghost use Rattle.definitions.specs.Presentation.{maxGenerators};
 ghost use Rattle.heads.specs.Walk.{headIs, matrixHeads, headsOk};
 ghost use Rattle.level.specs.Stored.{lineIn};
-ghost use Rattle.check_heads.specs.Places.{ordersIn, Counted, turnedTo, behind, Inside, sizeOk, placeOk};
+ghost use Rattle.check_heads.specs.Places.{ordersIn, Scoped, turnedTo, behind, InsideTable, sizeOk, placeOk, Opened};
 use conditions::size::Orders;
 use level::Listed;
 use seek::Scope;
@@ -123,7 +123,7 @@ fn size_ok(orders: &Orders, s: Scope, p: Place, d: u32) -> bool
 
 // The lines of a representation stand at a place.
 fn place_ok(words: &[u32], orders: &Orders, s: Scope, p: Place) -> bool
-    requires { ⌜ Counted s (now words) × (p .line < s .lines) ⌝ }
+    requires { ⌜ Scoped s (now words) × (p .line < s .lines) ⌝ }
     ensures { λ r. ⌜ r ≡ placeOk (s .gens) (now (words .entry)) (ordersIn (now (orders .entry))) p ⌝ }
 {
     let d = level::representation(words, p.line);
@@ -154,7 +154,7 @@ fn turned(words: &[u32], p: Place) -> Place
 
 // The place behind the representation at a place.
 fn onward(words: &[u32], s: Scope, p: Place) -> Place
-    requires { ⌜ Inside (s .gens) (now words) p ⌝ }
+    requires { ⌜ InsideTable (s .gens) (now words) p ⌝ }
     ensures { λ t. ⌜ t ≡ behind (s .gens) (now (words .entry)) p ⌝ }
 {
     let d = level::representation(words, p.line);
@@ -165,18 +165,19 @@ fn onward(words: &[u32], s: Scope, p: Place) -> Place
     }
 }
 
-// The heads of all lines are those of a complete table with possible degrees.
-pub fn heads(words: &[u32], orders: &Orders, s: Scope) -> bool
-    requires { ⌜ Counted s (now words) ⌝ }
+// The heads of all lines are those of a complete table with possible degrees, where those of the first k representations are: these
+// are of level 1 and of degree 1.
+pub fn heads_behind(words: &[u32], orders: &Orders, s: Scope, k: usize) -> bool
+    requires { ⌜ Scoped s (now words) × Opened s (ordersIn (now orders)) (now words) k ⌝ }
     ensures { λ r. ⌜ r ≡ headsOk (s .gens) (now (words .entry)) (ordersIn (now (orders .entry))) ⌝ }
 {
     if words.len() % 8 != 0 {
         return false;
     }
     let mut p = Place {
-        line: 0,
+        line: k * level::up(s.gens),
         level: 1,
-        rep: 0,
+        rep: k,
     };
     while p.line < s.lines {
         let t = turned(words, p);
@@ -189,4 +190,12 @@ pub fn heads(words: &[u32], orders: &Orders, s: Scope) -> bool
         return false;
     }
     0 < p.rep
+}
+
+// The heads of all lines are those of a complete table with possible degrees.
+pub fn heads(words: &[u32], orders: &Orders, s: Scope) -> bool
+    requires { ⌜ Scoped s (now words) ⌝ }
+    ensures { λ r. ⌜ r ≡ headsOk (s .gens) (now (words .entry)) (ordersIn (now (orders .entry))) ⌝ }
+{
+    heads_behind(words, orders, s, 0)
 }

@@ -28,7 +28,7 @@ use Rattle.numbers.proofs.Blocks.{length-table}
 use Rattle.numbers.proofs.Tested.{Tested}
 use Rattle.level.specs.declared.Listed.{Listed}
 use Rattle.level.specs.Stored.{entryIn, matrixIn, lineIn}
-use Rattle.level.proofs.Laws.{col-matrixIn}
+use Rattle.level.proofs.Columns.{col-matrixIn}
 use Rattle.check_lines.specs.Lines.{refIn, entryOk, RowsBelow, hasRow, refsAre, targetOk}
 
 -- ---- A search

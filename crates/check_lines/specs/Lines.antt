@@ -1,5 +1,6 @@
 -- What refusal 21 asks of lines, each a test.
 --
+--   TwoWords T at k r           r is words k and k + 1 of line `at` as one number
 --   refIn T D g c          what column c of generator g refers to
 --   entryOk m d x          a row below d, and an exponent below m
 --   maxDegree              up to which degree rows are marked
@@ -8,15 +9,20 @@
 --   refsAre T at k x       the k lines from line `at` on refer to x
 --   refsAs T D g           generator g refers as the first one does, column by column
 --   targetOk T D many j    all columns of generator j refer to one number below many
+use mathlib.Core.Path.{_≡_}
 use mathlib.Core.Bool.{Bool, _&&_}
 use mathlib.Core.List.{List}
-use Prim.Native.Nat.{ℕ, _+_, _<_}
+use Prim.Native.Nat.{ℕ, _+_, _*_, _<_}
 use lib.Dec.{eqb, ltb}
 use Rattle.definitions.specs.declared.Entry.{Entry}
 use Rattle.definitions.specs.Lists.{allBelow, anyBelow}
 use Rattle.definitions.specs.Table.{REF, wordAt}
 use Rattle.level.specs.declared.Listed.{Listed}
 use Rattle.level.specs.Stored.{entryIn, lineIn}
+
+pub record TwoWords (T : List ℕ) (at k r : ℕ) : Type 0 where
+  pub is : r ≡ wordAt T at k + wordAt T at (k + 1) * 4294967296
+  pub low : wordAt T at k < 4294967296
 
 abbrev pub refIn : List ℕ → Listed → ℕ → ℕ → ℕ
 refIn T D g c = wordAt T (lineIn D g + c) REF

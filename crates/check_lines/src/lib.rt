@@ -1,7 +1,8 @@
 // What refusal 21 asks of the lines of one representation, without a look at another: its matrices are matrices, the
 // generators of its level have the same references, and each intertwiner has one reference, to a listed representation.
 //
-//   DEGREES                  up to which degree rows are marked
+//   DEGREES, HIGH            up to which degree rows are marked, and what a second word is multiplied by
+//   wide, two_at             two words of a line as one number
 //   entry_ok, entries_ok     rows and exponents in range
 //   has_row, rows_found, rows_marked, rows_ok     every row is there
 //   matrix_ok, matrices_ok   matrices
@@ -16,11 +17,30 @@ ghost use lib.ListN.{length};
 ghost use Rattle.definitions.specs.Lists.{allBelow};
 ghost use Rattle.definitions.specs.Monomial.{valid};
 ghost use Rattle.level.specs.Stored.{entryIn, matrixIn, lineIn, generatorIn};
-ghost use Rattle.check_lines.specs.Lines.{maxDegree, entryOk, RowsBelow, hasRow, refsAre, refsAs, targetOk};
+ghost use Rattle.check_lines.specs.Lines.{TwoWords, maxDegree, entryOk, RowsBelow, hasRow, refsAre, refsAs, targetOk};
 use level::Listed;
 
 // No degree is above it whose square is at most the largest order.
 const DEGREES: usize = 64;
+
+// One more than the largest word.
+pub const HIGH: usize = 4294967296;
+
+pub fn wide(x: u32) -> usize
+    ensures { λ r. ⌜ (r ≡ x) × (r < 4294967296) ⌝ }
+{
+    x as usize
+}
+
+// Two words of a line as one number, so that they are compared at once.
+pub fn two_at(words: &[u32], at: usize, k: usize) -> usize
+    requires { ⌜ (8 * at + 8 ≤ length (now words)) × (k < 7) ⌝ }
+    ensures { λ r. ⌜ TwoWords (now (words .entry)) at k r ⌝ }
+{
+    let a = wide(level::word_at(words, at, k));
+    let b = wide(level::word_at(words, at, k + 1));
+    a + b * HIGH
+}
 
 // Row and exponent of a line are below the degree d and the modulus m.
 fn entry_ok(words: &[u32], at: usize, d: u32, m: u32) -> bool

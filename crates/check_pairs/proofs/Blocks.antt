@@ -23,11 +23,11 @@ use Rattle.separation.proofs.Apart.{is-whole, wide, one-block}
 use Rattle.level.specs.declared.Listed.{Listed}
 use Rattle.level.specs.Stored.{lineIn}
 use Rattle.seek.specs.declared.Scope.{Scope}
-use Rattle.seek.specs.Seek.{Fits}
+use Rattle.seek.specs.Seek.{HasLines}
 use Rattle.seek.specs.Among.{repIn}
 use Rattle.seek.proofs.Seek.{found-fits}
 use Rattle.seek.proofs.Columns.{row-at}
-use Rattle.check_pairs.specs.Pairs.{Placed, differ, ownOf, Refers, widthIn}
+use Rattle.check_pairs.specs.Pairs.{PlacedAt, differ, ownOf, RefersTo, widthIn}
 use Rattle.check_pairs.proofs.Columns.{and-last}
 use Rattle.check_pairs.proofs.Pairs.{placed-positive, placed-whole}
 
@@ -146,7 +146,7 @@ module _ (low : Level) (D : Rep) where
 
 -- ---- A representation in its lines
 
-module _ {s : Scope} {T : List ℕ} {i r : ℕ} {D : Listed} (L : Placed s T i r D) where
+module _ {s : Scope} {T : List ℕ} {i r : ℕ} {D : Listed} (L : PlacedAt s T i r D) where
   abbrev below : Level
   below = levelAt (s .gens) T i
 
@@ -164,9 +164,9 @@ module _ {s : Scope} {T : List ℕ} {i r : ℕ} {D : Listed} (L : Placed s T i r
     inside = subst (λ d. o < d) (sym degree) l
 
     pub line-there : 8 * (D .line + o) + 8 ≤ length T
-    line-there = let F : Fits T i D = found-fits (L .found) i (L .level) in omega (arith, F .first)
+    line-there = let F : HasLines T i D = found-fits (L .found) i (L .level) in omega (arith, F .first)
 
-    pub line-refers : Refers s T i D o
+    pub line-refers : RefersTo s T i D o
     line-refers = record {
       whole = L .formed .whole;
       level = omega (arith, L .level);
@@ -189,7 +189,7 @@ module _ {s : Scope} {T : List ℕ} {i r : ℕ} {D : Listed} (L : Placed s T i r
   line-all p S l = walked-all below (repIn T D) (placed-positive L) (placed-whole L) p S (omega (arith, degree))
 
   -- the words that are read
-  pub line-first : Refers s T i D 0
+  pub line-first : RefersTo s T i D 0
   line-first = line-refers line-none (L .found .positive)
 
   pub line-narrow : D .deg ≡ 1 → 1 ≡ widthIn s T i D 0

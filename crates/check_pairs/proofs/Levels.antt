@@ -30,8 +30,8 @@ use Rattle.separation.specs.Decision.{blockCount, outside, own, apart, pairwise
 use Rattle.separation.proofs.Own.{own-refs}
 use Rattle.seek.specs.Among.{repIn}
 use Rattle.claims.specs.Claims.{Unshared}
-use Rattle.check_pairs.specs.Pairs.{Placed, Later, ownOf, widthIn, EarlierApart, standsIn, PrimeOf, Stands, AllOwn, LevelSeparated}
-use Rattle.check_pairs.specs.Pairs.{PrimesOf, Separated}
+use Rattle.check_pairs.specs.Pairs.{PlacedAt, Later, ownOf, widthIn, EarlierApart, standsIn, PrimeOf, StandsApart, AllOwn, LevelSeparated}
+use Rattle.check_pairs.specs.Pairs.{PrimesOf, AllSeparated}
 use Rattle.seek.proofs.Columns.{first-ref}
 use Rattle.seek.proofs.Seek.{found-above}
 use Rattle.check_pairs.proofs.Claimed.{unshared-pairs}
@@ -40,8 +40,8 @@ use Rattle.check_pairs.proofs.Pairs.{at-count, positive-at, whole-at}
 -- ---- One representation
 
 pub found-placed : {P : Presentation} {s : Scope} {T : List ℕ} → Formed P s T → {i r : ℕ} {D : Listed} → i < s .gens
-    → Found (s .gens) T (i + 1) r D → Placed s T i r D
-found-placed {P} F l G = record { P = P; formed = F; level = l; found = found-above G }
+    → Found (s .gens) T (i + 1) r D → PlacedAt s T i r D
+found-placed {P} F l G = record { presented = P; formed = F; level = l; found = found-above G }
 
 module _ {s : Scope} {T : List ℕ} {i r : ℕ} {D : Listed} (l : i < s .gens) (G : Found (s .gens) T (i + 1) r D) where
   own-is : (P : Presentation) → Formed P s T → own P T i r ≡ ownOf (levelAt (P .n) T i) (P .p i) i (repOf (levelAt (P .n) T (suc i)) r)
@@ -59,13 +59,13 @@ module _ {s : Scope} {T : List ℕ} {i r : ℕ} {D : Listed} (l : i < s .gens) (
       ∙ ap (ownOf (levelAt (P .n) T i) (P .p i) i) (sym (H .rep)) ∙ sym (own-is P (F .formed))
 
   module _ {p : ℕ} {b : Bool} (h : b ≡ ownOf (levelAt (s .gens) T i) p i (repIn T D)) where
-    pub stands-fails : b ≡ false → Stands s T i p r false
+    pub stands-fails : b ≡ false → StandsApart s T i p r false
     stands-fails e = record { is = λ P F. sym (ap (λ x. x && allBelow r (λ r′. apart P T i r′ r)) (sym (own-told h P F) ∙ e)) }
 
-    pub stands-rest : b ≡ true → {c : Bool} → EarlierApart s T i r c → Stands s T i p r c
+    pub stands-rest : b ≡ true → {c : Bool} → EarlierApart s T i r c → StandsApart s T i p r c
     stands-rest e t = record { is = λ P F. t .is P (F .formed) ∙ sym (ap (λ x. x && allBelow r (λ r′. apart P T i r′ r)) (sym (own-told h P F) ∙ e)) }
 
-pub placed-later : {s : Scope} {T : List ℕ} {i r : ℕ} {D : Listed} {w : ℕ} → Placed s T i r D → w ≡ widthIn s T i D 0 → Later s T i r (eqb w (D .deg)) D
+pub placed-later : {s : Scope} {T : List ℕ} {i r : ℕ} {D : Listed} {w : ℕ} → PlacedAt s T i r D → w ≡ widthIn s T i D 0 → Later s T i r (eqb w (D .deg)) D
 placed-later {s} {T} {i} {r} {D} L e =
     record { placed = L; one-is = ap (λ x. eqb x (D .deg)) (e ∙ ap (λ x. repOf (levelAt (s .gens) T i) x .deg) (first-ref T D)) }
 
@@ -79,7 +79,7 @@ module _ (s : Scope) (T : List ℕ) (i p : ℕ) where
   unfolding pairwise
   level-is P F = ap₂ (λ n k. allBelow (length (levelAt n T k)) (λ r. standsIn P T i r)) (F .formed .gens-are) (add-one i)
 
-  pub level-fails : {r : ℕ} {b : Bool} → PassingOn r → r < length (levelAt (s .gens) T (i + 1)) → Stands s T i p r b → b ≡ false → LevelSeparated s T i p false
+  pub level-fails : {r : ℕ} {b : Bool} → PassingOn r → r < length (levelAt (s .gens) T (i + 1)) → StandsApart s T i p r b → b ≡ false → LevelSeparated s T i p false
   level-fails h l t e = record { is = λ P F. passed-fails h l (t .is) e P F ∙ level-is P F }
 
   pub level-holds : {r : ℕ} → PassingOn r → length (levelAt (s .gens) T (i + 1)) ≤ r → LevelSeparated s T i p true
@@ -126,8 +126,8 @@ module _ (s : Scope) (primes T : List ℕ) where
     pub table-more : PassingUpTo i → b ≡ true → PassingUpTo (i + 1)
     table-more h e = passed-more h (λ P F. t .is P (prime-at i p l is P F)) e
 
-    pub table-fails : PassingUpTo i → b ≡ false → Separated s primes T false
+    pub table-fails : PassingUpTo i → b ≡ false → AllSeparated s primes T false
     table-fails h e = record { is = λ P F. passed-fails h l (λ P F. t .is P (prime-at i p l is P F)) e P F ∙ all-levels P F }
 
-  pub table-holds : {i : ℕ} → PassingUpTo i → s .gens ≤ i → Separated s primes T true
+  pub table-holds : {i : ℕ} → PassingUpTo i → s .gens ≤ i → AllSeparated s primes T true
   table-holds h l = record { is = λ P F. passed-all h l P F ∙ all-levels P F }

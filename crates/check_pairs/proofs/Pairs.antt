@@ -33,7 +33,7 @@ use Rattle.separation.specs.Decision.{reference, apart}
 use Rattle.separation.specs.Apart.{apartAt}
 use Rattle.separation.proofs.Apart.{apart-columns}
 use Rattle.seek.specs.Among.{repIn}
-use Rattle.check_pairs.specs.Pairs.{oneBlock, Placed, Later}
+use Rattle.check_pairs.specs.Pairs.{oneBlock, PlacedAt, Later}
 
 pub level-positive : (s : Scope) (T : List ℕ) → Whole s T → (i : ℕ) → i ≤ s .gens → (r : ℕ) → r < length (levelAt (s .gens) T i)
     → 0 < repOf (levelAt (s .gens) T i) r .deg
@@ -72,7 +72,7 @@ module _ {P : Presentation} {s : Scope} {T : List ℕ} (F : Formed P s T) (i : �
 
 -- ---- One of a level, in its lines
 
-module _ {s : Scope} {T : List ℕ} {i r : ℕ} {D : Listed} (L : Placed s T i r D) where
+module _ {s : Scope} {T : List ℕ} {i r : ℕ} {D : Listed} (L : PlacedAt s T i r D) where
   pub placed-positive : (q : ℕ) → q < length (levelAt (s .gens) T i) → 0 < repOf (levelAt (s .gens) T i) q .deg
   placed-positive = level-positive s T (L .formed .whole) i (omega (arith, L .level))
 
@@ -80,7 +80,7 @@ module _ {s : Scope} {T : List ℕ} {i r : ℕ} {D : Listed} (L : Placed s T i r
   placed-whole =
       let G = at-count (L .formed) i (L .level) (L .found) in
       subst (λ n. all (wholeBlock (levelAt n T i) (repIn T D)) (cuts (levelAt n T i) (repIn T D)) ≡ true) (sym (L .formed .gens-are))
-      (subst (λ (R : Rep). all (wholeBlock (levelAt (L .P .n) T i) R) (cuts (levelAt (L .P .n) T i) R) ≡ true) (G .rep)
+      (subst (λ (R : Rep). all (wholeBlock (levelAt (L .presented .n) T i) R) (cuts (levelAt (L .presented .n) T i) R) ≡ true) (G .rep)
       (whole-at (L .formed) i (L .level) r (G .listed)))
 
 -- ---- All before one

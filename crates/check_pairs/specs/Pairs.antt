@@ -3,15 +3,15 @@
 --   otherRef T line x c    column c of the representation at a line has a reference other than x
 --   likeIn T one D E    `one`, and both have one degree and one first reference
 --   oneBlock n T i E   E, of the level above level i, is one block
---   Placed s T i r D   D is representation r of the level above level i of a well-formed table
+--   PlacedAt s T i r D   D is representation r of the level above level i of a well-formed table
 --   Later s T i r one E      and `one` says whether it is one block
 --   differ low p D     D has p blocks, with references of their own
 --   ownOf low p i D    D is one block, or has p blocks that generator i moves, with references of their own
---   Refers s T i D o, widthIn      column o of D refers to a representation of level i, and its degree
+--   RefersTo s T i D o, widthIn      column o of D refers to a representation of level i, and its degree
 --   EarlierApart s T i r b     b says whether all representations before r are apart from it
---   Stands, LevelSeparated     and of r with those before it, and of a level, where p is the prime of generator i (PrimeOf, TellsAt)
+--   StandsApart, LevelSeparated     and of r with those before it, and of a level, where p is the prime of generator i (PrimeOf, TellsAt)
 --   AllOwn                     and whether each representation of a level owns its blocks
---   PrimesOf, Separated        and of all levels, by the primes of all generators
+--   PrimesOf, AllSeparated        and of all levels, by the primes of all generators
 use mathlib.Core.Path.{_≡_}
 use mathlib.Core.Bool.{Bool, _&&_, _||_, not}
 use mathlib.Core.List.{List}
@@ -40,14 +40,14 @@ likeIn T one D E = one && eqb (D .deg) (E .deg) && eqb (wordAt T (D .line) REF) 
 abbrev pub oneBlock : ℕ → List ℕ → ℕ → Listed → Bool
 oneBlock n T i E = eqb (repOf (levelAt n T i) (wordAt T (E .line) REF) .deg) (E .deg)
 
-pub record Placed (s : Scope) (T : List ℕ) (i r : ℕ) (D : Listed) : Type 0 where
-  pub P : Presentation
-  pub formed : Formed P s T
+pub record PlacedAt (s : Scope) (T : List ℕ) (i r : ℕ) (D : Listed) : Type 0 where
+  pub presented : Presentation
+  pub formed : Formed presented s T
   pub level : i < s .gens
   pub found : Found (s .gens) T (suc i) r D
 
 pub record Later (s : Scope) (T : List ℕ) (i r : ℕ) (one : Bool) (E : Listed) : Type 0 where
-  pub placed : Placed s T i r E
+  pub placed : PlacedAt s T i r E
   pub one-is : one ≡ oneBlock (s .gens) T i E
 
 -- ---- One representation
@@ -61,7 +61,7 @@ ownOf low p i D =
     || (eqb (length (cuts low D)) p && leb (repOf low (D .ref 0 0) .deg) (col (D .matrix i) 0 .row) && all (fresh D) (cuts low D))
 
 -- column o of D refers to a representation of level i
-pub record Refers (s : Scope) (T : List ℕ) (i : ℕ) (D : Listed) (o : ℕ) : Type 0 where
+pub record RefersTo (s : Scope) (T : List ℕ) (i : ℕ) (D : Listed) (o : ℕ) : Type 0 where
   pub whole : Whole s T
   pub level : i ≤ s .gens
   pub there : 8 * (D .line + o) + 8 ≤ length T
@@ -86,8 +86,8 @@ pub record PrimeOf (s : Scope) (T : List ℕ) (i p : ℕ) (P : Presentation) : T
 pub record TellsAt (s : Scope) (T : List ℕ) (i p : ℕ) (q : Presentation → Bool) (b : Bool) : Type 0 where
   pub is : (P : Presentation) → PrimeOf s T i p P → b ≡ q P
 
-abbrev pub Stands : Scope → List ℕ → (i p r : ℕ) → Bool → Type 0
-Stands s T i p r b = TellsAt s T i p (λ P. standsIn P T i r) b
+abbrev pub StandsApart : Scope → List ℕ → (i p r : ℕ) → Bool → Type 0
+StandsApart s T i p r b = TellsAt s T i p (λ P. standsIn P T i r) b
 
 abbrev pub AllOwn : Scope → List ℕ → (i p : ℕ) → Bool → Type 0
 AllOwn s T i p b = TellsAt s T i p (λ P. allBelow (length (levelAt (P .n) T (suc i))) (own P T i)) b
@@ -99,5 +99,5 @@ pub record PrimesOf (s : Scope) (primes T : List ℕ) (P : Presentation) : Type 
   pub formed : Formed P s T
   pub prime : (k : ℕ) → k < s .gens → getD primes k 0 ≡ P .p k
 
-pub record Separated (s : Scope) (primes T : List ℕ) (b : Bool) : Type 0 where
+pub record AllSeparated (s : Scope) (primes T : List ℕ) (b : Bool) : Type 0 where
   pub is : (P : Presentation) → PrimesOf s primes T P → b ≡ allBelow (P .n) (pairwise P T)

@@ -16,10 +16,10 @@ ghost use Rattle.definitions.specs.Presentation.{Presentation};
 ghost use Rattle.definitions.specs.Table.{levelAt};
 ghost use Rattle.seek.specs.Formed.{Formed};
 ghost use Rattle.separation.specs.Apart.{commonFree, fresh, apartAt};
-ghost use Rattle.seek.specs.Seek.{Fits};
+ghost use Rattle.seek.specs.Seek.{HasLines};
 ghost use Rattle.seek.specs.Among.{repIn};
-ghost use Rattle.check_pairs.specs.Pairs.{otherRef, likeIn, Placed, Later, differ, ownOf, Refers, widthIn};
-ghost use Rattle.check_pairs.specs.Pairs.{EarlierApart, Stands, AllOwn, LevelSeparated, Separated};
+ghost use Rattle.check_pairs.specs.Pairs.{otherRef, likeIn, PlacedAt, Later, differ, ownOf, RefersTo, widthIn};
+ghost use Rattle.check_pairs.specs.Pairs.{EarlierApart, StandsApart, AllOwn, LevelSeparated, AllSeparated};
 use level::Listed;
 use rows::Row;
 use seek::Scope;
@@ -70,7 +70,7 @@ fn alike(words: &[u32], one: bool, d: Listed, e: Listed) -> bool
 
 // What tells d and e apart, on the level whose generator on top is i; `one` says that e is one block.
 fn apart(words: &[u32], i: u32, one: bool, d: Listed, e: Listed) -> bool
-    requires { ⌜ Fits (now words) i d × Fits (now words) i e ⌝ }
+    requires { ⌜ HasLines (now words) i d × HasLines (now words) i e ⌝ }
     ensures { λ r. ⌜ r ≡ apartAt i one (repIn (now (words .entry)) d) (repIn (now (words .entry)) e) ⌝ }
 {
     if !alike(words, one, d, e) {
@@ -114,7 +114,7 @@ fn fresh_at(words: &[u32], d: Listed, o: u32) -> bool
 
 // The degree of the representation of level i to which column o of d refers, looked for near a line.
 fn width(words: &[u32], s: Scope, i: u32, near: usize, d: Listed, o: u32) -> u32
-    requires { ⌜ Refers s (now words) i d o ⌝ }
+    requires { ⌜ RefersTo s (now words) i d o ⌝ }
     ensures { λ r. ⌜ (r ≡ widthIn s (now (words .entry)) i d o) × (0 < r) ⌝ }
 {
     seek::degree_of(
@@ -128,7 +128,7 @@ fn width(words: &[u32], s: Scope, i: u32, near: usize, d: Listed, o: u32) -> u32
 
 // The width of the first block of d, of the level above level i.
 fn first_width(words: &[u32], s: Scope, i: u32, near: usize, d: Listed) -> u32
-    requires { ⌜ ((r : ℕ) × Placed s (now words) i r d) ⌝ }
+    requires { ⌜ ((r : ℕ) × PlacedAt s (now words) i r d) ⌝ }
     ensures { λ r. ⌜ (r ≡ widthIn s (now (words .entry)) i d 0) × (0 < r) ⌝ }
 {
     if d.deg == 1 {
@@ -139,7 +139,7 @@ fn first_width(words: &[u32], s: Scope, i: u32, near: usize, d: Listed) -> u32
 
 // d, of the level above level i, has p blocks, with references of their own.
 fn blocks_differ(words: &[u32], s: Scope, i: u32, p: u32, near: usize, d: Listed) -> bool
-    requires { ⌜ ((r : ℕ) × Placed s (now words) i r d) ⌝ }
+    requires { ⌜ ((r : ℕ) × PlacedAt s (now words) i r d) ⌝ }
     ensures { λ r. ⌜ r ≡ differ (levelAt (s .gens) (now (words .entry)) i) p (repIn (now (words .entry)) d) ⌝ }
 {
     let deg = d.deg;
@@ -157,7 +157,7 @@ fn blocks_differ(words: &[u32], s: Scope, i: u32, p: u32, near: usize, d: Listed
 
 // d, of the level above level i, is one block, or has p blocks that generator i moves, with references of their own.
 fn own(words: &[u32], s: Scope, i: u32, p: u32, near: usize, d: Listed) -> bool
-    requires { ⌜ ((r : ℕ) × Placed s (now words) i r d) ⌝ }
+    requires { ⌜ ((r : ℕ) × PlacedAt s (now words) i r d) ⌝ }
     ensures { λ r. ⌜ r ≡ ownOf (levelAt (s .gens) (now (words .entry)) i) p i (repIn (now (words .entry)) d) ⌝ }
 {
     let deg = d.deg;
@@ -174,7 +174,7 @@ fn own(words: &[u32], s: Scope, i: u32, p: u32, near: usize, d: Listed) -> bool
 // Representation r of the level above level i, where p is the prime of generator i: its blocks, and all before it apart from it.
 fn stands_apart(words: &[u32], s: Scope, i: u32, p: u32, near: usize, r: usize) -> bool
     requires { ⌜ ((P : Presentation) × Formed P s (now words)) × (i < s .gens) × (r < length (levelAt (s .gens) (now words) (i + 1))) ⌝ }
-    ensures { λ b. ⌜ Stands s (now (words .entry)) i p r b ⌝ }
+    ensures { λ b. ⌜ StandsApart s (now (words .entry)) i p r b ⌝ }
 {
     let e = seek::found(words, s, i + 1, r);
     if !own(words, s, i, p, near, e) {
@@ -234,7 +234,7 @@ fn level_separated(words: &[u32], s: Scope, i: u32, p: u32) -> bool
 // Whether the representations of every level are apart: refusal 25 where 21 to 23 do not apply.
 pub fn separated(words: &[u32], primes: &Row, s: Scope) -> bool
     requires { ⌜ ((P : Presentation) × Formed P s (now words)) ⌝ }
-    ensures { λ r. ⌜ Separated s (now (primes .entry)) (now (words .entry)) r ⌝ }
+    ensures { λ r. ⌜ AllSeparated s (now (primes .entry)) (now (words .entry)) r ⌝ }
 {
     let gens = s.gens;
     for i in 0..gens {

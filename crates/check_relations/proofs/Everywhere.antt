@@ -13,14 +13,14 @@ use Rattle.definitions.specs.Monomial.{Rep}
 use Rattle.seek.specs.declared.Scope.{Scope}
 use Rattle.seek.specs.Formed.{Posed}
 use Rattle.seek.specs.Among.{onLevel}
-use Rattle.check_relations.specs.Asked.{Test, OnLevel}
+use Rattle.check_relations.specs.Asked.{RepTest, OnLevel}
 
 abbrev pub Posing : Scope → List (List ℕ) → (primes T : List ℕ) → Presentation → Type 0
 Posing s rows primes T P = Posed P s rows primes T
 
-abbrev pub asks : Test → Scope → List ℕ → Presentation → ℕ → Rep → Bool
+abbrev pub asks : RepTest → Scope → List ℕ → Presentation → ℕ → Rep → Bool
 asks q s T P = q P (s .m) T
 
-pub level-told : (q : Test) (s : Scope) (rows : List (List ℕ)) (primes T : List ℕ) (i : ℕ) {b : Bool} → OnLevel q s rows primes T (i + 1) b
+pub level-told : (q : RepTest) (s : Scope) (rows : List (List ℕ)) (primes T : List ℕ) (i : ℕ) {b : Bool} → OnLevel q s rows primes T (i + 1) b
     → (P : Presentation) → Posing s rows primes T P → b ≡ onLevel (s .gens) T (asks q s T P) (suc i)
 level-told q s rows primes T i t P p = t .is P p ∙ ap (onLevel (s .gens) T (asks q s T P)) (add-one i)

@@ -1,6 +1,6 @@
 -- What is asked of each representation of a table, and what a test of it answers for every presentation that is posed.
 --
---   Test                   a condition on the representations of a level, for a presentation, a modulus and a table
+--   RepTest                   a condition on the representations of a level, for a presentation, a modulus and a table
 --   asked q                the condition that q names
 --   OfRep, OnLevel, Everywhere      r is the answer for one representation, for all of a level, for all of the table
 use mathlib.Core.Bool.{Bool}
@@ -17,15 +17,15 @@ use Rattle.seek.specs.Among.{repIn, onLevel}
 use Rattle.check_relations.specs.declared.Condition.{Condition}
 use Rattle.check_relations.specs.declared.Condition.the-variants.{Top, Every, Intertwine}
 
-abbrev pub Test : Type 0
-Test = Presentation → ℕ → List ℕ → ℕ → Rep → Bool
+abbrev pub RepTest : Type 0
+RepTest = Presentation → ℕ → List ℕ → ℕ → Rep → Bool
 
-unfoldable pub asked : Condition → Test
+unfoldable pub asked : Condition → RepTest
 asked Top P m T i D = topRelations P m T i D
 asked Every P m T i D = relationsHold P m T i D
 asked Intertwine P m T i D = intertwinersHold P m T i D
 
-module _ (q : Test) (s : Scope) (rows : List (List ℕ)) (primes T : List ℕ) where
+module _ (q : RepTest) (s : Scope) (rows : List (List ℕ)) (primes T : List ℕ) where
   abbrev pub OfRep : ℕ → Listed → Bool → Type 0
   OfRep i D r = TellsOf s rows primes T (λ P. q P (s .m) T i (repIn T D)) r
 

@@ -16,18 +16,18 @@ use Rattle.definitions.specs.Judgement.{everywhere, relationFails, relationsHol
 use Rattle.definitions.specs.Answers.{judgement}
 use Rattle.conditions.specs.Size.{LevelOrders}
 use Rattle.clifford.specs.Accepted.{Accepted}
-use Rattle.rows.specs.Rows.{Ready, Reads}
+use Rattle.rows.specs.Rows.{Ranged, Reads}
 use Rattle.separation.specs.Relations.{topRelations}
 use Rattle.separation.specs.Decision.{pairwise}
 use Rattle.separation.proofs.Verdict.{judged-21, judged-22, judged-22-top, judged-23, judged-24, judged-25, judged-26, judged-0}
 use Rattle.seek.specs.declared.Scope.{Scope}
 use Rattle.seek.specs.Formed.{Ordered, Tells, TellsOf}
-use Rattle.check_heads.specs.Places.{Counted}
+use Rattle.check_heads.specs.Places.{Scoped}
 use Rattle.check_heads.proofs.Places.{counted}
 use Rattle.check_form.specs.Form.{TellsForm}
 use Rattle.check_form.proofs.Form as form
 use Rattle.check_blocks.specs.Squares.{AddsUp}
-use Rattle.check_pairs.specs.Pairs.{Separated}
+use Rattle.check_pairs.specs.Pairs.{AllSeparated}
 use Rattle.check_fit.specs.Fit.{Passes}
 use Rattle.checker.specs.Judged.{Task, Judged, Sorted, JudgedFormed}
 
@@ -72,7 +72,7 @@ module _ {s : Scope} {rows : List (List ℕ)} {primes orders T : List ℕ} where
           is = λ A S. sym (judged-24 A (s .m) (S .posed .formed .modulus .0) T (formed-of A S) (acts-is A S ∙ r) (top-is A S ∙ t) (twine-is A S ∙ e));
         }
 
-        module _ (w : twine ≡ true) (apart : Bool) (pairs : Separated s primes T apart) where
+        module _ (w : twine ≡ true) (apart : Bool) (pairs : AllSeparated s primes T apart) where
           apart-is : (A : Accepted) → Sorted A s rows primes orders T → allBelow (A .C .P .n) (pairwise (A .C .P) T) ≡ apart
           apart-is A S = sym (pairs .is (A .C .P) (record { formed = S .posed .formed; prime = S .posed .reads .p-is }))
 
@@ -100,7 +100,7 @@ module _ {s : Scope} {rows : List (List ℕ)} {primes orders T : List ℕ} where
 
 module _ (T : List ℕ) {n m : ℕ} {rows : List (List ℕ)} {primes : List ℕ} (s : Scope) (lines : s .lines ≡ length T / 8) (gens : s .gens ≡ n) (modulus : s .m ≡ m)
   where
-    pub counted-of : (A : Accepted) → Task A n m rows primes → Counted s T
+    pub counted-of : (A : Accepted) → Task A n m rows primes → Scoped s T
     counted-of A K = counted s T lines (omega (arith, gens, K .gens-are, A .positive)) (omega (arith, gens, K .ready .few))
 
     module _ {orders : List ℕ} (levels : LevelOrders primes n orders) where
@@ -131,7 +131,7 @@ module _ (T : List ℕ) {n m : ℕ} {rows : List (List ℕ)} {primes : List ℕ}
         sorted-of A K = record {
           posed = record {
             formed = form.formed s orders T (counted-of A K) (A .C .P) (form-ordered A K) (subst (λ m. (0 < m) × (m ≤ maxModulus)) (sym modulus) (K .modulus)) F;
-            ready = subst (λ k. Ready k primes rows) (sym gens) (K .ready);
+            ready = subst (λ k. Ranged k primes rows) (sym gens) (K .ready);
             reads = subst (λ k. Reads (A .C .P) k primes rows) (sym gens) (K .reads);
           };
           ordered = form-ordered A K;

@@ -11,7 +11,7 @@ use mathlib.Core.List.{List}
 use Prim.Native.Nat.{ℕ, _≤_, _<_}
 use Rattle.definitions.specs.Presentation.{maxOrder, maxModulus}
 use Rattle.definitions.specs.Answers.{judgement}
-use Rattle.rows.specs.Rows.{Ready, Reads}
+use Rattle.rows.specs.Rows.{Ranged, Reads}
 use Rattle.conditions.specs.Conditions.{product}
 use Rattle.clifford.specs.Accepted.{Accepted}
 use Rattle.seek.specs.declared.Scope.{Scope}
@@ -20,7 +20,7 @@ use Rattle.seek.specs.Formed.{Ordered, Posed}
 pub record Task (A : Accepted) (n m : ℕ) (rows : List (List ℕ)) (primes : List ℕ) : Type 0 where
   pub gens-are : n ≡ A .C .P .n
   pub modulus : (0 < m) × (m ≤ maxModulus)
-  pub ready : Ready n primes rows
+  pub ready : Ranged n primes rows
   pub reads : Reads (A .C .P) n primes rows
   pub orders-fit : (j : ℕ) → j ≤ n → product primes j ≤ maxOrder
 

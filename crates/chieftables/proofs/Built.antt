@@ -27,7 +27,7 @@ use Rattle.definitions.proofs.Refusals.{first-refused, first-behind, accept-unr
 use Rattle.definitions.proofs.Rendering.{says-unique}
 use Rattle.numbers.proofs.Sums.{sum-below}
 use Rattle.group.proofs.Order.{order-positive}
-use Rattle.presentation.specs.declared.Presentation.{Presentation}
+use Rattle.presentation.specs.declared.ReadPresentation.{ReadPresentation}
 use Rattle.presentation.specs.declared.Outcome.{Outcome}
 use Rattle.rows.specs.Rows.{Reads}
 use Rattle.conditions.specs.declared.size.Size.{Size}
@@ -38,17 +38,17 @@ use Rattle.text.specs.Writing.{put, Wrote}
 use Rattle.text.proofs.Writing.{wrote-as}
 use Rattle.clifford.specs.Accepted.{Accepted as Group}
 use Rattle.clifford.proofs.Theorem.{accepted, accepted-is}
-use Rattle.assembly.specs.Built.{upTo, Small}
-use Rattle.assembly.proofs.Room.{order-le}
-use Rattle.assembly.proofs.Stated.{small, reads-accepted, table-of}
+use Rattle.levels.specs.Built.{upTo, WithinCeilings}
+use Rattle.levels.proofs.Room.{order-le}
+use Rattle.levels.proofs.Stated.{small, reads-accepted, table-of}
 use Rattle.levels.specs.Given.{Given}
 use Rattle.consistency.proofs.Relations.{reads-ready}
 use Rattle.checker.specs.Judged.{Task, Judged}
-use Rattle.chieftables.specs.Accepted.{Sound, Accepted}
-use Rattle.chieftables.specs.Tabled.{Room, Table, Tabled, Sized}
-use Rattle.chieftables.proofs.Accepted.{reads-held}
+use Rattle.acceptance.specs.Accepted.{Confirmed, AcceptedText}
+use Rattle.chieftables.specs.Tabled.{RoomFor, Table, Tabled, Sized}
+use Rattle.acceptance.proofs.Answered.{reads-held}
 
-pub build-refused : {t : Bytes} {o : Outcome} (before : List ℕ) → Accepted t o → ¬ (o .status ≡ 0) → Build t before (o .status) 0 before
+pub build-refused : {t : Bytes} {o : Outcome} (before : List ℕ) → AcceptedText t o → ¬ (o .status ≡ 0) → Build t before (o .status) 0 before
 build-refused {t} {o} before a h = record {
   answered = first-refused (short t (length before)) (o .status) (presentationRefusals t) (a .answered) h;
   leaves = record { finished = λ z. absurd (h z); refused = λ n. (refl, refl) };
@@ -56,14 +56,14 @@ build-refused {t} {o} before a h = record {
 
 -- ---- The size of a sound presentation
 
-module _ {R : Relations} {P : Presentation} (S : Sound R P) where
+module _ {R : Relations} {P : ReadPresentation} (S : Confirmed R P) where
   abbrev A : Group
   A = accepted R (S .passed .formed) (S .passed .primes) (S .passed .used) (S .consistent)
 
   same : A .C .P ≡ presentation R
   same = accepted-is R (S .passed .formed) (S .passed .primes) (S .passed .used) (S .consistent)
 
-  is-small : Small A
+  is-small : WithinCeilings A
   is-small = small R (S .passed .formed) (S .passed .primes) (S .passed .used) (S .consistent) (S .passed .fits)
 
   count-of : P .n ≡ A .C .P .n
@@ -91,7 +91,7 @@ module _ {R : Relations} {P : Presentation} (S : Sound R P) where
         ∙ ap (λ x. lineWords * (P .n * x)) (sum-below (P .n) _ (λ i. order (presentation R) (suc i)) (λ i l. product-is (suc i) l))
         ∙ ap (λ x. lineWords * (x * sum x (λ i. order (presentation R) (suc i)))) (S .passed .held .count)
 
-    pub room-of : (have : ℕ) → s .words ≤ have → Room R P (s .order) have
+    pub room-of : (have : ℕ) → s .words ≤ have → RoomFor R P (s .order) have
     room-of have l = record { sound = S; order-is = size-order; enough = subst (λ x. x ≤ have) size-words l }
 
     -- ---- Judging a table
@@ -120,7 +120,7 @@ module _ {R : Relations} {P : Presentation} (S : Sound R P) where
 
 -- ---- The levels
 
-module _ {R : Relations} {P : Presentation} {m have : ℕ} (Q : Room R P m have) where
+module _ {R : Relations} {P : ReadPresentation} {m have : ℕ} (Q : RoomFor R P m have) where
   pub given : {rows : List (List ℕ)} → rows ≡ P .words → Given rows (P .primes) (P .n) m have (A (Q .sound))
   unfolding presentation
   given {rows} e =
@@ -149,7 +149,7 @@ module _ {R : Relations} {P : Presentation} {m have : ℕ} (Q : Room R P m have)
 
 -- ---- 16, or the table
 
-module _ {P : Presentation} {s : Size} (M : Measured (P .primes) (P .n) s) (before : List ℕ) where
+module _ {P : ReadPresentation} {s : Size} (M : Measured (P .primes) (P .n) s) (before : List ℕ) where
   pub sized-short : length before < s .words → Sized P before 16 0 before
   sized-short l = record { short = λ R S b. (refl, refl, refl); done = λ R S b. absurd (omega (arith, size-words S M)) }
 
@@ -161,7 +161,7 @@ module _ {P : Presentation} {s : Size} (M : Measured (P .primes) (P .n) s) (befo
 
 -- ---- The call
 
-pub build-sized : {t : Bytes} {P : Presentation} {before after : List ℕ} {answer count : ℕ} → Accept t 0 → says t (λ (R : Relations). Sound R P)
+pub build-sized : {t : Bytes} {P : ReadPresentation} {before after : List ℕ} {answer count : ℕ} → Accept t 0 → says t (λ (R : Relations). Confirmed R P)
     → Sized P before answer count after → Build t before answer count after
 build-sized {t} {P} {before} {after} {answer} {count} f (R, s, S) z = go (decLt (length before) (buildWords (presentation R)))
   where

@@ -16,21 +16,21 @@ use Rattle.definitions.specs.Presentation.{Relations, buildWords, presentation}
 use Rattle.definitions.specs.Answers.{First, says, presentationRefusals, short, Accept, Measure, Build}
 use Rattle.definitions.proofs.Refusals.{first-rest, accept-unrefused}
 use Rattle.definitions.proofs.Rendering.{says-unique}
-use Rattle.presentation.specs.declared.Presentation.{Presentation}
+use Rattle.presentation.specs.declared.ReadPresentation.{ReadPresentation}
 use Rattle.presentation.specs.declared.Outcome.{Outcome}
 use Rattle.conditions.specs.declared.size.Size.{Size}
 use Rattle.conditions.specs.Size.{Measured}
-use Rattle.chieftables.specs.Accepted.{Sound, Accepted}
+use Rattle.acceptance.specs.Accepted.{Confirmed, AcceptedText}
 use Rattle.chieftables.specs.Tabled.{Wants}
 use Rattle.chieftables.proofs.Built.{size-words}
 
-pub measure-refused : {t : Bytes} {o : Outcome} → Accepted t o → ¬ (o .status ≡ 0) → Measure t (o .status) 0
+pub measure-refused : {t : Bytes} {o : Outcome} → AcceptedText t o → ¬ (o .status ≡ 0) → Measure t (o .status) 0
 measure-refused a h = record { answered = a .answered; leaves = record { finished = λ z. absurd (h z); refused = λ n. (refl, refl) } }
 
-pub wants-of : {P : Presentation} {s : Size} → Measured (P .primes) (P .n) s → Wants P (s .words)
+pub wants-of : {P : ReadPresentation} {s : Size} → Measured (P .primes) (P .n) s → Wants P (s .words)
 wants-of M = record { is = λ R S. size-words S M }
 
-pub measure-wants : {t : Bytes} {P : Presentation} {k : ℕ} → Accept t 0 → says t (λ (R : Relations). Sound R P) → Wants P k → Measure t 0 k
+pub measure-wants : {t : Bytes} {P : ReadPresentation} {k : ℕ} → Accept t 0 → says t (λ (R : Relations). Confirmed R P) → Wants P k → Measure t 0 k
 measure-wants f (R, s, S) W = record { answered = f; leaves = record { finished = λ e. (R, s, W .is R S); refused = λ n. absurd (n refl) } }
 
 -- ---- The build of a text that was measured

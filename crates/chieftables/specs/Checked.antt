@@ -6,8 +6,8 @@ use mathlib.Core.List.{List}
 use Prim.Native.Nat.{ℕ}
 use Rattle.definitions.specs.Presentation.{Relations, order, presentation}
 use Rattle.definitions.specs.Answers.{judgement}
-use Rattle.presentation.specs.declared.Presentation.{Presentation}
-use Rattle.chieftables.specs.Accepted.{Sound}
+use Rattle.presentation.specs.declared.ReadPresentation.{ReadPresentation}
+use Rattle.acceptance.specs.Accepted.{Confirmed}
 
-pub record Checks (P : Presentation) (T : List ℕ) (a : ℕ) : Type 0 where
-  pub is : (R : Relations) → Sound R P → a ≡ judgement (presentation R) (order (presentation R) (presentation R .n)) T
+pub record Checks (P : ReadPresentation) (T : List ℕ) (a : ℕ) : Type 0 where
+  pub is : (R : Relations) → Confirmed R P → a ≡ judgement (presentation R) (order (presentation R) (presentation R .n)) T

@@ -1,4 +1,3 @@
 -- What the functions behind the public calls leave.
-pub mod Accepted
 pub mod Tabled
 pub mod Checked

@@ -3,7 +3,7 @@
 --
 --   SomeSound P                    P is sound for some relations
 --   Wants P k                      a build of P wants k words, for all relations that P is sound for
---   Room R P m have                R is sound, m is its order, and `have` words are as many as its build wants
+--   RoomFor R P m have                R is sound, m is its order, and `have` words are as many as its build wants
 --   SomeRoom P m have              the same for some relations
 --   Table R before count after     the table of R was written from the first word on, and has so many lines
 --   Tabled P m before count after  so for all relations that had room
@@ -16,30 +16,30 @@ use Rattle.definitions.specs.Presentation.{Relations, order, buildWords, presen
 use Rattle.definitions.specs.Table.{lineCount}
 use Rattle.definitions.specs.Steps.{tableOf}
 use Rattle.definitions.specs.Answers.{over}
-use Rattle.presentation.specs.declared.Presentation.{Presentation}
-use Rattle.chieftables.specs.Accepted.{Sound}
+use Rattle.presentation.specs.declared.ReadPresentation.{ReadPresentation}
+use Rattle.acceptance.specs.Accepted.{Confirmed}
 
-abbrev pub SomeSound : Presentation → Type 0
-SomeSound P = (R : Relations) × Sound R P
+abbrev pub SomeSound : ReadPresentation → Type 0
+SomeSound P = (R : Relations) × Confirmed R P
 
-pub record Wants (P : Presentation) (k : ℕ) : Type 0 where
-  pub is : (R : Relations) → Sound R P → k ≡ buildWords (presentation R)
+pub record Wants (P : ReadPresentation) (k : ℕ) : Type 0 where
+  pub is : (R : Relations) → Confirmed R P → k ≡ buildWords (presentation R)
 
-pub record Room (R : Relations) (P : Presentation) (m have : ℕ) : Type 0 where
-  pub sound : Sound R P
+pub record RoomFor (R : Relations) (P : ReadPresentation) (m have : ℕ) : Type 0 where
+  pub sound : Confirmed R P
   pub order-is : m ≡ order (presentation R) (R .n)
   pub enough : buildWords (presentation R) ≤ have
 
-abbrev pub SomeRoom : Presentation → ℕ → ℕ → Type 0
-SomeRoom P m have = (R : Relations) × Room R P m have
+abbrev pub SomeRoom : ReadPresentation → ℕ → ℕ → Type 0
+SomeRoom P m have = (R : Relations) × RoomFor R P m have
 
 pub record Table (R : Relations) (before : List ℕ) (count : ℕ) (after : List ℕ) : Type 0 where
   pub lines : count ≡ lineCount (tableOf (presentation R))
   pub words : after ≡ over before (tableOf (presentation R))
 
-pub record Tabled (P : Presentation) (m : ℕ) (before : List ℕ) (count : ℕ) (after : List ℕ) : Type 0 where
-  pub written : (R : Relations) → Room R P m (length before) → Table R before count after
+pub record Tabled (P : ReadPresentation) (m : ℕ) (before : List ℕ) (count : ℕ) (after : List ℕ) : Type 0 where
+  pub written : (R : Relations) → RoomFor R P m (length before) → Table R before count after
 
-pub record Sized (P : Presentation) (before : List ℕ) (answer count : ℕ) (after : List ℕ) : Type 0 where
-  pub short : (R : Relations) → Sound R P → length before < buildWords (presentation R) → (answer ≡ 16) × (count ≡ 0) × (after ≡ before)
-  pub done : (R : Relations) → Sound R P → buildWords (presentation R) ≤ length before → (answer ≡ 0) × Table R before count after
+pub record Sized (P : ReadPresentation) (before : List ℕ) (answer count : ℕ) (after : List ℕ) : Type 0 where
+  pub short : (R : Relations) → Confirmed R P → length before < buildWords (presentation R) → (answer ≡ 16) × (count ≡ 0) × (after ≡ before)
+  pub done : (R : Relations) → Confirmed R P → buildWords (presentation R) ≤ length before → (answer ≡ 0) × Table R before count after

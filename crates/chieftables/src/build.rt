@@ -4,16 +4,16 @@
 //   build_sound          the same, or 16
 //   build                the call
 //   chieftables_build    the same, for C and Rust
-use crate::accept::accepted;
 use crate::counted::Counted;
+use acceptance::accepted;
 use conditions::size::measure;
-use presentation::Presentation;
+use presentation::ReadPresentation;
 ghost use lib.ListN.{length};
 ghost use Rattle.definitions.specs.Answers.{Build};
 ghost use Rattle.chieftables.specs.Tabled.{SomeSound, SomeRoom, Tabled, Sized};
 
 // Writes the table of a sound presentation of order m into words that are enough for it. Returns how many lines it has.
-fn write_levels(p: Presentation, m: u32, words: &mut [u32]) -> usize
+fn write_levels(p: ReadPresentation, m: u32, words: &mut [u32]) -> usize
     requires { ⌜ SomeRoom p m (length (now words)) ⌝ }
     ensures { λ r. ⌜ Tabled p m (now (words .entry)) r (now (words .exit)) ⌝ }
 {
@@ -24,7 +24,7 @@ fn write_levels(p: Presentation, m: u32, words: &mut [u32]) -> usize
 }
 
 // Builds the table of a sound presentation if the words are as many as a build wants.
-fn build_sound(p: Presentation, words: &mut [u32]) -> Counted
+fn build_sound(p: ReadPresentation, words: &mut [u32]) -> Counted
     requires { ⌜ SomeSound p ⌝ }
     ensures { λ r. ⌜ Sized p (now (words .entry)) (r .answer) (r .count) (now (words .exit)) ⌝ }
 {
@@ -58,7 +58,7 @@ pub fn build(text: &[u8], words: &mut [u32]) -> Counted
     build_sound(p, words)
 }
 
-// The same, for C and Rust.
+// `build`, for C and Rust.
 #[no_mangle]
 pub extern "C" fn chieftables_build(text: &[u8], words: &mut [u32]) -> Counted
     ensures { λ r. ⌜ Build (now (text .entry)) (now (words .entry)) (r .answer) (r .count) (now (words .exit)) ⌝ }

@@ -2,15 +2,15 @@
 //
 //   check                the call
 //   chieftables_check    the same, for C and Rust
-use crate::accept::accepted;
+use acceptance::accepted;
 use conditions::size::measure;
-use presentation::Presentation;
+use presentation::ReadPresentation;
 ghost use Rattle.definitions.specs.Answers.{Check};
 ghost use Rattle.chieftables.specs.Tabled.{SomeSound};
 ghost use Rattle.chieftables.specs.Checked.{Checks};
 
 // The number of the first of 21 to 26 that applies to words as a table of a sound presentation, or 0.
-fn check_sound(p: Presentation, words: &[u32]) -> u32
+fn check_sound(p: ReadPresentation, words: &[u32]) -> u32
     requires { ⌜ SomeSound p ⌝ }
     ensures { λ a. ⌜ Checks p (now (words .entry)) a ⌝ }
 {
@@ -34,7 +34,7 @@ pub fn check(text: &[u8], words: &[u32]) -> u32
     check_sound(p, words)
 }
 
-// The same, for C and Rust.
+// `check`, for C and Rust.
 #[no_mangle]
 pub extern "C" fn chieftables_check(text: &[u8], words: &[u32]) -> u32
     ensures { λ a. ⌜ Check (now (text .entry)) (now (words .entry)) a ⌝ }

@@ -3,15 +3,15 @@
 //   measure_sound          the words that a build of a sound presentation wants
 //   measure                the call
 //   chieftables_measure    the same, for C and Rust
-use crate::accept::accepted;
 use crate::counted::Counted;
+use acceptance::accepted;
 use conditions::size;
-use presentation::Presentation;
+use presentation::ReadPresentation;
 ghost use Rattle.definitions.specs.Answers.{Measure};
 ghost use Rattle.chieftables.specs.Tabled.{SomeSound, Wants};
 
 // The words that a build of a sound presentation wants.
-fn measure_sound(p: Presentation) -> usize
+fn measure_sound(p: ReadPresentation) -> usize
     requires { ⌜ SomeSound p ⌝ }
     ensures { λ r. ⌜ Wants p r ⌝ }
 {
@@ -38,7 +38,7 @@ pub fn measure(text: &[u8]) -> Counted
     Counted { answer: 0, count }
 }
 
-// The same, for C and Rust.
+// `measure`, for C and Rust.
 #[no_mangle]
 pub extern "C" fn chieftables_measure(text: &[u8]) -> Counted
     ensures { λ r. ⌜ Measure (now (text .entry)) (r .answer) (r .count) ⌝ }

@@ -9,14 +9,14 @@ ghost use Rattle.definitions.specs.Answers.{ReadTable};
 pub fn read_table(text: &[u8], words: &mut [u32]) -> Counted
     ensures { λ r. ⌜ ReadTable (now (text .entry)) (now (words .entry)) (r .answer) (r .count) (now (words .exit)) ⌝ }
 {
-    let a = table::reading::read_table(text, words);
+    let a = table_text::reading::read_table(text, words);
     Counted {
         answer: a.status,
         count: a.count,
     }
 }
 
-// The same, for C and Rust.
+// `read_table`, for C and Rust.
 #[no_mangle]
 pub extern "C" fn chieftables_read_table(text: &[u8], words: &mut [u32]) -> Counted
     ensures { λ r. ⌜ ReadTable (now (text .entry)) (now (words .entry)) (r .answer) (r .count) (now (words .exit)) ⌝ }

@@ -9,14 +9,14 @@ ghost use Rattle.definitions.specs.Answers.{WriteTable};
 pub fn write_table(words: &[u32], out: &mut [u8]) -> Counted
     ensures { λ r. ⌜ WriteTable (now (words .entry)) (now (out .entry)) (r .answer) (r .count) (now (out .exit)) ⌝ }
 {
-    let a = table::writing::write_table(words, out);
+    let a = table_text::writing::write_table(words, out);
     Counted {
         answer: a.status,
         count: a.count,
     }
 }
 
-// The same, for C and Rust.
+// `write_table`, for C and Rust.
 #[no_mangle]
 pub extern "C" fn chieftables_write_table(words: &[u32], out: &mut [u8]) -> Counted
     ensures { λ r. ⌜ WriteTable (now (words .entry)) (now (out .entry)) (r .answer) (r .count) (now (out .exit)) ⌝ }

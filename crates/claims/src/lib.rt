@@ -12,7 +12,7 @@ ghost use mathlib.Core.Bool.{true};
 ghost use Prim.Native.Nat.{suc, _+_, _*_, _/_, _≤_, _<_};
 ghost use lib.ListN.{length};
 ghost use Rattle.definitions.specs.Table.{levelAt};
-ghost use Rattle.seek.specs.Seek.{Whole, Fits};
+ghost use Rattle.seek.specs.Seek.{Whole, HasLines};
 ghost use Rattle.seek.specs.Among.{repIn};
 ghost use Rattle.claims.specs.Claims.{oneReference, Took, TookAll, Shares, Claimed, Unshared};
 use level::Listed;
@@ -109,7 +109,7 @@ fn slot(f: u32, p: u32, e: u32, part: u32) -> usize
 }
 
 // What d claims, where i is the generator on top, p its prime, and `part` the share of the modulus that a slot stands for.
-fn claim(
+pub fn claim(
     words: &[u32],
     i: u32,
     p: u32,
@@ -118,7 +118,7 @@ fn claim(
     marks: &mut [u8],
     slots: &mut [u8],
 ) -> bool
-    requires { ⌜ Fits (now words) i d × (0 < part) ⌝ }
+    requires { ⌜ HasLines (now words) i d × (0 < part) ⌝ }
     ensures { λ r. ⌜ (r ≡ true → Claimed i p part (repIn (now (words .entry)) d) (now (marks .entry)) (now (marks .exit)) (now (slots .entry)) (now (slots .exit))) ⌝ }
 {
     if !one_reference(words, d) {

@@ -20,7 +20,7 @@ use Rattle.group.specs.Context.{Context}
 use Rattle.group.proofs.Level.{level, conjNf, genNf}
 use Rattle.monomial.specs.Maps.{Map}
 use Rattle.monomial.specs.Families.{Family}
-use Rattle.monomial.specs.Frames.{Frame, Shows}
+use Rattle.monomial.specs.Frames.{Layout, Shows}
 use Rattle.monomial.proofs.Residues.{residues}
 use Rattle.clifford.specs.Stands.{frame, Stands, Restricts}
 use Rattle.clifford.proofs.Lines.{Agrees}
@@ -44,7 +44,7 @@ module _ (C : Context) (n m : ℕ) (pos : 0 < m) (i : ℕ) (l : i ≤ n) (L M : 
   column-in : (r c : ℕ) → r < length L → c < repOf M r .deg → c < repOf L r .deg
   column-in r c h b = subst (λ z. c < z) (sym (A .same-degree r h)) b
 
-  abbrev ΦM : Frame Ω
+  abbrev ΦM : Layout Ω
   ΦM = frame M (F .rep) column below
 
   agree-shows : (r s g : ℕ) (B : Map (residues m pos) Ω) → r < length L → g < n → Shows m (frame L (F .rep) column (St .column-below)) r s (repOf L r .matrix g) B → Shows m ΦM r s (repOf M r .matrix g) B

@@ -10,7 +10,7 @@ use native.Mathlib.Bridge.{le-prop}
 use native.Mathlib.Decide.{ℕ-discrete}
 use lib.ListN.{length}
 use Rattle.definitions.specs.Monomial.{Level, repOf}
-use Rattle.monomial.specs.Frames.{Frame, Complete}
+use Rattle.monomial.specs.Frames.{Layout, Complete}
 use Rattle.clifford.specs.Stands.{frame}
 
 module _ (L : Level) where
@@ -28,7 +28,7 @@ module _ (L : Level) where
       go (yes a) (no b) = no (λ q. b (ap (λ z. z .0 .1) q))
       go (no a) d = no (λ q. a (ap (λ z. z .0 .0) q))
 
-  abbrev pub basis-frame : Frame Basis
+  abbrev pub basis-frame : Layout Basis
   basis-frame = frame L (λ (x : Basis). x .0 .0) (λ (x : Basis). x .0 .1) (λ (x : Basis). x .1 .1)
 
   abbrev pub basis-complete : Complete basis-frame (length L)

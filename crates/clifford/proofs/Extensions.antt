@@ -29,7 +29,7 @@ use Rattle.group.proofs.Level.{level, conjNf, genNf, uNf, wNf, top, gen-low, ge
 use Rattle.group.proofs.Group.{group}
 use Rattle.monomial.specs.Exponents.{Exponents, times, Residue}
 use Rattle.monomial.specs.Maps.{Map, maps}
-use Rattle.monomial.specs.Frames.{Frame, Shows}
+use Rattle.monomial.specs.Frames.{Layout, Shows}
 use Rattle.monomial.proofs.Exponents.{lcomm, cancel, neg-of}
 use Rattle.monomial.proofs.Maps.{pair, at-mul}
 use Rattle.monomial.proofs.Residues.{residues, add-value, times-value, less-value, part-value, unit, unit-value, unit-injective, log, log-below}
@@ -48,7 +48,7 @@ module _ (R : Rung) where
   abbrev pub E : Exponents (Residue (R .m))
   E = residues (R .m) (R .pos)
 
-  abbrev pub Φ : Frame Ω
+  abbrev pub Φ : Layout Ω
   Φ = frame L (F .rep) column column-below
 
   abbrev pub 𝓢 : Normed (S R) F
@@ -83,7 +83,7 @@ module _ (R : Rung) where
   raised-value 𝓨 x = sym (value-hom (raised-hom (S R) F 𝓨) (genNf C (suc i)) (suc i) (x .0)) ∙ ap (raised (S R) F 𝓨) (group T (suc i) (R .in-range) .gen-value x)
 
   -- what shows the generators of the extension shows its words and conjugates; the frame is free
-  module _ (Ψ : Frame Ω) (𝓨 : Normed (S R) F) (B : Rep) (r : ℕ) (is : Ψ .degree r ≡ B .deg)
+  module _ (Ψ : Layout Ω) (𝓨 : Normed (S R) F) (B : Rep) (r : ℕ) (is : Ψ .degree r ≡ B .deg)
       (shows : (k : ℕ) → k < suc i → Shows m Ψ r r (B .matrix k) (raised (S R) F 𝓨 (genNf (T .context) (suc i) k))) where
     word-shows : (x : Nf C (suc i)) → Shows m Ψ r r (image m B (suc i) (x .0)) (raised (S R) F 𝓨 x)
     unfolding image

@@ -24,9 +24,9 @@ use Rattle.definitions.specs.Steps
 use Rattle.numbers.proofs.Bools.{cond-eq, cond-ne}
 use Rattle.numbers.proofs.Sums.{stretch-one, stretch-below}
 use Rattle.numbers.proofs.Orbits.{leader, position, iter-below, iter-moved, leader-below, leader-leader, leader-iter, leader-fixed, leader-moved, position-below, position-back, position-is}
-use Rattle.monomial.specs.Frames.{Frame, Complete}
+use Rattle.monomial.specs.Frames.{Layout, Complete}
 use Rattle.clifford.specs.Stands.{frame, Stands, Rung}
-use Rattle.clifford.proofs.Numbering.{p, N, deg, rep, τ, O, rep-below, made, next, next-length, made-fixed, made-leader, given-fixed, given-moved, made-of, made-of-fixed, Source, source, degree-iter, degree-leader}
+use Rattle.clifford.proofs.Numbering.{p, N, deg, rep, τ, O, rep-below, made, next, next-length, made-fixed, made-leader, given-fixed, given-moved, made-of, made-of-fixed, GivenBy, source, degree-iter, degree-leader}
 
 module _ (R : Rung) where
   open Rung R using (T, m, pos, i, L, Ω, F, stands)
@@ -116,27 +116,27 @@ module _ (R : Rung) where
   unfolding next-rep
   next-below x = subst (λ s. sum (leaderAt (base x)) (made R) + number x < s) (sym (next-length R)) (stretch-below (made R) (leaderAt (base x)) (number x) (N R) (x .1) (leader-below (O R) (rep R (base x)) (rep-below R (base x))))
 
-  abbrev pub next-frame : Frame Index
+  abbrev pub next-frame : Layout Index
   next-frame = frame (next R) next-rep (λ x. wide (base x)) wide-below
 
   -- ---- Every column is one index
 
-  pub record Found (r c : ℕ) : Type 0 where
+  pub record IndexFound (r c : ℕ) : Type 0 where
     pub index : Index
     pub is-rep : next-rep index ≡ r
     pub is-column : wide (base index) ≡ c
 
-  pub next-find : (r c : ℕ) → r < length (next R) → c < repOf (next R) r .deg → Found r c
+  pub next-find : (r c : ℕ) → r < length (next R) → c < repOf (next R) r .deg → IndexFound r c
   unfolding next-rep Steps.extension Steps.induction
   next-find r c h l = go (source R r h)
     where
-      go : Source R r → Found r c
+      go : GivenBy R r → IndexFound r c
       go o = split (ℕ-discrete (τ R s) s)
         where
           s : ℕ
           s = o .s
 
-          split : Dec (τ R s ≡ s) → Found r c
+          split : Dec (τ R s ≡ s) → IndexFound r c
           split (yes f) =
               let κ-below : o .κ < p R = subst (λ z. o .κ < z) (made-fixed R s f) (o .κ-below) in
               let d : repOf (next R) r .deg ≡ deg R s = ap (λ r. repOf (next R) r .deg) (sym (o .is)) ∙ ap (λ (D : Rep). D .deg) (given-fixed R s (o .κ) (o .s-below) f κ-below) in

@@ -34,7 +34,7 @@ use Rattle.group.proofs.Values.{power-zero, power-suc}
 use Rattle.group.proofs.Level.{genNf, uNf}
 use Rattle.monomial.specs.Exponents.{Exponents, Residue}
 use Rattle.monomial.specs.Maps.{Map, maps, Inverse}
-use Rattle.monomial.specs.Frames.{Frame, Shows}
+use Rattle.monomial.specs.Frames.{Layout, Shows}
 use Rattle.monomial.proofs.Exponents.{idr, neg-of}
 use Rattle.monomial.proofs.Maps.{pair, column as at-column, at-mul, at-one, maps-laws, inverse-power}
 use Rattle.monomial.proofs.Residues.{residues}
@@ -103,7 +103,7 @@ module _ (R : Rung) where
           subst (λ s. wide R a < s) (sym (spread-moved (leaderAt a) (leader-moved (O R) (rep R a) (rep-below R a) f) ∙ ap (λ d. p R * d) (degree-leader R (rep R a) (rep-below R a))))
           (subst (λ s. s < p R * deg R (rep R a)) (sym (wide-moved R a f)) (digits-lt (position-below (O R) (rep R a) (rep-below R a)) (column-below a)))
 
-  abbrev pub Ψ : Frame Ω
+  abbrev pub Ψ : Layout Ω
   Ψ = record { rep = λ a. leader (O R) (rep R a); column = wide R; degree = spread; column-below = wide-spread }
 
   -- a basis index of the orbit of a fixed leader

@@ -22,12 +22,12 @@ use Rattle.numbers.proofs.Sums.{term-le}
 use Rattle.group.specs.Context.{Context, Nf}
 use Rattle.group.proofs.Values.{power-hom, value-hom}
 use Rattle.group.proofs.Level.{level, conjNf, genNf}
-use Rattle.group.proofs.Group.{Test, Tested, group}
+use Rattle.group.proofs.Group.{Test, TestedContext, group}
 use Rattle.group.proofs.Order.{order-positive, inverse, inverse-right, inverse-left}
 use Rattle.group.proofs.Conjugation.{conj-period}
 use Rattle.monomial.specs.Maps.{Map, maps, Inverse}
 use Rattle.monomial.specs.Families.{Family}
-use Rattle.monomial.specs.Frames.{Frame, Shows}
+use Rattle.monomial.specs.Frames.{Layout, Shows}
 use Rattle.monomial.proofs.Maps.{at-mul, at-one, column as at-column}
 use Rattle.monomial.proofs.Residues.{residues}
 use Rattle.monomial.proofs.Frames.{shows-mul, shows-power, shows-value, shows-map, same-shown, shows-valid}
@@ -51,10 +51,10 @@ module _ (C : Context) (tests : (k : ℕ) → k < C .P .n → Test C k) (m : ℕ
   abbrev L : Level
   L = levelAt n table i
 
-  abbrev T : Tested
+  abbrev T : TestedContext
   T = record { context = C; n = C .P .n; tests = tests }
 
-  abbrev Φ : Frame Ω
+  abbrev Φ : Layout Ω
   Φ = frame L (F .rep) column column-below
 
   infixl 70 _*′_

@@ -16,7 +16,7 @@ use Rattle.group.specs.Context.{Context, Nf}
 use Rattle.group.proofs.Values.{power-zero, power-suc, power-add, iter-past, value-suc}
 use Rattle.group.proofs.Clauses.{mul-suc, mulStep-below, mulStep-over}
 use Rattle.group.proofs.Level.{Nf-path, level, conjNf, uNf, wNf, genNf, low, top, gen-low, gen-top, low-hom, low-value}
-use Rattle.group.proofs.Group.{Tested, group, cyclic, conj-low, low-top}
+use Rattle.group.proofs.Group.{TestedContext, group, cyclic, conj-low, low-top}
 use Rattle.group.proofs.Order.{order-positive, order-one, inverse, inverse-right, inverse-left}
 use Rattle.group.proofs.Conjugation.{conj-hom, conj-period}
 use Rattle.clifford.specs.Extension.{Extension}
@@ -98,7 +98,7 @@ module _ (C : Context) (i : ℕ) where
       on-mul = raise-mul;
     }
 
-module _ (T : Tested) (i : ℕ) (l : i < T .n) where
+module _ (T : TestedContext) (i : ℕ) (l : i < T .n) where
   abbrev pub C : Context
   C = T .context
 

@@ -1,6 +1,6 @@
 -- The words of levels, read back: a table that is the lines of levels lists their degrees, matrices and references.
 --
---   Written               levels with positive degrees, and the table of their lines
+--   LevelsListed               levels with positive degrees, and the table of their lines
 --   line-count            how many lines it has
 --   word-at               a word of the line of a level, representation, generator and column
 --   degrees-length, degrees-at      the degrees that the table lists
@@ -27,7 +27,7 @@ use Rattle.numbers.proofs.Sums.{sum-below, sum-const, sum-mul, stretch-below}
 use Rattle.numbers.proofs.Blocks.{getD-table, length-table, getD-blocks, length-even, getD-even, blocks-below, blocks-stretches, blocks-none, blocks-single}
 use Rattle.monomial.proofs.Frames.{col-table}
 
-pub record Written : Type 0 where
+pub record LevelsListed : Type 0 where
   pub n : ℕ
   pub positive : 0 < n
   pub L : ℕ → Level
@@ -41,8 +41,8 @@ pub record Agrees (n : ℕ) (L M : Level) : Type 0 where
   pub same-column : (r g c : ℕ) → r < length L → g < n → c < repOf L r .deg → col (repOf L r .matrix g) c ≡ col (repOf M r .matrix g) c
   pub same-ref : (r g c : ℕ) → r < length L → g < n → c < repOf L r .deg → repOf L r .ref g c ≡ repOf M r .ref g c
 
-module _ (W : Written) where
-  open Written W using (n, L)
+module _ (W : LevelsListed) where
+  open LevelsListed W using (n, L)
 
   -- level k of the record is level suc k of the table
   unfoldable pub table : List ℕ

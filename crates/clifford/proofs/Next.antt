@@ -33,7 +33,7 @@ use Rattle.clifford.proofs.Numbering.{P, p, N, rep, τ, S, ready, O, re
 use Rattle.clifford.proofs.Indices.{Index, base, number, mk, Index-path, Index-discrete, next-rep, number-fixed, number-moved, rep-fixed, rep-moved}
 use Rattle.clifford.proofs.Top.{Normed, raised, raised-maps, swap, fixed-stays, fixed-back}
 use Rattle.clifford.proofs.Step as StepOf
-use Rattle.clifford.proofs.Step.{numbered, Step}
+use Rattle.clifford.proofs.Step.{numbered, StepUp}
 use Rattle.clifford.proofs.Scalars.{parts, unit-shift, q̂, c, ν, ν-fixed, ν-moved, ν-below, number-stays, closes}
 use Rattle.clifford.proofs.Between.{between, between-is}
 use Rattle.clifford.proofs.Extensions.{E, 𝓢, ρ, first, first-rep, l-is}
@@ -192,7 +192,7 @@ module _ (R : Rung) where
       = ap (iter (τ R) (p R - b)) (sym (position-back (O R) r h)) ∙ iter-add (τ R) b (p R - b) (leader (O R) r) ∙ ap (λ k. iter (τ R) k (leader (O R) r)) w ∙ O R .home (leader (O R) r) (leader-below (O R) r h) in
       (p R - b + b′, sym (iter-add (τ R) (p R - b) b′ r) ∙ ap (iter (τ R) b′) (back ∙ e) ∙ position-back (O R) (rep R (base R y)) (rep-below R (base R y)))
 
-  pub step : Step (S R) F (𝓢 R) (ρ R) (base R) (number R) next-d next-X (next-rep R) next-target
+  pub step : StepUp (S R) F (𝓢 R) (ρ R) (base R) (number R) next-d next-X (next-rep R) next-target
   unfolding next-d next-rep
   step = record {
     c = λ j ij jn r κ. c (S R) m pos F (ready R) j ij jn r;

@@ -194,7 +194,7 @@ module _ (R : Rung) where
   made-of-fixed r h f = ap made (leader-fixed O r h f) ∙ made-fixed r f
 
   -- a representation that gives one: it is its own leader
-  pub record Source (r : ℕ) : Type 0 where
+  pub record GivenBy (r : ℕ) : Type 0 where
     pub s : ℕ
     pub κ : ℕ
     pub s-below : s < N
@@ -202,7 +202,7 @@ module _ (R : Rung) where
     pub is : sum s made + κ ≡ r
     pub own : leader O s ≡ s
 
-  pub source : (r : ℕ) → r < length next → Source r
+  pub source : (r : ℕ) → r < length next → GivenBy r
   source r l =
       let o = owner made N r (subst (λ z. r < z) next-length l) in
       record { s = o .s; κ = o .κ; s-below = o .s-below; κ-below = o .κ-below; is = o .is; own = own-leader (o .s) (o .κ) (o .s-below) (o .κ-below) (ℕ-discrete (τ (o .s)) (o .s)) (ℕ-discrete (leader O (o .s)) (o .s)) }

@@ -24,7 +24,7 @@ use Rattle.monomial.specs.Maps.{Map}
 use Rattle.monomial.specs.Frames.{Shows}
 use Rattle.monomial.proofs.Exponents.{idr}
 use Rattle.clifford.specs.Stands.{Rung}
-use Rattle.clifford.proofs.Numbering.{P, p, N, deg, rep, τ, S, ready, O, made, next, made-fixed, made-leader, given-fixed, given-moved, Source, source}
+use Rattle.clifford.proofs.Numbering.{P, p, N, deg, rep, τ, S, ready, O, made, next, made-fixed, made-leader, given-fixed, given-moved, GivenBy, source}
 use Rattle.clifford.proofs.Indices.{Index, base, number, next-rep, wide, next-frame}
 use Rattle.clifford.proofs.Top.{raised}
 use Rattle.clifford.proofs.Step.{numbered, numbered-zero}
@@ -81,7 +81,7 @@ module _ (R : Rung) where
   pub at-source : (Q : Type 0) (r′ : ℕ) → r′ < length (next R) → (Extended r′ → Q) → (Induced r′ → Q) → Q
   at-source Q r′ h ext ind = go (source R r′ h)
     where
-      go : Source R r′ → Q
+      go : GivenBy R r′ → Q
       go o = split (ℕ-discrete (τ R (o .s)) (o .s))
         where
           split : Dec (τ R (o .s) ≡ o .s) → Q

@@ -8,7 +8,7 @@
 --   unit-shift                              p does not divide the shift of j where something moves
 --   c, c-fixed, c-moved, ν, ν-fixed, ν-moved, ν-below      scalars and numbers of the intertwiner of j
 --   number-stays, closes                    what a step asks of them
-use mathlib.Core.Path.{_≡_, refl, sym, _∙_, ap, ap₂, subst}
+use mathlib.Core.Path.{_≡_, sym, _∙_, ap, ap₂, subst}
 use mathlib.Core.Bool.{cond}
 use Prim.Native.Nat.{ℕ, zero, suc, _+_, _*_, _-_, _%_, _<_, _∣_}
 use native.Mathlib.Nat.{mod-lt, mod-eq-of-lt, mod-self, mod-eq-sub-mod, mod-eq-zero-of-dvd}
@@ -20,7 +20,6 @@ use Rattle.definitions.specs.Presentation.{Mul, power}
 use Rattle.numbers.proofs.Bools.{cond-eq, cond-ne}
 use Rattle.numbers.proofs.Lists.{iter-zero, iter-suc, iter-fix}
 use Rattle.numbers.proofs.Iterates.{iter-iter}
-use Rattle.numbers.proofs.Prime.{Units}
 use Rattle.numbers.proofs.Orbits.{Orbits, leader, position, paces, iter-mod, iter-moved, leader-below, leader-iter, position-below, position-iter, paces-below, paces-back, paces-next}
 use Rattle.monomial.specs.Exponents.{Exponents, total, times, Residue, Parts}
 use Rattle.monomial.specs.Maps.{maps}

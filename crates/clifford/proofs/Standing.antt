@@ -20,11 +20,11 @@ use Rattle.definitions.specs.Table.{levelZero}
 use Rattle.definitions.specs.Steps
 use Rattle.numbers.proofs.Prime.{Units}
 use Rattle.group.proofs.Level.{level, conjNf}
-use Rattle.group.proofs.Group.{Tested}
+use Rattle.group.proofs.Group.{TestedContext}
 use Rattle.group.proofs.Order.{order-positive}
 use Rattle.monomial.specs.Maps.{maps}
 use Rattle.monomial.specs.Families.{Family}
-use Rattle.monomial.specs.Frames.{Frame, Shows}
+use Rattle.monomial.specs.Frames.{Layout, Shows}
 use Rattle.monomial.proofs.Maps.{maps-laws}
 use Rattle.monomial.proofs.Residues.{residues}
 use Rattle.monomial.proofs.Frames.{shows-one}
@@ -49,7 +49,7 @@ unfolding repOf levelZero
 zero-ref g c = refl
 
 pub record Setting : Type 0 where
-  pub T : Tested
+  pub T : TestedContext
   pub m : ℕ
   pub pos : 0 < m
   pub units : (j : ℕ) → j < T .n → Units (T .context .P .p j)
@@ -91,7 +91,7 @@ module _ (G : Setting) where
   zero-below : (a : Unit {0}) → 0 < repOf levelZero 0 .deg
   zero-below a = omega (arith, zero-degree)
 
-  abbrev zero-frame : Frame (Unit {0})
+  abbrev zero-frame : Layout (Unit {0})
   zero-frame = frame levelZero (λ a. 0) (λ a. 0) zero-below
 
   zero-shows : (j : ℕ) → Shows m zero-frame 0 (repOf levelZero 0 .ref j 0) (repOf levelZero 0 .matrix j) (maps (residues m pos) (Unit {0}) .one)

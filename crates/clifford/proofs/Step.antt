@@ -4,7 +4,7 @@
 --
 --   Roots             an exponent ε with p different multiples
 --   numbered κ        the scalars of the extension of number κ; numbered-zero: those of number 0
---   Step              what the next level is, over the level below
+--   StepUp              what the next level is, over the level below
 --   next              a Step is a family of the next level
 use mathlib.Core.Path.{_≡_, refl, sym, _∙_, ap, ap₂, subst, fun-ext}
 use Prim.Native.Nat.{ℕ, suc, _≤_, _<_}
@@ -93,7 +93,7 @@ module _ {G G⁺ : Type 0} {𝓖 : Mul G} {𝓖⁺ : Mul G⁺} {conj : ℕ → G
 
       -- c j r κ is the scalar of the intertwiner of generator j above representation r with number κ, and ν j r κ the
       -- number of the extension to which it maps the extension of number κ; j is above i
-      pub record Step : Type 0 where
+      pub record StepUp : Type 0 where
         pub c : (j : ℕ) → i < j → j < n → ℕ → ℕ → E
         pub ν : (j : ℕ) → i < j → j < n → ℕ → ℕ → ℕ
         pub decide : Discrete Ω′
@@ -112,8 +112,8 @@ module _ {G G⁺ : Type 0} {𝓖 : Mul G} {𝓖⁺ : Mul G⁺} {conj : ℕ → G
         pub one-orbit : (x y : Ω′) → rep′ x ≡ rep′ y → (number x ≡ number y) × ((k : ℕ) × (iter τ k (rep (base x)) ≡ rep (base y)))
         pub one-rep : (x y : Ω′) → number x ≡ number y → (k : ℕ) → iter τ k (rep (base x)) ≡ rep (base y) → rep′ x ≡ rep′ y
 
-      module _ (N : Step) where
-        open Step N using (c, ν)
+      module _ (N : StepUp) where
+        open StepUp N using (c, ν)
 
         infixl 70 _*′_
         open Mul (maps 𝓔 Ω′) using (mul as _*′_)

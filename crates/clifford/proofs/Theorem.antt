@@ -30,7 +30,7 @@ use Rattle.group.proofs.Context.{context, accept}
 use Rattle.clifford.specs.Stands.{Restricts}
 use Rattle.clifford.specs.Accepted.{Accepted}
 use Rattle.clifford.proofs.Standing.{Setting, standing, restricts, setting}
-use Rattle.clifford.proofs.Lines.{Written, Agrees, table, table-length, read-back}
+use Rattle.clifford.proofs.Lines.{LevelsListed, Agrees, table, table-length, read-back}
 use Rattle.clifford.proofs.Agreement.{agree-stands, agree-restricts, agree-words}
 use Rattle.clifford.proofs.Passing.{Founded, levels-pass}
 
@@ -76,7 +76,7 @@ module _ (A : Accepted) where
   abbrev G : Setting
   G = setting A
 
-  abbrev W : Written
+  abbrev W : LevelsListed
   W = record { n = n; positive = positive; L = λ k. levels P m (suc k); degree-pos = λ k r l h. standing G (suc k) l .stands .degree-pos r h }
 
   table-is : tableOf P ≡ table W

@@ -13,12 +13,12 @@ use Rattle.definitions.specs.Monomial.{entry, col, Rep, Level, repOf}
 use Rattle.numbers.proofs.Prime.{Units}
 use Rattle.group.specs.Context.{Context}
 use Rattle.group.proofs.Level.{level, conjNf, genNf}
-use Rattle.group.proofs.Group.{Tested}
+use Rattle.group.proofs.Group.{TestedContext}
 use Rattle.monomial.specs.Families.{Family}
-use Rattle.monomial.specs.Frames.{Frame, Complete, Shows}
+use Rattle.monomial.specs.Frames.{Layout, Complete, Shows}
 use Rattle.monomial.proofs.Residues.{residues}
 
-abbrev pub frame : (L : Level) {Ω : Type 0} (rep column : Ω → ℕ) → ((a : Ω) → column a < repOf L (rep a) .deg) → Frame Ω
+abbrev pub frame : (L : Level) {Ω : Type 0} (rep column : Ω → ℕ) → ((a : Ω) → column a < repOf L (rep a) .deg) → Layout Ω
 frame L rep column h = record { rep = rep; column = column; degree = λ r. repOf L r .deg; column-below = h }
 
 pub record Stands (C : Context) (n m : ℕ) (pos : 0 < m) (i : ℕ) (L : Level) {Ω : Type 0} (F : Family (residues m pos) Ω (level C i) (conjNf C i) i n) : Type 0 where
@@ -48,7 +48,7 @@ pub record Restricts (i : ℕ) (low : Level) (D : Rep) : Type 0 where
       → col (D .matrix k) (b * width + c) ≡ entry (b * width + col (repOf low (part b) .matrix k) c .row) (col (repOf low (part b) .matrix k) c .exp)
 
 pub record Rung : Type 1 where
-  pub T : Tested
+  pub T : TestedContext
   pub m : ℕ
   pub pos : 0 < m
   pub i : ℕ

@@ -35,10 +35,10 @@ use Rattle.group.proofs.Clauses.{mulStep-below, mulStep-over, mul-suc, conj-suc
 use Rattle.group.proofs.Units.{mul-trivial-left, mul-trivial-right, mul-top-below, mul-top-over, conj-empty, conj-zero}
 use Rattle.group.proofs.Level.{trivial-valid}
 use Rattle.group.proofs.Rows.{toNF-suc, toNF-ext, toNF-set-top, toNF-trivial}
-use Rattle.rows.specs.Rows.{Small, Ready, Reads, Single, Top, Stacked, Kept}
-use Rattle.rows.proofs.Laws.{zeros, single-row, small-below, ready-below, reads-below, small-valid, small-set, small-zeros}
+use Rattle.rows.specs.Rows.{Small, Ranged, Reads, Single, Top, Stacked, Kept}
+use Rattle.rows.proofs.Forms.{zeros, single-row, small-below, ready-below, reads-below, small-valid, small-set, small-zeros}
 use Rattle.rows.proofs.Parts.{climb, kept-then, kept-stacked, stored-kept}
-use Rattle.commuting.specs.Commuting.{keeps, Moved}
+use Rattle.commuting.specs.Commuting.{keeps, KeepsFrom}
 use Rattle.collector.specs.Products.{Product, Image, Conjugate, Remaining, Power, Scaled, Turned}
 
 -- ---- Turns of a map
@@ -218,7 +218,7 @@ module _ (i m : ℕ) (ps : List ℕ) (ws : List (List ℕ)) (x y x₁ x₂ : Lis
 -- ---- Powers
 
 module _ (k : ℕ) (ps : List ℕ) (ws : List (List ℕ)) (h : List ℕ) where
-  pub powering-start : Ready k ps ws → Power k ps ws h (replicate maxGenerators 0) 0
+  pub powering-start : Ranged k ps ws → Power k ps ws h (replicate maxGenerators 0) 0
   powering-start r = record {
     small = small-zeros k ps ws r;
     is = λ C R. toNF-trivial k (replicate maxGenerators 0) (λ m l. zeros m) ∙ sym (power-zero (forms (C .P) k) (toNF k h));
@@ -267,7 +267,7 @@ module _ (k : ℕ) (ps : List ℕ) (ws : List (List ℕ)) (x y s : List ℕ) (no
           ∙ ap (λ u. (getD x k 0 + getD y k 0 - getD ps k 0, u)) (mul-trivial-right C k (trivial k) (trivial-valid C k))))
 
 -- powers of a form of one generator, m - 1, whose power word is empty
-module _ (i m : ℕ) (ps : List ℕ) (ws : List (List ℕ)) (x : List ℕ) (ready : Ready i ps ws) (sx : Small i ps x) (over : Top i x m)
+module _ (i m : ℕ) (ps : List ℕ) (ws : List (List ℕ)) (x : List ℕ) (ready : Ranged i ps ws) (sx : Small i ps x) (over : Top i x m)
     (alone : (0 < m) × Top (m - 1) x 0 × Top (m - 1) (getD ws (pairNumber (m - 1) (m - 1)) []) 0) where
   abbrev part : ℕ → ℕ
   part e = (getD x (m - 1) 0 * e) % getD ps (m - 1) 0
@@ -339,17 +339,17 @@ module _ (j : ℕ) (ps : List ℕ) (ws : List (List ℕ)) (x r : List ℕ) where
           go (first a) = let e = eqb-true (getD x l 0) 0 a in subst (λ t. conj (C .P) (suc l) j (t, toNF l x) ≡ (t, conj (C .P) l j (toNF l x))) (sym e) (conj-zero C l j (toNF l x) (valid .1))
           go (second a) = conj-empty C l j (getD x l 0, toNF l x) valid (sym (R .w-is l j lj (omega arith)) ∙ sameForm-eq (suc l) _ _ a)
 
-  pub conjugate-up : (m k : ℕ) → k ≤ j → Moved ws k j x m → ((q : ℕ) → m ≤ q → getD r q 0 ≡ getD x q 0) → Small k ps x → Conjugate m j ps ws x r → Conjugate k j ps ws x r
+  pub conjugate-up : (m k : ℕ) → k ≤ j → KeepsFrom ws k j x m → ((q : ℕ) → m ≤ q → getD r q 0 ≡ getD x q 0) → Small k ps x → Conjugate m j ps ws x r → Conjugate k j ps ws x r
   conjugate-up m k kj t re sx = climb (λ k. Conjugate k j ps ws x r) m k (t .less)
       (λ q a b. conjugate-step q (omega arith) (t .rest q a b) (re q a) (small-below (suc q) k ps x (omega arith) sx))
 
 module _ (j : ℕ) (ps : List ℕ) (ws : List (List ℕ)) (x : List ℕ) where
   -- nothing moves
-  pub conjugate-none : (k : ℕ) → k ≤ j → Moved ws k j x 0 → Small k ps x → Conjugate k j ps ws x x
+  pub conjugate-none : (k : ℕ) → k ≤ j → KeepsFrom ws k j x 0 → Small k ps x → Conjugate k j ps ws x x
   conjugate-none k kj t sx = conjugate-up j ps ws x x 0 k kj t (λ q a. refl) sx (record { small = record { below = λ k l. absurd (omega arith) }; is = λ C R. refl })
 
 -- the conjugate of a generator, without a carry and with one
-module _ (j l : ℕ) (ps : List ℕ) (ws : List (List ℕ)) (w : List ℕ) (lj : l < j) (ready : Ready (suc j) ps ws) (we : w ≡ getD ws (pairNumber j l) []) where
+module _ (j l : ℕ) (ps : List ℕ) (ws : List (List ℕ)) (w : List ℕ) (lj : l < j) (ready : Ranged (suc j) ps ws) (we : w ≡ getD ws (pairNumber j l) []) where
   pub commutator-small : Small (suc l) ps w
   commutator-small = subst (Small (suc l) ps) (sym we) (small-below (suc l) (suc j) ps _ (omega arith) (ready .word j l (omega arith) (omega arith)))
 
@@ -395,11 +395,11 @@ module _ (l j : ℕ) (ps : List ℕ) (ws : List (List ℕ)) (x z : List ℕ) (lj
           (toNF-set-top l z 0 long ∙ ap (λ m. (0, m)) (q .is C R))
           ∙ sym (conj-suc (C .P) l j (getD x l 0, toNF l x)) ∙ ap (conj (C .P) (suc l) j) (sym (toNF-suc l x))
 
-  pub lower-small : Ready (suc l) ps ws → Small (suc l) ps (set z l 0)
+  pub lower-small : Ranged (suc l) ps ws → Small (suc l) ps (set z l 0)
   lower-small r = small-set l ps z 0 long (q .small) (omega (arith, r .two l (omega arith)))
 
 -- the highest exponent that moves is below m
-module _ (k j m : ℕ) (ps : List ℕ) (ws : List (List ℕ)) (x z : List ℕ) (pos : 0 < m) (kj : k ≤ j) (long : m ≤ length z) (over : Moved ws k j x m) (q : Conjugate (m - 1) j ps ws x z) where
+module _ (k j m : ℕ) (ps : List ℕ) (ws : List (List ℕ)) (x z : List ℕ) (pos : 0 < m) (kj : k ≤ j) (long : m ≤ length z) (over : KeepsFrom ws k j x m) (q : Conjugate (m - 1) j ps ws x z) where
   level : suc (m - 1) ≡ m
   level = omega arith
 
@@ -409,7 +409,7 @@ module _ (k j m : ℕ) (ps : List ℕ) (ws : List (List ℕ)) (x z : List ℕ) (
       (conjugate-moves (m - 1) j ps ws x z (omega (arith, over .less)) (omega arith) q h r s t qh (subst (λ n. Power n ps ws h r (getD x (m - 1) 0)) (sym level) qr)
       (subst (λ n. Product n ps ws r (set z (m - 1) 0) s) (sym level) qs) st))
 
-  pub lower-small-at : Ready m ps ws → Small m ps (set z (m - 1) 0)
+  pub lower-small-at : Ranged m ps ws → Small m ps (set z (m - 1) 0)
   lower-small-at r = subst (λ n. Small n ps (set z (m - 1) 0)) level (lower-small (m - 1) j ps ws x z (omega (arith, over .less)) (omega arith) q (ready-below (suc (m - 1)) m ps ws (omega arith) r))
 
 -- ---- A power times a form

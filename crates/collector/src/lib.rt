@@ -13,7 +13,7 @@ ghost use mathlib.Core.List.{[]};
 ghost use Prim.Native.Nat.{suc, _*_, _%_, _≤_, _<_};
 ghost use lib.ListN.{length, getD};
 ghost use Rattle.definitions.specs.Presentation.{maxGenerators, pairNumber};
-ghost use Rattle.rows.specs.Rows.{Small, Ready, Kept, Single};
+ghost use Rattle.rows.specs.Rows.{Small, Ranged, Kept, Single};
 ghost use Rattle.commuting.specs.Commuting.{Quiet};
 ghost use Rattle.collector.specs.Products.{Alone, Product, Image, Conjugate, Remaining, Power, Scaled, Turned};
 use commuting::Reaches;
@@ -29,7 +29,7 @@ use rows::wide;
 use rows::word;
 
 // The product of a and e, divided by p: the remainder.
-pub fn remainder(a: u32, e: u32, p: u32) -> u32
+fn remainder(a: u32, e: u32, p: u32) -> u32
     requires { ⌜ 0 < p ⌝ }
     ensures { λ r. ⌜ r ≡ (a * e) % p ⌝ }
 {
@@ -38,7 +38,7 @@ pub fn remainder(a: u32, e: u32, p: u32) -> u32
 
 // How many of `left` more turns of a map are needed after the n that led from x to c: where c is x again, whole periods
 // are left out.
-pub fn remaining(k: usize, x: Row, c: Row, n: u32, left: u32) -> u32
+fn remaining(k: usize, x: Row, c: Row, n: u32, left: u32) -> u32
     requires { ⌜ (k ≤ maxGenerators) × (0 < n) ⌝ }
     ensures { λ r. ⌜ Remaining k x c n left r ⌝ }
 {
@@ -49,8 +49,8 @@ pub fn remaining(k: usize, x: Row, c: Row, n: u32, left: u32) -> u32
 }
 
 // The first k exponents of x after b conjugations by generator k.
-pub fn turn(primes: &Row, words: &Words, reach: &Reaches, k: usize, x: &mut Row, b: u32)
-    requires { ⌜ Ready (suc k) (now primes) (now words) × Quiet (suc k) (now words) (now reach) × Small k (now primes) (now x) × (length (now x) ≡ maxGenerators) ⌝ }
+fn turn(primes: &Row, words: &Words, reach: &Reaches, k: usize, x: &mut Row, b: u32)
+    requires { ⌜ Ranged (suc k) (now primes) (now words) × Quiet (suc k) (now words) (now reach) × Small k (now primes) (now x) × (length (now x) ≡ maxGenerators) ⌝ }
     ensures { λ r. ⌜ Turned k b (now (primes .entry)) (now (words .entry)) (now (x .entry)) (now (x .exit)) × Kept k (now (x .entry)) (now (x .exit)) ⌝ }
 {
     if reach[k] == 0 {
@@ -61,8 +61,8 @@ pub fn turn(primes: &Row, words: &Words, reach: &Reaches, k: usize, x: &mut Row,
 }
 
 // The power word of generator k, times the first k exponents of x.
-pub fn carry(primes: &Row, words: &Words, reach: &Reaches, k: usize, x: &mut Row)
-    requires { ⌜ Ready (suc k) (now primes) (now words) × Quiet k (now words) (now reach) × Small k (now primes) (now x) × (length (now x) ≡ maxGenerators) ⌝ }
+fn carry(primes: &Row, words: &Words, reach: &Reaches, k: usize, x: &mut Row)
+    requires { ⌜ Ranged (suc k) (now primes) (now words) × Quiet k (now words) (now reach) × Small k (now primes) (now x) × (length (now x) ≡ maxGenerators) ⌝ }
     ensures { λ r. ⌜ Product k (now (primes .entry)) (now (words .entry)) (getD (now (words .entry)) (pairNumber k k) []) (now (x .entry)) (now (x .exit)) × Kept k (now (x .entry)) (now (x .exit)) ⌝ }
 {
     let u = word(words, k, k);
@@ -74,8 +74,8 @@ pub fn carry(primes: &Row, words: &Words, reach: &Reaches, k: usize, x: &mut Row
 }
 
 // x times y on level i. The conjugates that this needs are of the level below the highest exponent of y.
-pub fn multiply(primes: &Row, words: &Words, reach: &Reaches, i: usize, x: &mut Row, y: &Row)
-    requires { ⌜ Ready i (now primes) (now words) × Quiet i (now words) (now reach) × Small i (now primes) (now x) × Small i (now primes) (now y) × (length (now x) ≡ maxGenerators) ⌝ }
+fn multiply(primes: &Row, words: &Words, reach: &Reaches, i: usize, x: &mut Row, y: &Row)
+    requires { ⌜ Ranged i (now primes) (now words) × Quiet i (now words) (now reach) × Small i (now primes) (now x) × Small i (now primes) (now y) × (length (now x) ≡ maxGenerators) ⌝ }
     ensures { λ r. ⌜ Product i (now (primes .entry)) (now (words .entry)) (now (x .entry)) (now (y .entry)) (now (x .exit)) × Kept i (now (x .entry)) (now (x .exit)) ⌝ }
 {
     let m = top(i, *y);
@@ -98,7 +98,7 @@ pub fn multiply(primes: &Row, words: &Words, reach: &Reaches, i: usize, x: &mut 
 
 // The product of x and y on level i.
 pub fn product(primes: &Row, words: &Words, reach: &Reaches, i: usize, x: Row, y: Row) -> Row
-    requires { ⌜ Ready i (now primes) (now words) × Quiet i (now words) (now reach) × Small i (now primes) x × Small i (now primes) y ⌝ }
+    requires { ⌜ Ranged i (now primes) (now words) × Quiet i (now words) (now reach) × Small i (now primes) x × Small i (now primes) y ⌝ }
     ensures { λ r. ⌜ Product i (now (primes .entry)) (now (words .entry)) x y r ⌝ }
 {
     let mut r = x;
@@ -107,8 +107,8 @@ pub fn product(primes: &Row, words: &Words, reach: &Reaches, i: usize, x: Row, y
 }
 
 // The conjugate of generator l by generator j.
-pub fn image(primes: &Row, words: &Words, reach: &Reaches, j: usize, l: usize) -> Row
-    requires { ⌜ Ready (suc j) (now primes) (now words) × Quiet (suc j) (now words) (now reach) × (l < j) ⌝ }
+fn image(primes: &Row, words: &Words, reach: &Reaches, j: usize, l: usize) -> Row
+    requires { ⌜ Ranged (suc j) (now primes) (now words) × Quiet (suc j) (now words) (now reach) × (l < j) ⌝ }
     ensures { λ r. ⌜ Image j l (now (primes .entry)) (now (words .entry)) r ⌝ }
 {
     let mut h = word(words, j, l);
@@ -126,7 +126,7 @@ pub fn image(primes: &Row, words: &Words, reach: &Reaches, j: usize, l: usize) -
 
 // The conjugate of x by generator j on level k, k ≤ j. It is a product on the level of the highest exponent that moves.
 pub fn conjugate(primes: &Row, words: &Words, reach: &Reaches, k: usize, j: usize, x: Row) -> Row
-    requires { ⌜ Ready (suc j) (now primes) (now words) × Quiet (suc j) (now words) (now reach) × (k ≤ j) × Small k (now primes) x ⌝ }
+    requires { ⌜ Ranged (suc j) (now primes) (now words) × Quiet (suc j) (now words) (now reach) × (k ≤ j) × Small k (now primes) x ⌝ }
     ensures { λ r. ⌜ Conjugate k j (now (primes .entry)) (now (words .entry)) x r ⌝ }
 {
     let m = moved(words, reach, k, j, x);
@@ -143,7 +143,7 @@ pub fn conjugate(primes: &Row, words: &Words, reach: &Reaches, k: usize, j: usiz
 }
 
 // Whether x has an exponent of generator m - 1 and none below, and the power word of that generator is empty.
-pub fn alone(words: &Words, m: usize, x: Row) -> bool
+fn alone(words: &Words, m: usize, x: Row) -> bool
     requires { ⌜ m ≤ maxGenerators ⌝ }
     ensures { λ r. ⌜ Alone (now (words .entry)) m x r ⌝ }
 {
@@ -158,7 +158,7 @@ pub fn alone(words: &Words, m: usize, x: Row) -> bool
 }
 
 // The exponent of generator k in x, e times, below its prime.
-pub fn multiple(primes: &Row, k: usize, x: Row, e: u32) -> Row
+fn multiple(primes: &Row, k: usize, x: Row, e: u32) -> Row
     requires { ⌜ (k < maxGenerators) × (0 < getD (now primes) k 0) ⌝ }
     ensures { λ r. ⌜ Single k ((getD x k 0 * e) % getD (now (primes .entry)) k 0) r ⌝ }
 {
@@ -169,7 +169,7 @@ pub fn multiple(primes: &Row, k: usize, x: Row, e: u32) -> Row
 
 // x to the power e on level i.
 pub fn power(primes: &Row, words: &Words, reach: &Reaches, i: usize, x: Row, e: u32) -> Row
-    requires { ⌜ Ready i (now primes) (now words) × Quiet i (now words) (now reach) × Small i (now primes) x ⌝ }
+    requires { ⌜ Ranged i (now primes) (now words) × Quiet i (now words) (now reach) × Small i (now primes) x ⌝ }
     ensures { λ r. ⌜ Power i (now (primes .entry)) (now (words .entry)) x r e ⌝ }
 {
     if e == 1 {
@@ -191,7 +191,7 @@ pub fn power(primes: &Row, words: &Words, reach: &Reaches, i: usize, x: Row, e: 
 
 // x after b conjugations by generator i, on level i.
 pub fn turned(primes: &Row, words: &Words, reach: &Reaches, i: usize, x: Row, b: u32) -> Row
-    requires { ⌜ Ready (suc i) (now primes) (now words) × Quiet (suc i) (now words) (now reach) × Small i (now primes) x ⌝ }
+    requires { ⌜ Ranged (suc i) (now primes) (now words) × Quiet (suc i) (now words) (now reach) × Small i (now primes) x ⌝ }
     ensures { λ r. ⌜ Turned i b (now (primes .entry)) (now (words .entry)) x r ⌝ }
 {
     if reach[i] == 0 {
@@ -211,7 +211,7 @@ pub fn turned(primes: &Row, words: &Words, reach: &Reaches, i: usize, x: Row, b:
 
 // x to the power e, times v, on level i.
 pub fn scaled(primes: &Row, words: &Words, reach: &Reaches, i: usize, x: Row, e: u32, v: Row) -> Row
-    requires { ⌜ Ready i (now primes) (now words) × Quiet i (now words) (now reach) × Small i (now primes) x × Small i (now primes) v ⌝ }
+    requires { ⌜ Ranged i (now primes) (now words) × Quiet i (now words) (now reach) × Small i (now primes) x × Small i (now primes) v ⌝ }
     ensures { λ r. ⌜ Scaled i (now (primes .entry)) (now (words .entry)) x e v r ⌝ }
 {
     if e == 0 {

@@ -24,7 +24,7 @@ use Rattle.definitions.specs.Consistency.{sameForm}
 use Rattle.numbers.proofs.Bools.{or-right}
 use Rattle.numbers.proofs.Lists.{below-suc}
 use Rattle.rows.proofs.Parts.{scan-more}
-use Rattle.commuting.specs.Commuting.{keeps, Moved, Reach, Quiet, Rise, Central}
+use Rattle.commuting.specs.Commuting.{keeps, KeepsFrom, Reach, Quiet, Rise, Central}
 
 -- ---- Exponents that conjugation keeps
 
@@ -46,13 +46,13 @@ module _ (ws : List (List ℕ)) (j : ℕ) where
       here = let e : m ≡ suc (m - 1) = omega arith in subst (λ v. sameForm (suc (m - 1)) (toNF (suc (m - 1)) v) (trivial (suc (m - 1))) ≡ true) we (subst (λ n. sameForm n (toNF n w) (trivial n) ≡ true) e q)
 
   -- the scan for row x starts at k, or at the reach where that is lower
-  pub moved-reach : (k r : ℕ) (x : List ℕ) → k ≤ j → r ≤ k → Reach ws j r → Moved ws k j x r
+  pub moved-reach : (k r : ℕ) (x : List ℕ) → k ≤ j → r ≤ k → Reach ws j r → KeepsFrom ws k j x r
   moved-reach k r x l a t = record { less = omega arith; rest = λ q b c. t .rest q (getD x q 0) b (omega arith) }
 
-  pub moved-all : (k : ℕ) (x : List ℕ) → Moved ws k j x k
+  pub moved-all : (k : ℕ) (x : List ℕ) → KeepsFrom ws k j x k
   moved-all k x = record { less = omega arith; rest = λ q b c. absurd (omega arith) }
 
-  pub moved-more : (k : ℕ) (x : List ℕ) (m : ℕ) → 0 < m → keeps ws j (m - 1) (getD x (m - 1) 0) ≡ true → Moved ws k j x m → Moved ws k j x (m - 1)
+  pub moved-more : (k : ℕ) (x : List ℕ) (m : ℕ) → 0 < m → keeps ws j (m - 1) (getD x (m - 1) 0) ≡ true → KeepsFrom ws k j x m → KeepsFrom ws k j x (m - 1)
   moved-more k x m l e t = record { less = omega (arith, t .less); rest = scan-more (λ q. keeps ws j q (getD x q 0) ≡ true) m k l e (t .rest) }
 
 module _ (ws : List (List ℕ)) (reach : List ℕ) where

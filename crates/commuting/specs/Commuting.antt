@@ -1,7 +1,7 @@
 -- Which generators commute, as the words of a presentation tell.
 --
 --   keeps words j l e             conjugation by generator j keeps an exponent e of generator l
---   Moved words k j x r           it keeps the exponents of x from r up to k
+--   KeepsFrom words k j x r           it keeps the exponents of x from r up to k
 --   Reach words j r               it keeps every exponent from r up to j
 --   Quiet m words reach           from reach j on, generator j commutes with the generators below it
 --   Commutes words c i            generator c commutes with every generator up to i
@@ -21,7 +21,7 @@ abbrev pub keeps : (words : List (List ℕ)) (j l e : ℕ) → Bool
 keeps words j l e = eqb e 0 || sameForm (suc l) (toNF (suc l) (getD words (pairNumber j l) [])) (trivial (suc l))
 
 -- conjugation by generator j keeps the exponents of x from r up to k
-pub record Moved (words : List (List ℕ)) (k j : ℕ) (x : List ℕ) (r : ℕ) : Type 0 where
+pub record KeepsFrom (words : List (List ℕ)) (k j : ℕ) (x : List ℕ) (r : ℕ) : Type 0 where
   pub less : r ≤ k
   pub rest : (l : ℕ) → r ≤ l → l < k → keeps words j l (getD x l 0) ≡ true
 

@@ -9,7 +9,7 @@ ghost use mathlib.Core.Path.{_≡_};
 ghost use Prim.Native.Nat.{_≤_, _<_};
 ghost use lib.ListN.{getD};
 ghost use Rattle.definitions.specs.Presentation.{maxGenerators};
-ghost use Rattle.commuting.specs.Commuting.{keeps, Moved, Reach, Quiet, Rise, Central};
+ghost use Rattle.commuting.specs.Commuting.{keeps, KeepsFrom, Reach, Quiet, Rise, Central};
 use rows::GENERATORS;
 use rows::Row;
 use rows::Words;
@@ -20,7 +20,7 @@ use rows::word;
 pub type Reaches = [usize; GENERATORS];
 
 // Conjugation by generator j keeps an exponent e of generator l where e is 0 or the word of the two generators is empty.
-pub fn stays(words: &Words, j: usize, l: usize, e: u32) -> bool
+fn stays(words: &Words, j: usize, l: usize, e: u32) -> bool
     requires { ⌜ (l < j) × (j < maxGenerators) ⌝ }
     ensures { λ r. ⌜ r ≡ keeps (now (words .entry)) j l e ⌝ }
 {
@@ -32,7 +32,7 @@ pub fn stays(words: &Words, j: usize, l: usize, e: u32) -> bool
 }
 
 // Generator j commutes with the generators from the answer up to j: their words with it are empty.
-pub fn reached(words: &Words, j: usize) -> usize
+fn reached(words: &Words, j: usize) -> usize
     requires { ⌜ j < maxGenerators ⌝ }
     ensures { λ r. ⌜ Reach (now (words .entry)) j r ⌝ }
 {
@@ -47,7 +47,7 @@ pub fn reached(words: &Words, j: usize) -> usize
     0
 }
 
-// The same for the first n generators.
+// For each of the first n generators, down to which it commutes with all below it.
 pub fn reaches(words: &Words, n: usize) -> Reaches
     requires { ⌜ n ≤ maxGenerators ⌝ }
     ensures { λ r. ⌜ Quiet n (now (words .entry)) r ⌝ }
@@ -61,7 +61,7 @@ pub fn reaches(words: &Words, n: usize) -> Reaches
 }
 
 // Generator c commutes with every generator below the answer.
-pub fn risen(words: &Words, reach: &Reaches, n: usize, c: usize) -> usize
+fn risen(words: &Words, reach: &Reaches, n: usize, c: usize) -> usize
     requires { ⌜ (c < n) × (n ≤ maxGenerators) × Reach (now words) c (getD (now reach) c 0) ⌝ }
     ensures { λ r. ⌜ Rise (now (words .entry)) c r ⌝ }
 {
@@ -79,7 +79,7 @@ pub fn risen(words: &Words, reach: &Reaches, n: usize, c: usize) -> usize
     n
 }
 
-// The same for each of the first n generators.
+// For each of the first n generators, up to which it commutes with every generator.
 pub fn rises(words: &Words, reach: &Reaches, n: usize) -> Reaches
     requires { ⌜ (n ≤ maxGenerators) × Quiet n (now words) (now reach) ⌝ }
     ensures { λ r. ⌜ Central n (now (words .entry)) r ⌝ }
@@ -95,7 +95,7 @@ pub fn rises(words: &Words, reach: &Reaches, n: usize) -> Reaches
 // One more than the highest of the first k exponents of x that conjugation by generator j may change; 0 where it keeps all.
 pub fn moved(words: &Words, reach: &Reaches, k: usize, j: usize, x: Row) -> usize
     requires { ⌜ (k ≤ j) × (j < maxGenerators) × Reach (now words) j (getD (now reach) j 0) ⌝ }
-    ensures { λ r. ⌜ Moved (now (words .entry)) k j x r ⌝ }
+    ensures { λ r. ⌜ KeepsFrom (now (words .entry)) k j x r ⌝ }
 {
     let first = reach[j];
     let mut m = if first < k { first } else { k };

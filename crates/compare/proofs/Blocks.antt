@@ -30,7 +30,7 @@ use Rattle.seek.specs.declared.Scope.{Scope}
 use Rattle.seek.specs.Seek.{Found}
 use Rattle.seek.proofs.Halves.{lines-there}
 use Rattle.compare.specs.declared.Stage.{Stage}
-use Rattle.compare.specs.declared.Block.{Block}
+use Rattle.compare.specs.declared.Stretch.{Stretch}
 use Rattle.compare.specs.Shifted.{shift, LineShifted, Shifted, LineSame, LinesSame}
 use Rattle.compare.specs.Staged.{Staged}
 use Rattle.compare.proofs.Shifted.{same-shifted}
@@ -47,7 +47,7 @@ module _ {s : Scope} {T : List ℕ} {D : Listed} (I : Present s T D) where
   pub inside-column : (o : ℕ) → 0 < s .gens → o < D .deg → 8 * (D .line + o) + 8 ≤ length T
   inside-column o p l = omega (arith, inside-matrix 0 p)
 
-module _ {s : Scope} {T : List ℕ} {D : Listed} {B : Block} (O : Based s T D B) where
+module _ {s : Scope} {T : List ℕ} {D : Listed} {B : Stretch} (O : Based s T D B) where
   pub block-lines : (g : ℕ) → g < s .gens → 8 * (lineIn D g + B .start + B .part .deg) ≤ length T
   block-lines g l = omega (arith, inside-matrix (O .inside) g l, O .within)
 
@@ -56,10 +56,10 @@ module _ {s : Scope} {T : List ℕ} {D : Listed} {B : Block} (O : Based s T D B)
 
 -- ---- Generators below the top
 
-pub record Lowering (s : Scope) (T : List ℕ) (D : Listed) (B : Block) (k : ℕ) : Type 0 where
+pub record Lowering (s : Scope) (T : List ℕ) (D : Listed) (B : Stretch) (k : ℕ) : Type 0 where
   pub each : (h : ℕ) → h < k → Shifted (s .m) T (lineIn D h + B .start) (lineIn (B .part) h) (B .part .deg) (shift (B .refn) (B .start) 0)
 
-module _ {s : Scope} {T : List ℕ} {D : Listed} {B : Block} where
+module _ {s : Scope} {T : List ℕ} {D : Listed} {B : Stretch} where
   pub lowering-none : Lowering s T D B 0
   lowering-none = record { each = λ h l. absurd (omega arith) }
 
@@ -70,7 +70,7 @@ module _ {s : Scope} {T : List ℕ} {D : Listed} {B : Block} where
   pub lowering-all : {k top : ℕ} → Lowering s T D B k → top ≤ k → Lower s T D B top
   lowering-all h l = record { each = λ g b. h .each g (omega arith) }
 
-module _ {s : Scope} {T : List ℕ} {D : Listed} {B : Block} (O : Based s T D B) (one : D .deg ≡ 1) {top : ℕ} (low : top < s .gens) where
+module _ {s : Scope} {T : List ℕ} {D : Listed} {B : Stretch} (O : Based s T D B) (one : D .deg ≡ 1) {top : ℕ} (low : top < s .gens) where
   width-one : B .part .deg ≡ 1
   width-one = omega (arith, O .within, O .stored .positive)
 
@@ -98,7 +98,7 @@ module _ {s : Scope} {T : List ℕ} {D : Listed} {B : Block} (O : Based s T D B)
 pub row-single : (row w deg : ℕ) → w ≡ deg → row < deg → 0 ≡ row / w * w
 row-single row w deg e l = sym (ap (λ q. q * w) (div-eq-of-lt (omega (arith, e, l))) ∙ omega arith)
 
-module _ (s : Scope) (T : List ℕ) (D E : Listed) (B : Block) (g x at src row : ℕ) (y : Entry) (first : at ≡ lineIn D g + B .start)
+module _ (s : Scope) (T : List ℕ) (D E : Listed) (B : Stretch) (g x at src row : ℕ) (y : Entry) (first : at ≡ lineIn D g + B .start)
     (second : src ≡ lineIn (B .part) g) (entry-is : y ≡ entryIn T at) (row-is : row ≡ y .row / B .part .deg * B .part .deg) where
   row-to : row ≡ rowTo T D B g
   row-to = row-is ∙ ap (λ (y : Entry). y .row / B .part .deg * B .part .deg) (entry-is ∙ ap (entryIn T) first)
@@ -119,13 +119,13 @@ module _ (s : Scope) (T : List ℕ) (D E : Listed) (B : Block) (g x at src row :
 
 -- ---- Generators above the top
 
-pub record Raising (s : Scope) (T : List ℕ) (g : Stage) (D : Listed) (B : Block) (k : ℕ) : Type 0 where
+pub record Raising (s : Scope) (T : List ℕ) (g : Stage) (D : Listed) (B : Stretch) (k : ℕ) : Type 0 where
   pub each : (j : ℕ) → g .top < j → j < k → Upper s T g D B j
 
-pub raising-none : (s : Scope) (T : List ℕ) (g : Stage) (D : Listed) (B : Block) → Raising s T g D B (g .top + 1)
+pub raising-none : (s : Scope) (T : List ℕ) (g : Stage) (D : Listed) (B : Stretch) → Raising s T g D B (g .top + 1)
 raising-none s T g D B = record { each = λ j l h. absurd (omega arith) }
 
-module _ {s : Scope} {T : List ℕ} {g : Stage} {D : Listed} {B : Block} {k : ℕ} (h : Raising s T g D B k) where
+module _ {s : Scope} {T : List ℕ} {g : Stage} {D : Listed} {B : Stretch} {k : ℕ} (h : Raising s T g D B k) where
   pub raising-more : Upper s T g D B k → Raising s T g D B (k + 1)
   raising-more U = record { each = λ j a b. below-more (λ j. g .top < j → Upper s T g D B j) k (λ j b a. h .each j a b) (λ a. U) j b a }
 

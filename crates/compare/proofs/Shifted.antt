@@ -2,7 +2,7 @@
 --
 --   never                a test that says false says nothing
 --   line-shifted         a line by its three words
---   line-same, same-shifted     a line by its three words, and as a shifted line
+--   line-same, same-shifted     a line by its reference and two words at once, and as a shifted line
 --   same-none, same-more, same-fewer      lines that are the same, one by one
 --   Shifting             the first k lines are shifted
 --   shifting-none, shifting-more, shifting-all      the steps of the loop
@@ -15,8 +15,9 @@ use native.Mathlib.Omega.{arith}
 use borrow.Author.Count.{below-more}
 use Rattle.definitions.specs.declared.Entry.{Entry}
 use Rattle.definitions.specs.Monomial.{entry}
-use Rattle.definitions.specs.Table.{REF, wordAt}
+use Rattle.definitions.specs.Table.{REF, ROW, wordAt}
 use Rattle.level.specs.Stored.{entryIn}
+use Rattle.check_lines.specs.Lines.{TwoWords}
 use Rattle.compare.specs.declared.Shift.{Shift}
 use Rattle.compare.specs.Shifted.{shift, LineShifted, Shifted, LineSame, LinesSame}
 
@@ -30,9 +31,11 @@ line-shifted m T at src t x y e ref from to row sum exp = record {
   is = sym to ∙ ap₂ entry row (exp ∙ sum) ∙ ap (λ (x : Entry). entry (t .row + x .row) ((x .exp + t .exp) % m)) from;
 }
 
-pub line-same : (T : List ℕ) (at src x : ℕ) (y z : Entry) → wordAt T at REF ≡ x → y ≡ entryIn T src → z ≡ entryIn T at → z .row ≡ y .row → z .exp ≡ y .exp
-    → LineSame T at src x
-line-same T at src x y z ref from to row exp = record { ref = ref; is = sym to ∙ ap₂ entry row exp ∙ from }
+pub line-same : (T : List ℕ) (at src x y z : ℕ) → wordAt T at REF ≡ x → TwoWords T at ROW y → TwoWords T src ROW z → y ≡ z → LineSame T at src x
+line-same T at src x y z ref to from e =
+    let row : wordAt T at ROW ≡ wordAt T src ROW = omega (arith, to .is, to .low, from .is, from .low, e) in
+    let exp : wordAt T at (ROW + 1) ≡ wordAt T src (ROW + 1) = omega (arith, to .is, to .low, from .is, from .low, e) in
+    record { ref = ref; is = ap₂ entry row exp }
 
 pub same-shifted : (m : ℕ) (T : List ℕ) (at src x r : ℕ) → LineSame T at src x → entryIn T src .exp < m → r ≡ 0 → LineShifted m T at src (shift x r 0)
 same-shifted m T at src x r h l z =

@@ -26,11 +26,11 @@ use Rattle.level.specs.Stored.{entryIn, lineIn, generatorIn, targetIn, Stored}
 use Rattle.seek.specs.declared.Scope.{Scope}
 use Rattle.seek.specs.Seek.{Found}
 use Rattle.compare.specs.declared.Stage.{Stage}
-use Rattle.compare.specs.declared.Block.{Block}
+use Rattle.compare.specs.declared.Stretch.{Stretch}
 use Rattle.compare.specs.Shifted.{shift, Shifted}
 use Rattle.compare.specs.Staged.{maxLines}
 
-abbrev pub block : ℕ → ℕ → Listed → Block
+abbrev pub block : ℕ → ℕ → Listed → Stretch
 block o x F = record { start = o; refn = x; part = F }
 
 pub record Present (s : Scope) (T : List ℕ) (D : Listed) : Type 0 where
@@ -38,30 +38,30 @@ pub record Present (s : Scope) (T : List ℕ) (D : Listed) : Type 0 where
   pub positive : 0 < D .deg
   pub narrow : D .deg ≤ maxLines
 
-pub record Based (s : Scope) (T : List ℕ) (D : Listed) (B : Block) : Type 0 where
+pub record Based (s : Scope) (T : List ℕ) (D : Listed) (B : Stretch) : Type 0 where
   pub inside : Present s T D
   pub within : B .start + B .part .deg ≤ D .deg
   pub modulus : 0 < s .m
   pub stored : Stored (s .m) (s .gens) T (B .part)
 
-pub record Lower (s : Scope) (T : List ℕ) (D : Listed) (B : Block) (top : ℕ) : Type 0 where
+pub record Lower (s : Scope) (T : List ℕ) (D : Listed) (B : Stretch) (top : ℕ) : Type 0 where
   pub each : (h : ℕ) → h < top → Shifted (s .m) T (lineIn D h + B .start) (lineIn (B .part) h) (B .part .deg) (shift (B .refn) (B .start) 0)
 
 -- one block of width w, or valid matrices
 pub record Proper (s : Scope) (T : List ℕ) (D : Listed) (w : ℕ) : Type 0 where
   pub valid : ¬ (D .deg ≡ w) → allBelow (s .gens) (λ g. valid (s .m) (D .deg) (generatorIn T D g)) ≡ true
 
-abbrev pub rowTo : List ℕ → Listed → Block → ℕ → ℕ
+abbrev pub rowTo : List ℕ → Listed → Stretch → ℕ → ℕ
 rowTo T D B g = entryIn T (lineIn D g + B .start) .row / B .part .deg * B .part .deg
 
-pub record TakesBlock (s : Scope) (T : List ℕ) (D E : Listed) (B : Block) (g x : ℕ) : Type 0 where
+pub record TakesBlock (s : Scope) (T : List ℕ) (D E : Listed) (B : Stretch) (g x : ℕ) : Type 0 where
   pub lands : entryIn T (lineIn D g + B .start) .row < D .deg
   pub leads : wordAt T (E .line + rowTo T D B g) REF ≡ targetIn T (B .part) g
   pub shifted : Shifted (s .m) T (lineIn D g + B .start) (lineIn (B .part) g) (B .part .deg)
       (shift x (rowTo T D B g) (less (s .m) (entryIn T (lineIn D g + B .start) .exp) (entryIn T (lineIn (B .part) g) .exp)))
 
 module _ (s : Scope) (T : List ℕ) (g : Stage) (D : Listed) where
-  pub record Upper (B : Block) (j : ℕ) : Type 0 where
+  pub record Upper (B : Stretch) (j : ℕ) : Type 0 where
     pub target : Listed
     pub found : Found (s .gens) T (suc (g .top)) (targetIn T D j) target
     pub degree : target .deg ≡ D .deg
@@ -70,7 +70,7 @@ module _ (s : Scope) (T : List ℕ) (g : Stage) (D : Listed) where
     pub width : first .deg ≡ B .part .deg
     pub carried : TakesBlock s T D target B j (targetIn T D j)
 
-  pub record Uppers (B : Block) : Type 0 where
+  pub record Uppers (B : Stretch) : Type 0 where
     pub each : (j : ℕ) → g .top < j → j < s .gens → Upper B j
 
   abbrev pub refAt : ℕ → ℕ

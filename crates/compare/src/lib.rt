@@ -2,7 +2,7 @@
 // to the rows of a block and scaled by a power of the root. Nothing is multiplied. A test here is answered one way: where it says
 // true, what it asks holds.
 //
-//   Stage, Block, Shift              a level over the level below; a block; what moves a matrix to a block
+//   Stage, Stretch, Shift              a level over the level below; a block; what moves a matrix to a block
 //   line_shifted, lines_shifted      lines that are other lines, shifted
 //   line_same, lines_same            lines that are other lines, but for their references
 //   rep_at                           a representation by its place in a list of first lines
@@ -34,7 +34,7 @@ pub struct Stage {
 }
 
 // A block of a representation: its first column, the number to which it refers, and that representation of the level below.
-pub struct Block {
+pub struct Stretch {
     pub start: u32,
     pub refn: u32,
     pub part: Listed,
@@ -90,16 +90,11 @@ fn line_same(words: &[u32], at: usize, src: usize, x: u32) -> bool
     if level::word_at(words, at, level::REF) != x {
         return false;
     }
-    let y = level::entry_at(words, src);
-    let z = level::entry_at(words, at);
-    if z.row != y.row {
-        return false;
-    }
-    z.exp == y.exp
+    check_lines::two_at(words, at, level::ROW) == check_lines::two_at(words, src, level::ROW)
 }
 
 // So do n lines from `at` on, with those from src on.
-fn lines_same(words: &[u32], at: usize, src: usize, n: u32, x: u32) -> bool
+pub fn lines_same(words: &[u32], at: usize, src: usize, n: u32, x: u32) -> bool
     requires { ⌜ (8 * (at + n) ≤ length (now words)) × (8 * (src + n) ≤ length (now words)) ⌝ }
     ensures { λ r. ⌜ (r ≡ true → LinesSame (now (words .entry)) at src n x) ⌝ }
 {
@@ -127,7 +122,7 @@ pub fn rep_at(words: &[u32], firsts: &[u32], at: usize) -> Listed
 // ---- One block
 
 // Each generator below the top acts on the block as on what it refers to; where the degree is 1, line by line.
-fn lower_fits(words: &[u32], s: Scope, top: u32, d: Listed, b: Block) -> bool
+fn lower_fits(words: &[u32], s: Scope, top: u32, d: Listed, b: Stretch) -> bool
     requires { ⌜ Based s (now words) d b × (top < s .gens) ⌝ }
     ensures { λ r. ⌜ (r ≡ true → Lower s (now (words .entry)) d b top) ⌝ }
 {
@@ -162,7 +157,7 @@ fn block_row(row: u32, w: u32, deg: u32) -> u32
 
 // Generator g takes the block of d to a block of e, of the same degree, as it takes what the block refers to, up to a power of
 // the root; its columns refer to x.
-fn generator_fits(words: &[u32], s: Scope, d: Listed, e: Listed, b: Block, g: u32, x: u32) -> bool
+fn generator_fits(words: &[u32], s: Scope, d: Listed, e: Listed, b: Stretch, g: u32, x: u32) -> bool
     requires { ⌜ Based s (now words) d b × Present s (now words) e × (e .deg ≡ d .deg) × (g < s .gens) ⌝ }
     ensures { λ r. ⌜ (r ≡ true → TakesBlock s (now (words .entry)) d e b g x) ⌝ }
 {
@@ -187,7 +182,7 @@ fn generator_fits(words: &[u32], s: Scope, d: Listed, e: Listed, b: Block, g: u3
 }
 
 // Generator j, above the top, does so; it leads d to a representation of the same degree, with blocks of the same width.
-fn led_to(words: &[u32], firsts: &[u32], s: Scope, g: Stage, d: Listed, b: Block, j: u32) -> bool
+fn led_to(words: &[u32], firsts: &[u32], s: Scope, g: Stage, d: Listed, b: Stretch, j: u32) -> bool
     requires { ⌜ Staged s (now words) (now firsts) g × Based s (now words) d b × (j < s .gens) ⌝ }
     ensures { λ r. ⌜ (r ≡ true → Upper s (now (words .entry)) g d b j) ⌝ }
 {
@@ -213,7 +208,7 @@ fn led_to(words: &[u32], firsts: &[u32], s: Scope, g: Stage, d: Listed, b: Block
 }
 
 // So do all generators above the top.
-fn upper_fits(words: &[u32], firsts: &[u32], s: Scope, g: Stage, d: Listed, b: Block) -> bool
+fn upper_fits(words: &[u32], firsts: &[u32], s: Scope, g: Stage, d: Listed, b: Stretch) -> bool
     requires { ⌜ Staged s (now words) (now firsts) g × Based s (now words) d b ⌝ }
     ensures { λ r. ⌜ (r ≡ true → Uppers s (now (words .entry)) g d b) ⌝ }
 {
@@ -240,7 +235,7 @@ fn block_fits(words: &[u32], firsts: &[u32], s: Scope, g: Stage, d: Listed, o: u
     if part.deg != w {
         return false;
     }
-    let b = Block {
+    let b = Stretch {
         start: o,
         refn: x,
         part,

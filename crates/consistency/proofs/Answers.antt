@@ -21,13 +21,13 @@ use Rattle.numbers.proofs.Lists.{allBelow-elim, allBelow-fails}
 use Rattle.group.specs.Context.{Context}
 use Rattle.group.proofs.Clauses.{sameForm-eq, eq-sameForm}
 use Rattle.group.proofs.Central.{groupBelow, central-low, central-high, central-inner}
-use Rattle.rows.specs.Rows.{Small, Ready, Reads, Generator}
-use Rattle.rows.proofs.Laws.{generator-is, small-below, reads-below}
+use Rattle.rows.specs.Rows.{Small, Ranged, Reads, Generator}
+use Rattle.rows.proofs.Forms.{generator-is, small-below, reads-below}
 use Rattle.commuting.specs.Commuting.{Commutes}
 use Rattle.commuting.proofs.Skips.{keeps-empty}
 use Rattle.collector.specs.Products.{Product, Conjugate, Power, Turned}
 use Rattle.consistency.specs.Images.{Images, Value}
-use Rattle.consistency.specs.Answers.{Answer, Settles, powerKept, commutatorKept, innerAt}
+use Rattle.consistency.specs.Answers.{TestAnswer, Settles, powerKept, commutatorKept, innerAt}
 
 module _ (i : ℕ) (ps : List ℕ) (ws : List (List ℕ)) (q : Presentation → ℕ → Bool) where
   pub settles-none : Settles i ps ws (λ P. allBelow 0 (q P)) true
@@ -43,23 +43,23 @@ module _ (i : ℕ) (ps : List ℕ) (ws : List (List ℕ)) (q : Presentation → 
 
 -- the levels below i pass, so that what needs this is known of level i
 module _ (n : ℕ) (ps : List ℕ) (ws : List (List ℕ)) where
-  pub answer-none : Answer n ps ws (λ P. allBelow 0 (levelTest P)) true
+  pub answer-none : TestAnswer n ps ws (λ P. allBelow 0 (levelTest P)) true
   unfolding allBelow
   answer-none = record { is = λ C R. refl }
 
-  module _ (i : ℕ) (b : Bool) (l : i < n) (a : Answer n ps ws (λ P. allBelow i (levelTest P)) true) (t : Settles i ps ws (λ P. levelTest P i) b) where
+  module _ (i : ℕ) (b : Bool) (l : i < n) (a : TestAnswer n ps ws (λ P. allBelow i (levelTest P)) true) (t : Settles i ps ws (λ P. levelTest P i) b) where
     level-is : (C : Context) → Reads (C .P) n ps ws → b ≡ levelTest (C .P) i
     level-is C R = t .is C (reads-below (C .P) (suc i) n ps ws (omega arith) R) (allBelow-elim i (levelTest (C .P)) (sym (a .is C R)))
 
-    pub answer-more : b ≡ true → Answer n ps ws (λ P. allBelow (i + 1) (levelTest P)) true
+    pub answer-more : b ≡ true → TestAnswer n ps ws (λ P. allBelow (i + 1) (levelTest P)) true
     unfolding allBelow
     answer-more e = record { is = λ C R. sym (ap (λ m. allBelow m (levelTest (C .P))) (add-one i) ∙ and-intro (allBelow i (levelTest (C .P))) (levelTest (C .P) i) (sym (a .is C R)) (sym (level-is C R) ∙ e)) }
 
-    pub answer-fails : b ≡ false → Answer n ps ws (λ P. allBelow n (levelTest P)) false
+    pub answer-fails : b ≡ false → TestAnswer n ps ws (λ P. allBelow n (levelTest P)) false
     answer-fails e = record { is = λ C R. sym (allBelow-fails n (levelTest (C .P)) i l (sym (level-is C R) ∙ e)) }
 
 module _ (m : ℕ) (ps : List ℕ) (ws : List (List ℕ)) where
-  pub word-small : (j i n : ℕ) (w : List ℕ) → Ready m ps ws → i ≤ j → j < m → n ≤ m → w ≡ getD ws (pairNumber j i) [] → Small n ps w
+  pub word-small : (j i n : ℕ) (w : List ℕ) → Ranged m ps ws → i ≤ j → j < m → n ≤ m → w ≡ getD ws (pairNumber j i) [] → Small n ps w
   word-small j i n w r a b l e = subst (Small n ps) (sym e) (small-below n m ps _ l (r .word j i a b))
 
 module _ (i : ℕ) (ps : List ℕ) (ws : List (List ℕ)) where

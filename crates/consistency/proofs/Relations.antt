@@ -16,13 +16,13 @@ use Rattle.definitions.specs.Presentation.{maxGenerators, maxOrder, order, Rela
 use Rattle.definitions.specs.Consistency.{Consistent, levelTest, test}
 use Rattle.numbers.proofs.Bools.{or-false-left}
 use Rattle.group.proofs.Context.{prime-two, prime-small, context, accept}
-use Rattle.rows.specs.Rows.{Ready, Reads}
-use Rattle.rows.proofs.Laws.{reads-small}
-use Rattle.consistency.specs.Answers.{Answer, Decides}
+use Rattle.rows.specs.Rows.{Ranged, Reads}
+use Rattle.rows.proofs.Forms.{reads-small}
+use Rattle.consistency.specs.Answers.{TestAnswer, DecidesTest}
 
 module _ (R : Relations) (formed : wellFormed R ≡ true) (primes : someNotPrime R ≡ false) (used : misused R ≡ false)
     (n : ℕ) (count : n ≡ R .n) (ps : List ℕ) (ws : List (List ℕ)) (reads : Reads (presentation R) n ps ws) where
-  pub reads-ready : tooLarge R ≡ false → Ready n ps ws
+  pub reads-ready : tooLarge R ≡ false → Ranged n ps ws
   unfolding context tooLarge
   reads-ready h = record {
     few = omega (arith, ltb-false maxGenerators (R .n) (or-false-left (ltb maxGenerators (R .n)) (ltb maxOrder (order (presentation R) (R .n))) h));
@@ -31,15 +31,15 @@ module _ (R : Relations) (formed : wellFormed R ≡ true) (primes : someNotPrime
     word = λ j i. reads-small (context R formed primes used) n ps ws reads j i;
   }
 
-  pub decides-relations : (r : Bool) → Answer n ps ws (λ P. allBelow n (levelTest P)) r → r ≡ test (presentation R)
+  pub decides-relations : (r : Bool) → TestAnswer n ps ws (λ P. allBelow n (levelTest P)) r → r ≡ test (presentation R)
   unfolding context presentation test
   decides-relations r a = a .is (context R formed primes used) reads ∙ ap (λ m. allBelow m (levelTest (presentation R))) count
 
   -- the answer of the code is whether the presentation is consistent
-  pub decides-consistent : (r : Bool) → Decides n ps ws r → (r ≡ true) ↔ Consistent (presentation R)
+  pub decides-consistent : (r : Bool) → DecidesTest n ps ws r → (r ≡ true) ↔ Consistent (presentation R)
   decides-consistent r d =
       let e = d .is R formed primes used count reads in
       (λ t. accept R formed primes used .0 (sym e ∙ t), λ c. e ∙ accept R formed primes used .1 c)
 
-pub decides : (n : ℕ) (ps : List ℕ) (ws : List (List ℕ)) (r : Bool) → Answer n ps ws (λ P. allBelow n (levelTest P)) r → Decides n ps ws r
+pub decides : (n : ℕ) (ps : List ℕ) (ws : List (List ℕ)) (r : Bool) → TestAnswer n ps ws (λ P. allBelow n (levelTest P)) r → DecidesTest n ps ws r
 decides n ps ws r a = record { is = λ R f p u c H. decides-relations R f p u n c ps ws H r a }

@@ -14,8 +14,8 @@ use Rattle.definitions.specs.Consistency.{mul, conj, forms, image}
 use Rattle.numbers.proofs.Lists.{below-suc}
 use Rattle.group.proofs.Values.{value-zero, value-suc}
 use Rattle.group.proofs.Rows.{toNF-suc, toNF-trivial}
-use Rattle.rows.specs.Rows.{Small, Ready, Generator}
-use Rattle.rows.proofs.Laws.{zeros, generator-is, reads-below, small-zeros}
+use Rattle.rows.specs.Rows.{Small, Ranged, Generator}
+use Rattle.rows.proofs.Forms.{zeros, generator-is, reads-below, small-zeros}
 use Rattle.collector.specs.Products.{Conjugate, Scaled}
 use Rattle.consistency.specs.Images.{Images, Value}
 
@@ -32,7 +32,7 @@ module _ (i : ℕ) (ps : List ℕ) (ws : List (List ℕ)) where
         (ap (toNF i) (getD-set-same h k c [] l) ∙ q .is C R ∙ ap (conj (C .P) i i) (generator-is i k g gg));
   })
 
-  pub value-none : (x : List ℕ) → Ready i ps ws → Value i ps ws 0 x (replicate maxGenerators 0)
+  pub value-none : (x : List ℕ) → Ranged i ps ws → Value i ps ws 0 x (replicate maxGenerators 0)
   value-none x r = record {
     small = small-zeros i ps ws r;
     is = λ C R. toNF-trivial i (replicate maxGenerators 0) (λ m l. zeros m) ∙ sym (value-zero (forms (C .P) i) (image (C .P) i) (toNF 0 x));

@@ -9,10 +9,10 @@
 ghost use Prim.Native.Nat.{suc, _≤_, _<_};
 ghost use Rattle.definitions.specs.Lists.{allBelow};
 ghost use Rattle.definitions.specs.Consistency.{keepsPowers, keepsCommutators, fixesPower, powerIsInner, levelTest};
-ghost use Rattle.rows.specs.Rows.{Ready};
+ghost use Rattle.rows.specs.Rows.{Ranged};
 ghost use Rattle.commuting.specs.Commuting.{Quiet, Central};
 ghost use Rattle.consistency.specs.Images.{Images, Value};
-ghost use Rattle.consistency.specs.Answers.{Settles, Decides, powerKept, commutatorKept, innerAt};
+ghost use Rattle.consistency.specs.Answers.{Settles, DecidesTest, powerKept, commutatorKept, innerAt};
 use collector::conjugate;
 use collector::power;
 use collector::product;
@@ -32,8 +32,8 @@ use rows::word;
 pub type Forms = [[u32; GENERATORS]; GENERATORS];
 
 // The images of the generators below i under conjugation by generator i.
-pub fn images(primes: &Row, words: &Words, reach: &Reaches, i: usize) -> Forms
-    requires { ⌜ Ready (suc i) (now primes) (now words) × Quiet (suc i) (now words) (now reach) ⌝ }
+fn images(primes: &Row, words: &Words, reach: &Reaches, i: usize) -> Forms
+    requires { ⌜ Ranged (suc i) (now primes) (now words) × Quiet (suc i) (now words) (now reach) ⌝ }
     ensures { λ r. ⌜ Images i (now (primes .entry)) (now (words .entry)) r i ⌝ }
 {
     let mut h = [[0u32; GENERATORS]; GENERATORS];
@@ -46,16 +46,8 @@ pub fn images(primes: &Row, words: &Words, reach: &Reaches, i: usize) -> Forms
 }
 
 // The value over the images h of the first k exponents of x, on level i.
-pub fn value(
-    primes: &Row,
-    words: &Words,
-    reach: &Reaches,
-    h: &Forms,
-    i: usize,
-    k: usize,
-    x: Row,
-) -> Row
-    requires { ⌜ Ready (suc i) (now primes) (now words) × Quiet (suc i) (now words) (now reach) × Images i (now primes) (now words) (now h) i × (k ≤ i) ⌝ }
+fn value(primes: &Row, words: &Words, reach: &Reaches, h: &Forms, i: usize, k: usize, x: Row) -> Row
+    requires { ⌜ Ranged (suc i) (now primes) (now words) × Quiet (suc i) (now words) (now reach) × Images i (now primes) (now words) (now h) i × (k ≤ i) ⌝ }
     ensures { λ r. ⌜ Value i (now (primes .entry)) (now (words .entry)) k x r ⌝ }
 {
     let mut v = [0u32; GENERATORS];
@@ -69,15 +61,8 @@ pub fn value(
 }
 
 // The images h keep the power relation of generator k.
-pub fn keeps_power(
-    primes: &Row,
-    words: &Words,
-    reach: &Reaches,
-    h: &Forms,
-    i: usize,
-    k: usize,
-) -> bool
-    requires { ⌜ Ready (suc i) (now primes) (now words) × Quiet (suc i) (now words) (now reach) × Images i (now primes) (now words) (now h) i × (k < i) ⌝ }
+fn keeps_power(primes: &Row, words: &Words, reach: &Reaches, h: &Forms, i: usize, k: usize) -> bool
+    requires { ⌜ Ranged (suc i) (now primes) (now words) × Quiet (suc i) (now words) (now reach) × Images i (now primes) (now words) (now h) i × (k < i) ⌝ }
     ensures { λ r. ⌜ Settles i (now (primes .entry)) (now (words .entry)) (λ P. powerKept P i k) r ⌝ }
 {
     let g = h[k];
@@ -89,8 +74,8 @@ pub fn keeps_power(
 }
 
 // The images h keep the power relations of the generators below i.
-pub fn keeps_powers(primes: &Row, words: &Words, reach: &Reaches, h: &Forms, i: usize) -> bool
-    requires { ⌜ Ready (suc i) (now primes) (now words) × Quiet (suc i) (now words) (now reach) × Images i (now primes) (now words) (now h) i ⌝ }
+fn keeps_powers(primes: &Row, words: &Words, reach: &Reaches, h: &Forms, i: usize) -> bool
+    requires { ⌜ Ranged (suc i) (now primes) (now words) × Quiet (suc i) (now words) (now reach) × Images i (now primes) (now words) (now h) i ⌝ }
     ensures { λ r. ⌜ Settles i (now (primes .entry)) (now (words .entry)) (λ P. keepsPowers P i) r ⌝ }
 {
     for k in 0..i {
@@ -102,7 +87,7 @@ pub fn keeps_powers(primes: &Row, words: &Words, reach: &Reaches, h: &Forms, i: 
 }
 
 // The images h keep the commutator relation of generators k < j.
-pub fn keeps_commutator(
+fn keeps_commutator(
     primes: &Row,
     words: &Words,
     reach: &Reaches,
@@ -111,7 +96,7 @@ pub fn keeps_commutator(
     j: usize,
     k: usize,
 ) -> bool
-    requires { ⌜ Ready (suc i) (now primes) (now words) × Quiet (suc i) (now words) (now reach) × Images i (now primes) (now words) (now h) i × (k < j) × (j < i) ⌝ }
+    requires { ⌜ Ranged (suc i) (now primes) (now words) × Quiet (suc i) (now words) (now reach) × Images i (now primes) (now words) (now h) i × (k < j) × (j < i) ⌝ }
     ensures { λ r. ⌜ Settles i (now (primes .entry)) (now (words .entry)) (λ P. commutatorKept P i j k) r ⌝ }
 {
     let a = h[k];
@@ -124,8 +109,9 @@ pub fn keeps_commutator(
     same(i, l, r)
 }
 
-// The same. Where one of the two commutes with every generator up to i there is nothing to test.
-pub fn keeps_pair(
+// The images h keep the commutator relation of generators k < j; where one of the two commutes with every generator up to i there
+// is nothing to test.
+fn keeps_pair(
     primes: &Row,
     words: &Words,
     reach: &Reaches,
@@ -135,7 +121,8 @@ pub fn keeps_pair(
     j: usize,
     k: usize,
 ) -> bool
-    requires { ⌜ Ready (suc i) (now primes) (now words) × Quiet (suc i) (now words) (now reach) × Central (suc i) (now words) (now rise) × Images i (now primes) (now words) (now h) i × (k < j) × (j < i) ⌝ }
+    requires { ⌜ Ranged (suc i) (now primes) (now words) × Quiet (suc i) (now words) (now reach) × Central (suc i) (now words) (now rise) ⌝ }
+    requires { ⌜ Images i (now primes) (now words) (now h) i × (k < j) × (j < i) ⌝ }
     ensures { λ r. ⌜ Settles i (now (primes .entry)) (now (words .entry)) (λ P. commutatorKept P i j k) r ⌝ }
 {
     if i < rise[k] {
@@ -148,7 +135,7 @@ pub fn keeps_pair(
 }
 
 // The images h keep the commutator relations of generator j with those below it.
-pub fn keeps_commutators_of(
+fn keeps_commutators_of(
     primes: &Row,
     words: &Words,
     reach: &Reaches,
@@ -157,7 +144,7 @@ pub fn keeps_commutators_of(
     i: usize,
     j: usize,
 ) -> bool
-    requires { ⌜ Ready (suc i) (now primes) (now words) × Quiet (suc i) (now words) (now reach) × Central (suc i) (now words) (now rise) × Images i (now primes) (now words) (now h) i × (j < i) ⌝ }
+    requires { ⌜ Ranged (suc i) (now primes) (now words) × Quiet (suc i) (now words) (now reach) × Central (suc i) (now words) (now rise) × Images i (now primes) (now words) (now h) i × (j < i) ⌝ }
     ensures { λ r. ⌜ Settles i (now (primes .entry)) (now (words .entry)) (λ P. allBelow j (commutatorKept P i j)) r ⌝ }
 {
     for k in 0..j {
@@ -169,7 +156,7 @@ pub fn keeps_commutators_of(
 }
 
 // The images h keep the commutator relations below i.
-pub fn keeps_commutators(
+fn keeps_commutators(
     primes: &Row,
     words: &Words,
     reach: &Reaches,
@@ -177,7 +164,7 @@ pub fn keeps_commutators(
     h: &Forms,
     i: usize,
 ) -> bool
-    requires { ⌜ Ready (suc i) (now primes) (now words) × Quiet (suc i) (now words) (now reach) × Central (suc i) (now words) (now rise) × Images i (now primes) (now words) (now h) i ⌝ }
+    requires { ⌜ Ranged (suc i) (now primes) (now words) × Quiet (suc i) (now words) (now reach) × Central (suc i) (now words) (now rise) × Images i (now primes) (now words) (now h) i ⌝ }
     ensures { λ r. ⌜ Settles i (now (primes .entry)) (now (words .entry)) (λ P. keepsCommutators P i) r ⌝ }
 {
     for j in 0..i {
@@ -189,8 +176,8 @@ pub fn keeps_commutators(
 }
 
 // Conjugation by generator i fixes its power word.
-pub fn fixes_power(primes: &Row, words: &Words, reach: &Reaches, i: usize) -> bool
-    requires { ⌜ Ready (suc i) (now primes) (now words) × Quiet (suc i) (now words) (now reach) ⌝ }
+fn fixes_power(primes: &Row, words: &Words, reach: &Reaches, i: usize) -> bool
+    requires { ⌜ Ranged (suc i) (now primes) (now words) × Quiet (suc i) (now words) (now reach) ⌝ }
     ensures { λ r. ⌜ Settles i (now (primes .entry)) (now (words .entry)) (λ P. fixesPower P i) r ⌝ }
 {
     let u = word(words, i, i);
@@ -199,8 +186,8 @@ pub fn fixes_power(primes: &Row, words: &Words, reach: &Reaches, i: usize) -> bo
 }
 
 // As many conjugations by generator i as its prime are conjugation by its power word, at generator k.
-pub fn is_inner_at(primes: &Row, words: &Words, reach: &Reaches, i: usize, k: usize) -> bool
-    requires { ⌜ Ready (suc i) (now primes) (now words) × Quiet (suc i) (now words) (now reach) × (k < i) ⌝ }
+fn is_inner_at(primes: &Row, words: &Words, reach: &Reaches, i: usize, k: usize) -> bool
+    requires { ⌜ Ranged (suc i) (now primes) (now words) × Quiet (suc i) (now words) (now reach) × (k < i) ⌝ }
     ensures { λ r. ⌜ Settles i (now (primes .entry)) (now (words .entry)) (λ P. innerAt P i k) r ⌝ }
 {
     let u = word(words, i, i);
@@ -212,8 +199,9 @@ pub fn is_inner_at(primes: &Row, words: &Words, reach: &Reaches, i: usize, k: us
     same(i, left, right)
 }
 
-// The same. Where generator k commutes with every generator up to i there is nothing to test.
-pub fn is_inner_on(
+// As many conjugations by generator i as its prime are conjugation by its power word, at generator k; where generator k commutes
+// with every generator up to i there is nothing to test.
+fn is_inner_on(
     primes: &Row,
     words: &Words,
     reach: &Reaches,
@@ -221,7 +209,7 @@ pub fn is_inner_on(
     i: usize,
     k: usize,
 ) -> bool
-    requires { ⌜ Ready (suc i) (now primes) (now words) × Quiet (suc i) (now words) (now reach) × Central (suc i) (now words) (now rise) × (k < i) ⌝ }
+    requires { ⌜ Ranged (suc i) (now primes) (now words) × Quiet (suc i) (now words) (now reach) × Central (suc i) (now words) (now rise) × (k < i) ⌝ }
     ensures { λ r. ⌜ Settles i (now (primes .entry)) (now (words .entry)) (λ P. innerAt P i k) r ⌝ }
 {
     if i < rise[k] {
@@ -230,9 +218,9 @@ pub fn is_inner_on(
     is_inner_at(primes, words, reach, i, k)
 }
 
-// The same at every generator below i.
-pub fn is_inner(primes: &Row, words: &Words, reach: &Reaches, rise: &Reaches, i: usize) -> bool
-    requires { ⌜ Ready (suc i) (now primes) (now words) × Quiet (suc i) (now words) (now reach) × Central (suc i) (now words) (now rise) ⌝ }
+// As many conjugations by generator i as its prime are conjugation by its power word, at every generator below i.
+fn is_inner(primes: &Row, words: &Words, reach: &Reaches, rise: &Reaches, i: usize) -> bool
+    requires { ⌜ Ranged (suc i) (now primes) (now words) × Quiet (suc i) (now words) (now reach) × Central (suc i) (now words) (now rise) ⌝ }
     ensures { λ r. ⌜ Settles i (now (primes .entry)) (now (words .entry)) (λ P. powerIsInner P i) r ⌝ }
 {
     for k in 0..i {
@@ -244,8 +232,8 @@ pub fn is_inner(primes: &Row, words: &Words, reach: &Reaches, rise: &Reaches, i:
 }
 
 // The known test for generator i.
-pub fn level_passes(primes: &Row, words: &Words, reach: &Reaches, rise: &Reaches, i: usize) -> bool
-    requires { ⌜ Ready (suc i) (now primes) (now words) × Quiet (suc i) (now words) (now reach) × Central (suc i) (now words) (now rise) ⌝ }
+fn level_passes(primes: &Row, words: &Words, reach: &Reaches, rise: &Reaches, i: usize) -> bool
+    requires { ⌜ Ranged (suc i) (now primes) (now words) × Quiet (suc i) (now words) (now reach) × Central (suc i) (now words) (now rise) ⌝ }
     ensures { λ r. ⌜ Settles i (now (primes .entry)) (now (words .entry)) (λ P. levelTest P i) r ⌝ }
 {
     let h = images(primes, words, reach, i);
@@ -263,8 +251,8 @@ pub fn level_passes(primes: &Row, words: &Words, reach: &Reaches, rise: &Reaches
 
 // Whether the presentation of n generators is consistent (15): the known test for each generator.
 pub fn consistent(primes: &Row, words: &Words, n: usize) -> bool
-    requires { ⌜ Ready n (now primes) (now words) ⌝ }
-    ensures { λ r. ⌜ Decides n (now (primes .entry)) (now (words .entry)) r ⌝ }
+    requires { ⌜ Ranged n (now primes) (now words) ⌝ }
+    ensures { λ r. ⌜ DecidesTest n (now (primes .entry)) (now (words .entry)) r ⌝ }
 {
     let reach = reaches(words, n);
     let rise = rises(words, &reach, n);

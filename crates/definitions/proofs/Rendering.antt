@@ -19,7 +19,7 @@
 --   render-unique, render-injective    the names and the rows of a rendering
 --   length-upto, presentationNames-fields, -length, -injective    the names line of presentation text
 --   and-left, and-right           the two parts of a conjunction of tests
---   rowFormed, Formed, wellFormed-formed, formed-wellFormed       the conditions of `wellFormed`
+--   rowFormed, FormedRows, wellFormed-formed, formed-wellFormed       the conditions of `wellFormed`
 --   says-unique                   a text says the relations of one presentation
 use mathlib.Core.Path.{_≡_, refl, sym, ap, ap₂, subst, _∙_}
 use mathlib.Core.Logic.{_↔_, _≢_}
@@ -393,13 +393,13 @@ and-right false b h = absurd (false≢true h)
 abbrev pub rowFormed : ℕ → Row → Bool
 rowFormed n r = eqb (length (r .word)) n && leb (r .p) largest && small (r .word)
 
-pub record Formed (R : Relations) : Type 0 where
+pub record FormedRows (R : Relations) : Type 0 where
   pub some : 1 ≤ R .n
   pub few : R .n ≤ largest
   pub one-each : length (R .rows) ≡ length (pairs (R .n))
   pub formed-each : all (rowFormed (R .n)) (R .rows) ≡ true
 
-pub wellFormed-formed : (R : Relations) → wellFormed R ≡ true → Formed R
+pub wellFormed-formed : (R : Relations) → wellFormed R ≡ true → FormedRows R
 unfolding wellFormed
 wellFormed-formed R h =
     let a : Bool = leb 1 (R .n) in
@@ -415,7 +415,7 @@ wellFormed-formed R h =
       formed-each = and-right (a && b && c) d h;
     }
 
-pub formed-wellFormed : (R : Relations) → Formed R → wellFormed R ≡ true
+pub formed-wellFormed : (R : Relations) → FormedRows R → wellFormed R ≡ true
 unfolding wellFormed
 formed-wellFormed R h =
     let t : (leb 1 (R .n) && leb (R .n) largest && eqb (length (R .rows)) (length (pairs (R .n)))) ≡ true =

@@ -10,11 +10,11 @@
 --   notSeparated               25; a place, in the specification, is a basis index of a representation
 --   squaresFail                26
 use Prim.Native.Nat.{ℕ, zero, suc, _+_, _*_, _%_}
-use mathlib.Core.Bool.{Bool, true, false, _&&_, _||_, not, cond}
-use mathlib.Core.List.{List, [], _∷_, _++_, map}
+use mathlib.Core.Bool.{Bool, true, _&&_, _||_, not, cond}
+use mathlib.Core.List.{List, [], _∷_, map}
 use lib.ListN.{length}
 use lib.Dec.{eqb, leb, ltb}
-use Rattle.definitions.specs.Lists.{upto, blocks, sum, allBelow, all, any}
+use Rattle.definitions.specs.Lists.{blocks, sum, allBelow, all, any}
 use Rattle.definitions.specs.Presentation.{lineWords, NF, Presentation, order, power}
 use Rattle.definitions.specs.Monomial.{entry, col, product, matrices, valid, sameEntry, sameMatrix, Rep, Level, repOf, image, conjugate}
 use Rattle.definitions.specs.Table.{levelAt, complete}

@@ -10,9 +10,9 @@
 --   valid, sameMatrix          a matrix of degree d; equality of matrices
 --   Rep, Level, repOf L r      a representation with its intertwiners; a level; its representation r
 --   conjugate m P D k j        D(j⁻¹ k j) for generators k < j
-use Prim.Native.Nat.{ℕ, zero, suc, _+_, _-_, _%_}
-use mathlib.Core.Bool.{Bool, true, false, _&&_}
-use mathlib.Core.List.{List, [], _∷_, map}
+use Prim.Native.Nat.{ℕ, suc, _+_, _-_, _%_}
+use mathlib.Core.Bool.{Bool, _&&_}
+use mathlib.Core.List.{List, [], map}
 use lib.ListN.{length, getD}
 use lib.Dec.{eqb, ltb}
 use Rattle.definitions.specs.declared.Entry.{Entry}

@@ -9,7 +9,7 @@
 --   render names rows the text of a names line and rows of values
 --   small row         every value of a row is at most `largest`
 use Prim.Native.Nat.{ℕ, zero, suc, _+_, _/_, _%_}
-use mathlib.Core.Bool.{Bool, true, false, cond}
+use mathlib.Core.Bool.{Bool, cond}
 use mathlib.Core.List.{List, [], _∷_, _++_, map, flatMap}
 use lib.Dec.{ltb, leb}
 use Rattle.definitions.specs.Lists.{all}

@@ -1,2 +1,2 @@
 -- Laws of extensions.
-pub mod Laws
+pub mod Extensions

@@ -1,53 +1,58 @@
 // The extensions of a representation that the generator on top fixes, as lines behind the level below.
 //
 //   Origin, find_origin          what the extensions are copied from
-//   factor, reference            constant and reference of a generator in an extension
-//   append_extension             one extension, by its degree; append_extensions, all of them
+//   factor                       the constant of a generator in an extension
+//   power, reference             the reference of a generator in an extension
+//   append_matrix                one generator of an extension
+//   append_low, append_generators      the generators up to the one on top; all of an extension
+//   append_extension             one extension
+//   append_each, append_extensions     all of them
 ghost use mathlib.Core.Path.{_≡_};
-ghost use mathlib.Core.List.{[]};
-ghost use mathlib.Core.Bool.{cond};
-ghost use Prim.Native.Nat.{suc, _+_, _*_, _/_, _≤_, _<_};
-ghost use lib.ListN.{length, getD, take};
-ghost use lib.Dec.{eqb};
-ghost use Rattle.definitions.specs.Table.{repWords};
-ghost use Rattle.definitions.specs.Presentation.{maxGenerators, maxOrder, maxModulus, pairNumber};
-ghost use Rattle.formulas.specs.Formulas.{shift, start, extensionAt};
-ghost use Rattle.text.specs.Writing.{Wrote};
-ghost use Rattle.survey.specs.Below.{degOf, targetOf, sourceIn, Stands, Located, Rows, Array, Leading, Fixing, Lines};
-ghost use Rattle.targets.specs.Reached.{Ready};
-ghost use Rattle.extend.specs.Extending.{referenceOf, Extends, matrixWords, extensionsWords};
-use definitions::Entry;
+ghost use mathlib.Core.List.{List};
+ghost use Prim.Native.Nat.{ℕ, _+_, _*_, _≤_, _<_};
+ghost use Rattle.definitions.specs.Presentation.{maxModulus};
+ghost use Rattle.lines.specs.Lines.{Space, Appended};
+ghost use Rattle.survey.specs.Below.{lowOf, degOf, Fixed, Sound, Surveyed};
+ghost use Rattle.targets.specs.Reached.{Aimed};
+ghost use Rattle.extend.specs.Extending.{originOf, factorOf, powerOf, referenceOf, Extends, Copies};
+ghost use Rattle.extend.specs.Extending.{copyWords, lowWords, extensionWords, extensionsWords};
 use level::Listed;
 use lines::Head;
-use rows::GENERATORS;
-use rows::Row;
+use lines::Piece;
 use rows::Words;
 use survey::Frame;
+use targets::LANDING;
+use targets::START;
+use targets::TARGETS;
 
-// What the extensions of a representation are copied from: the representation, the constant of extension 0, and what each
-// extension adds to it.
+// What the extensions of a representation are copied from: its number and its lines; the number and the constant of
+// extension 0; and what each extension adds to the constant.
 pub struct Origin {
+    pub rep: u32,
     pub source: Listed,
+    pub number: u32,
     pub root: u32,
     pub step: u32,
 }
 
-// This of representation r.
-pub fn find_origin(low: &[u32], first: &[u32], shifts: &[u32], f: Frame, r: u32) -> Origin
-    requires { ⌜ Stands f (now low) × Lines f (now low) (now first) × (r < f .reps) × (r < length (now shifts)) × (getD (now shifts) r 0 < f .m) ⌝ }
-    ensures { λ o. ⌜ Located f (now (low .entry)) r (o .source) × (o .root ≡ getD (now (shifts .entry)) r 0 / f .p) × (o .step ≡ f .m / f .p) ⌝ }
+// What the extensions of representation r are copied from.
+fn find_origin(low: &[u32], notes: &[u32], f: Frame, r: u32) -> Origin
+    requires { ⌜ ((rows : List (List ℕ)) × Surveyed f (now low) rows (now notes)) × (r < f .reps) ⌝ }
+    ensures { λ o. ⌜ o ≡ originOf f (now (low .entry)) (now (notes .entry)) r ⌝ }
 {
     Origin {
-        source: survey::listed(low, first, f, r),
-        root: targets::root(shifts, f, r),
+        rep: r,
+        source: survey::listed(low, notes, f, r),
+        number: survey::note(notes, survey::NUMBER, r),
+        root: targets::root(notes, f, r),
         step: f.m / f.p,
     }
 }
 
 // The constant of generator g in extension k.
-pub fn factor(f: Frame, o: Origin, g: u32, k: u32) -> u32
+fn factor(f: Frame, o: Origin, g: u32, k: u32) -> u32
     requires { ⌜ (f .m ≤ maxModulus) × (o .root + k * o .step < f .m) ⌝ }
-    ensures { λ c. ⌜ (c ≡ cond (eqb g (f .top)) (o .root + k * o .step) 0) × (c < f .m) ⌝ }
+    ensures { λ c. ⌜ (c ≡ factorOf f o g k) × (c < f .m) ⌝ }
 {
     if g == f.top {
         return o.root + k * o.step;
@@ -55,206 +60,157 @@ pub fn factor(f: Frame, o: Origin, g: u32, k: u32) -> u32
     0
 }
 
-// The reference of generator g in extension k.
-pub fn reference(rows: &Words, to: &[u32], by: &[u32], f: Frame, r: u32, g: u32, k: u32) -> u32
-    requires { ⌜ (f .gens ≤ maxGenerators) × (f .top < f .gens) × (g < f .gens) × (f .gens ≤ length (now to)) × (f .gens ≤ length (now by)) × (0 < f .p) × (f .p ≤ maxOrder) × (k < f .p) ⌝ }
-    requires { ⌜ ((f .top < g) → (getD (now to) g 0 ≤ 268435456) × (getD (now by) g 0 ≤ maxModulus) × (getD (getD (now rows) (pairNumber g (f .top)) []) (f .top) 0 < f .p)) ⌝ }
-    ensures { λ x. ⌜ x ≡ referenceOf f (now (rows .entry)) (now (to .entry)) (now (by .entry)) r g k ⌝ }
+// The exponent of the generator on top in its conjugate by generator g.
+fn power(rows: &Words, f: Frame, g: u32) -> u32
+    requires { ⌜ ((W : List ℕ) × Sound f W (now rows)) × (f .top < g) × (g < f .gens) ⌝ }
+    ensures { λ a. ⌜ (a ≡ powerOf f (now (rows .entry)) g) × (a ≤ f .p) ⌝ }
 {
-    if g <= f.top {
-        return r;
-    }
-    let w = rows::word(rows, level::up(g), level::up(f.top));
     let t = level::up(f.top);
-    let a = w[t] + 1;
-    let l = survey::element(by, g);
-    survey::element(to, g) + (l + k * a) % f.p
+    let at = rows::pair(level::up(g), t);
+    rows[at][t] + 1
 }
 
-// Appends generator g of extension k of r, numbered rep, behind the level below. Returns the next line's number.
-pub fn append_matrix(
-    words: &mut [u32],
-    rows: &Words,
-    to: &[u32],
-    by: &[u32],
-    f: Frame,
-    o: Origin,
-    at: usize,
-    rep: u32,
-    r: u32,
-    k: u32,
-    g: u32,
-) -> usize
-    requires { ⌜ Ready f (take (8 * f .end) (now words)) (now rows) (now to) (now by) r × Extends f (take (8 * f .end) (now words)) (now rows) r o × (k < f .p) × (g < f .gens) × (f .end ≤ at) × (8 * at + 8 * degOf f (take (8 * f .end) (now words)) r ≤ length (now words)) ⌝ }
-    ensures { λ x. ⌜ Wrote (now (words .entry)) (8 * at) (matrixWords f (take (8 * f .end) (now (words .entry))) (now (rows .entry)) rep r k g) (now (words .exit)) (8 * x) ⌝ }
+// The reference of a generator g above the one on top in extension k.
+fn reference(rows: &Words, targets: &[u32], f: Frame, g: u32, k: u32) -> u32
+    requires { ⌜ ((W : List ℕ) × ((r : ℕ) × Aimed f W (now rows) r (now targets))) × (f .top < g) × (g < f .gens) × (k < f .p) ⌝ }
+    ensures { λ x. ⌜ x ≡ referenceOf f (now (rows .entry)) (now (targets .entry)) g k ⌝ }
 {
-    let c = factor(f, o, g, k);
-    let x = reference(rows, to, by, f, r, g, k);
+    let a = power(rows, f, g);
+    let l = targets::target(targets, LANDING, g);
+    targets::target(targets, START, g) + (l + k * a) % f.p
+}
+
+// Appends generator g of extension k, with reference x, behind the level below. Returns the next line's number.
+fn append_matrix(words: &mut [u32], f: Frame, o: Origin, at: usize, k: u32, g: u32, x: u32) -> usize
+    requires { ⌜ Copies f (lowOf f (now words)) o × (k < f .p) × (g < f .gens) ⌝ }
+    requires { ⌜ Space (f .end) at (8 * o .source .deg) (now words) ⌝ }
+    ensures { λ y. ⌜ Appended (now (words .entry)) at (copyWords f (lowOf f (now (words .entry))) o k g x) (now (words .exit)) y ⌝ }
+{
     let d = o.source;
-    let src = level::matrix_line(d, g);
+    let c = factor(f, o, g, k);
     let h = Head {
         level: f.top + 1,
-        rep: rep,
+        rep: o.number + k,
         deg: d.deg,
         generator: g + 1,
         refn: x,
     };
-    lines::append_block(words, f.end, at, h, 0, 0, src, d.deg, c, f.m)
-}
-
-// The same for a representation of degree 1.
-pub fn append_single(
-    words: &mut [u32],
-    rows: &Words,
-    to: &[u32],
-    by: &[u32],
-    f: Frame,
-    o: Origin,
-    at: usize,
-    rep: u32,
-    r: u32,
-    k: u32,
-    g: u32,
-) -> usize
-    requires { ⌜ Ready f (take (8 * f .end) (now words)) (now rows) (now to) (now by) r × Extends f (take (8 * f .end) (now words)) (now rows) r o × (k < f .p) × (g < f .gens) × (f .end ≤ at) × (8 * at + 8 * degOf f (take (8 * f .end) (now words)) r ≤ length (now words)) × (degOf f (take (8 * f .end) (now words)) r ≡ 1) ⌝ }
-    ensures { λ x. ⌜ Wrote (now (words .entry)) (8 * at) (matrixWords f (take (8 * f .end) (now (words .entry))) (now (rows .entry)) rep r k g) (now (words .exit)) (8 * x) ⌝ }
-{
-    let c = factor(f, o, g, k);
-    let x = reference(rows, to, by, f, r, g, k);
-    let src = level::matrix_line(o.source, g);
-    let h = Head {
-        level: f.top + 1,
-        rep: rep,
-        deg: 1,
-        generator: g + 1,
-        refn: x,
+    let b = Piece {
+        src: level::matrix_line(d, g),
+        deg: d.deg,
+        col: 0,
+        row: 0,
+        by: c,
     };
-    lines::append_line(words, f.end, at, h, 0, 0, src, c, f.m)
+    lines::append_block(words, f.end, at, h, b, f.m)
 }
 
-// Appends the generators of extension k of r, numbered rep.
-pub fn append_matrices(
-    words: &mut [u32],
-    rows: &Words,
-    to: &[u32],
-    by: &[u32],
-    f: Frame,
-    o: Origin,
-    at: usize,
-    rep: u32,
-    r: u32,
-    k: u32,
-) -> usize
-    requires { ⌜ Ready f (take (8 * f .end) (now words)) (now rows) (now to) (now by) r × Extends f (take (8 * f .end) (now words)) (now rows) r o × (k < f .p) × (f .end ≤ at) × (8 * at + 8 * (f .gens * degOf f (take (8 * f .end) (now words)) r) ≤ length (now words)) ⌝ }
-    ensures { λ x. ⌜ Wrote (now (words .entry)) (8 * at) (repWords (f .gens) (suc (f .top)) rep (extensionAt (sourceIn f (take (8 * f .end) (now (words .entry))) (now (rows .entry))) r k)) (now (words .exit)) (8 * x) ⌝ }
+// Appends those generators of extension k that are not above the one on top: the reference of each is the number of what is extended.
+fn append_low(words: &mut [u32], f: Frame, o: Origin, at: usize, k: u32) -> usize
+    requires { ⌜ Copies f (lowOf f (now words)) o × (k < f .p) ⌝ }
+    requires { ⌜ Space (f .end) at (8 * ((f .top + 1) * o .source .deg)) (now words) ⌝ }
+    ensures { λ x. ⌜ Appended (now (words .entry)) at (lowWords f (lowOf f (now (words .entry))) o k) (now (words .exit)) x ⌝ }
 {
     let mut pos = at;
-    let gens = f.gens;
-    for g in 0..gens {
-        pos = append_matrix(words, rows, to, by, f, o, pos, rep, r, k, g);
+    let above = f.top + 1;
+    for g in 0..above {
+        pos = append_matrix(words, f, o, pos, k, g, o.rep);
     }
     pos
 }
 
-// The same for a representation of degree 1.
-pub fn append_singles(
+// Appends the generators of extension k, one behind the other.
+fn append_generators(
     words: &mut [u32],
     rows: &Words,
-    to: &[u32],
-    by: &[u32],
+    targets: &[u32],
     f: Frame,
     o: Origin,
     at: usize,
-    rep: u32,
-    r: u32,
     k: u32,
 ) -> usize
-    requires { ⌜ Ready f (take (8 * f .end) (now words)) (now rows) (now to) (now by) r × Extends f (take (8 * f .end) (now words)) (now rows) r o × (k < f .p) × (f .end ≤ at) × (8 * at + 8 * (f .gens * degOf f (take (8 * f .end) (now words)) r) ≤ length (now words)) × (degOf f (take (8 * f .end) (now words)) r ≡ 1) ⌝ }
-    ensures { λ x. ⌜ Wrote (now (words .entry)) (8 * at) (repWords (f .gens) (suc (f .top)) rep (extensionAt (sourceIn f (take (8 * f .end) (now (words .entry))) (now (rows .entry))) r k)) (now (words .exit)) (8 * x) ⌝ }
+    requires { ⌜ Extends f (lowOf f (now words)) (now rows) (now targets) o × (k < f .p) ⌝ }
+    requires { ⌜ Space (f .end) at (8 * (f .gens * o .source .deg)) (now words) ⌝ }
+    ensures { λ x. ⌜ Appended (now (words .entry)) at (extensionWords f (lowOf f (now (words .entry))) (now (rows .entry)) (o .rep) k) (now (words .exit)) x ⌝ }
 {
-    let mut pos = at;
+    let mut pos = append_low(words, f, o, at, k);
+    let above = f.top + 1;
     let gens = f.gens;
-    for g in 0..gens {
-        pos = append_single(words, rows, to, by, f, o, pos, rep, r, k, g);
+    for g in above..gens {
+        let x = reference(rows, targets, f, g, k);
+        pos = append_matrix(words, f, o, pos, k, g, x);
     }
     pos
 }
 
-// Appends extension k of r, numbered rep.
-pub fn append_extension(
+// Appends extension k. Degree 1 is handed over as a constant, so that its loops are compiled apart.
+fn append_extension(
     words: &mut [u32],
     rows: &Words,
-    to: &[u32],
-    by: &[u32],
+    targets: &[u32],
     f: Frame,
     o: Origin,
     at: usize,
-    rep: u32,
-    r: u32,
     k: u32,
 ) -> usize
-    requires { ⌜ Ready f (take (8 * f .end) (now words)) (now rows) (now to) (now by) r × Extends f (take (8 * f .end) (now words)) (now rows) r o × (k < f .p) × (f .end ≤ at) × (8 * at + 8 * (f .gens * degOf f (take (8 * f .end) (now words)) r) ≤ length (now words)) ⌝ }
-    ensures { λ x. ⌜ Wrote (now (words .entry)) (8 * at) (repWords (f .gens) (suc (f .top)) rep (extensionAt (sourceIn f (take (8 * f .end) (now (words .entry))) (now (rows .entry))) r k)) (now (words .exit)) (8 * x) ⌝ }
+    requires { ⌜ Extends f (lowOf f (now words)) (now rows) (now targets) o × (k < f .p) ⌝ }
+    requires { ⌜ Space (f .end) at (8 * (f .gens * o .source .deg)) (now words) ⌝ }
+    ensures { λ x. ⌜ Appended (now (words .entry)) at (extensionWords f (lowOf f (now (words .entry))) (now (rows .entry)) (o .rep) k) (now (words .exit)) x ⌝ }
 {
     let d = o.source;
     if d.deg == 1 {
-        return append_singles(words, rows, to, by, f, o, at, rep, r, k);
+        let e = Origin {
+            rep: o.rep,
+            source: Listed {
+                line: d.line,
+                deg: 1,
+            },
+            number: o.number,
+            root: o.root,
+            step: o.step,
+        };
+        return append_generators(words, rows, targets, f, e, at, k);
     }
-    append_matrices(words, rows, to, by, f, o, at, rep, r, k)
+    append_generators(words, rows, targets, f, o, at, k)
 }
 
-// Appends the extensions of r, numbered from rep.
-pub fn append_each(
+// Appends the extensions, one behind the other.
+fn append_each(
     words: &mut [u32],
     rows: &Words,
-    to: &[u32],
-    by: &[u32],
+    targets: &[u32],
     f: Frame,
     o: Origin,
     at: usize,
-    rep: u32,
-    r: u32,
 ) -> usize
-    requires { ⌜ Ready f (take (8 * f .end) (now words)) (now rows) (now to) (now by) r × Extends f (take (8 * f .end) (now words)) (now rows) r o × (rep ≤ 268435456) × (f .end ≤ at) × (8 * at + f .p * (8 * (f .gens * degOf f (take (8 * f .end) (now words)) r)) ≤ length (now words)) ⌝ }
-    ensures { λ x. ⌜ Wrote (now (words .entry)) (8 * at) (extensionsWords f (take (8 * f .end) (now (words .entry))) (now (rows .entry)) rep r) (now (words .exit)) (8 * x) ⌝ }
+    requires { ⌜ Extends f (lowOf f (now words)) (now rows) (now targets) o ⌝ }
+    requires { ⌜ Space (f .end) at (f .p * (8 * (f .gens * o .source .deg))) (now words) ⌝ }
+    ensures { λ x. ⌜ Appended (now (words .entry)) at (extensionsWords f (lowOf f (now (words .entry))) (now (rows .entry)) (o .rep)) (now (words .exit)) x ⌝ }
 {
     let mut pos = at;
     let p = f.p;
     for k in 0..p {
-        pos = append_extension(words, rows, to, by, f, o, pos, rep + k, r, k);
+        pos = append_extension(words, rows, targets, f, o, pos, k);
     }
     pos
 }
 
-// Appends the extensions of r, which the generator on top fixes.
+// Appends the extensions of r, which the generator on top fixes, behind the level below. Returns the next line's number.
 pub fn append_extensions(
     words: &mut [u32],
-    first: &[u32],
     rows: &Words,
-    numbers: &[u32],
-    shifts: &[u32],
+    notes: &[u32],
     f: Frame,
     at: usize,
     r: u32,
 ) -> usize
-    requires { ⌜ Stands f (take (8 * f .end) (now words)) × Lines f (take (8 * f .end) (now words)) (now first) × Rows f (take (8 * f .end) (now words)) (now rows) × Array f (take (8 * f .end) (now words)) (now numbers) (start (sourceIn f (take (8 * f .end) (now words)) (now rows))) × Leading f (take (8 * f .end) (now words)) (now shifts) (shift (sourceIn f (take (8 * f .end) (now words)) (now rows))) × (r < f .reps) × (f .end ≤ at) × (8 * at + f .p * (8 * (f .gens * degOf f (take (8 * f .end) (now words)) r)) ≤ length (now words)) × (targetOf f (take (8 * f .end) (now words)) (f .top) r ≡ r) × Fixing f (take (8 * f .end) (now words)) ⌝ }
-    ensures { λ x. ⌜ Wrote (now (words .entry)) (8 * at) (extensionsWords f (take (8 * f .end) (now (words .entry))) (now (rows .entry)) (start (sourceIn f (take (8 * f .end) (now (words .entry))) (now (rows .entry))) r) r) (now (words .exit)) (8 * x) ⌝ }
+    requires { ⌜ Surveyed f (lowOf f (now words)) (now rows) (now notes) × (r < f .reps) × Fixed f (lowOf f (now words)) r ⌝ }
+    requires { ⌜ Space (f .end) at (f .p * (8 * (f .gens * degOf f (lowOf f (now words)) r))) (now words) ⌝ }
+    ensures { λ x. ⌜ Appended (now (words .entry)) at (extensionsWords f (lowOf f (now (words .entry))) (now (rows .entry)) r) (now (words .exit)) x ⌝ }
 {
     let n = 8 * f.end;
-    let mut to = [0u32; GENERATORS];
-    let mut by = [0u32; GENERATORS];
-    targets::find_targets(
-        &words[..n],
-        first,
-        rows,
-        numbers,
-        shifts,
-        &mut to,
-        &mut by,
-        f,
-        r,
-    );
-    let o = find_origin(&words[..n], first, shifts, f, r);
-    let rep = survey::element(numbers, r);
-    append_each(words, rows, &to, &by, f, o, at, rep, r)
+    let mut targets = [0u32; TARGETS];
+    targets::find_targets(&words[..n], rows, notes, &mut targets, f, r);
+    let o = find_origin(&words[..n], notes, f, r);
+    append_each(words, rows, &targets, f, o, at)
 }

@@ -1,3 +1,3 @@
 -- Laws of the words of level 1.
-pub mod Laws
+pub mod Lines
 pub mod Level

@@ -3,7 +3,7 @@
 --   rootRef, rootExp           the reference and the exponent of generator g in power k
 --   rootLine, rootWords        the line of a generator; the lines of power k
 --   firstWords                 the words of the level
---   Exponents                  the exponents of the lowest generator in its words with the generators above are below p
+--   WordsBelow                  the exponents of the lowest generator in its words with the generators above are below p
 use mathlib.Core.Bool.{cond}
 use mathlib.Core.List.{List, [], _∷_}
 use Prim.Native.Nat.{ℕ, suc, _*_, _/_, _%_, _<_}
@@ -28,5 +28,5 @@ rootWords n p m rows k = blocks n (rootLine p m rows k)
 unfoldable pub firstWords : (n p m : ℕ) → List (List ℕ) → List ℕ
 firstWords n p m rows = blocks p (rootWords n p m rows)
 
-pub record Exponents (n p : ℕ) (rows : List (List ℕ)) : Type 0 where
+pub record WordsBelow (n p : ℕ) (rows : List (List ℕ)) : Type 0 where
   pub below : (j : ℕ) → 0 < j → j < n → getD (getD rows (pairNumber j 0) []) 0 0 < p

@@ -3,15 +3,15 @@ ghost use mathlib.Core.Path.{_≡_};
 ghost use Prim.Native.Nat.{_+_, _*_, _≤_, _<_};
 ghost use lib.ListN.{length};
 ghost use Rattle.text.specs.Writing.{Wrote};
-ghost use Rattle.first.specs.Roots.{Exponents, rootRef, rootExp, rootWords, firstWords};
+ghost use Rattle.first.specs.Roots.{WordsBelow, rootRef, rootExp, rootWords, firstWords};
 use definitions::Entry;
 use lines::Head;
 use rows::Words;
 ghost use Rattle.definitions.specs.Presentation.{maxGenerators, maxOrder, maxModulus};
 
 // Where the intertwiner of generator g leads power k; 0 for the generator of the level.
-pub fn reference(rows: &Words, n: u32, p: u32, k: u32, g: u32) -> u32
-    requires { ⌜ (n ≤ maxGenerators) × (g < n) × (p ≤ maxOrder) × (k < p) × Exponents n p (now rows) ⌝ }
+fn reference(rows: &Words, n: u32, p: u32, k: u32, g: u32) -> u32
+    requires { ⌜ (n ≤ maxGenerators) × (g < n) × (p ≤ maxOrder) × (k < p) × WordsBelow n p (now rows) ⌝ }
     ensures { λ x. ⌜ x ≡ rootRef p (now (rows .entry)) k g ⌝ }
 {
     if g == 0 {
@@ -22,7 +22,7 @@ pub fn reference(rows: &Words, n: u32, p: u32, k: u32, g: u32) -> u32
 }
 
 // The exponent of generator g in power k.
-pub fn exponent(p: u32, m: u32, k: u32, g: u32) -> u32
+fn exponent(p: u32, m: u32, k: u32, g: u32) -> u32
     requires { ⌜ (p ≤ maxOrder) × (m ≤ maxModulus) × (k < p) ⌝ }
     ensures { λ x. ⌜ x ≡ rootExp p m k g ⌝ }
 {
@@ -33,16 +33,8 @@ pub fn exponent(p: u32, m: u32, k: u32, g: u32) -> u32
 }
 
 // Appends power k of the root: a line for each generator. Returns the next line's number.
-pub fn append_root(
-    words: &mut [u32],
-    rows: &Words,
-    n: u32,
-    p: u32,
-    m: u32,
-    at: usize,
-    k: u32,
-) -> usize
-    requires { ⌜ (n ≤ maxGenerators) × (p ≤ maxOrder) × (m ≤ maxModulus) × (k < p) × Exponents n p (now rows) × (8 * at + 8 * n ≤ length (now words)) ⌝ }
+fn append_root(words: &mut [u32], rows: &Words, n: u32, p: u32, m: u32, at: usize, k: u32) -> usize
+    requires { ⌜ (n ≤ maxGenerators) × (p ≤ maxOrder) × (m ≤ maxModulus) × (k < p) × WordsBelow n p (now rows) × (8 * at + 8 * n ≤ length (now words)) ⌝ }
     ensures { λ x. ⌜ Wrote (now (words .entry)) (8 * at) (rootWords n p m (now (rows .entry)) k) (now (words .exit)) (8 * x) ⌝ }
 {
     let mut pos = at;
@@ -63,7 +55,7 @@ pub fn append_root(
 
 // Writes level 1 of n generators, the lowest of prime p, with exponents modulo m. Returns the next line's number.
 pub fn first_level(words: &mut [u32], rows: &Words, n: u32, p: u32, m: u32) -> usize
-    requires { ⌜ (n ≤ maxGenerators) × (p ≤ maxOrder) × (m ≤ maxModulus) × Exponents n p (now rows) × (8 * (p * n) ≤ length (now words)) ⌝ }
+    requires { ⌜ (n ≤ maxGenerators) × (p ≤ maxOrder) × (m ≤ maxModulus) × WordsBelow n p (now rows) × (8 * (p * n) ≤ length (now words)) ⌝ }
     ensures { λ x. ⌜ Wrote (now (words .entry)) 0 (firstWords n p m (now (rows .entry))) (now (words .exit)) (8 * x) ⌝ }
 {
     let mut pos = 0usize;

@@ -22,7 +22,7 @@ use Rattle.clifford.proofs.Numbering.{P, τ, S}
 use Rattle.clifford.proofs.Levels.{exponentNf}
 use Rattle.clifford.proofs.Top.{Normed, raised, raised-maps, q, q-const}
 use Rattle.clifford.proofs.Step as StepOf
-use Rattle.clifford.proofs.Step.{numbered, Step}
+use Rattle.clifford.proofs.Step.{numbered, StepUp}
 use Rattle.clifford.proofs.Between.{between, between-is}
 use Rattle.clifford.proofs.Extensions.{E, first, first-rep}
 use Rattle.clifford.proofs.Basis.{basis-path, basis-discrete}
@@ -213,7 +213,7 @@ module _ (W : Fitted) where
       let (a, b) = same-block W u (upOf W y) (iter (turn W u) k (block W x)) (block W y) l (block-below W y) (base-iter x k ∙ e ∙ base-rep W y) n in
       ap (λ u. u .0) a
 
-  pub step : Step (S (W .R)) (W .R .F) (𝓢 W) (ρ W) (base W) (λ x. number W (upOf W x)) high-d high-X (λ (x : Index W). x .0 .0) target
+  pub step : StepUp (S (W .R)) (W .R .F) (𝓢 W) (ρ W) (base W) (λ x. number W (upOf W x)) high-d high-X (λ (x : Index W). x .0 .0) target
   unfolding high-d
   step = record {
     c = λ j ij jn. c j ij jn;

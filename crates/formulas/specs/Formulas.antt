@@ -13,9 +13,9 @@
 --   blockAt, scalarAt, scalar  the blocks along generator i from block 0, their scalars; the scalar of a block
 --   extensionAt, inductionAt   the representations
 --   levelBy                    the level
-use Prim.Native.Nat.{ℕ, zero, suc, _+_, _*_, _-_, _/_, _%_}
-use mathlib.Core.Bool.{Bool, true, false, cond}
-use mathlib.Core.List.{List, [], _∷_, _++_, map}
+use Prim.Native.Nat.{ℕ, zero, suc, _+_, _*_, _/_, _%_}
+use mathlib.Core.Bool.{Bool, cond}
+use mathlib.Core.List.{List, [], _∷_, map}
 use lib.ListN.{length}
 use lib.Dec.{eqb, ltb, leb}
 use Rattle.definitions.specs.declared.Entry.{Entry}

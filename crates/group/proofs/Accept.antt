@@ -21,9 +21,9 @@ use Rattle.group.specs.Models.{Laws, Hom, Satisfies}
 use Rattle.group.specs.Context.{Context, Nf}
 use Rattle.group.proofs.Values.{power-zero, power-suc, power-one, power-past, iter-past, power-hom, value-suc, value-trivial, value-hom, value-ext}
 use Rattle.group.proofs.Clauses.{sameForm-eq, eq-sameForm}
-use Rattle.group.proofs.Sound.{Sound, sound}
+use Rattle.group.proofs.Sound.{Valued, sound}
 use Rattle.group.proofs.Level.{Nf-path, level, conjNf, uNf, genNf, low, top, gen-low, gen-top}
-use Rattle.group.proofs.Group.{imageNf, Test, Tested, group, Group}
+use Rattle.group.proofs.Group.{imageNf, Test, TestedContext, group, Group}
 use Rattle.group.proofs.Order.{inverse, inverse-left, inverse-right, undo-left}
 use Rattle.group.proofs.Free.{Class, classes, classes-laws, classes-satisfy, genClass, invClass, gen-inv-class, inv-gen-class, class-value, class-joined, free}
 use Rattle.group.proofs.Tests.{holds-test, testedBelow}
@@ -32,7 +32,7 @@ pub test-level : (P : Presentation) → test P ≡ true → (i : ℕ) → i < P 
 unfolding test
 test-level P t = allBelow-elim (P .n) (levelTest P) t
 
-unfoldable pub tested : (C : Context) → test (C .P) ≡ true → Tested
+unfoldable pub tested : (C : Context) → test (C .P) ≡ true → TestedContext
 tested C t = testedBelow C (C .P .n) (test-level (C .P) t)
 
 -- ---- The test gives consistency
@@ -46,7 +46,7 @@ module _ (C : Context) (t : test (C .P) ≡ true) where
   infixl 70 _*_
   open Mul (level C (C .P .n)) using (mul as _*_, one)
 
-  T : Tested
+  T : TestedContext
   T = tested C t
 
   G : Group C n
@@ -153,7 +153,7 @@ module _ (C : Context) (c : Consistent (C .P)) where
   abbrev h : ℕ → Class P
   h = genClass P
 
-  S : (i : ℕ) → i ≤ n′ → Sound (free P) i
+  S : (i : ℕ) → i ≤ n′ → Valued (free P) i
   S = sound (free P)
 
   -- the class of a valid form

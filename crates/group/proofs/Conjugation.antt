@@ -19,14 +19,14 @@ use Rattle.group.specs.Context.{Context, Nf}
 use Rattle.group.proofs.Values.{iter-past, value-trivial}
 use Rattle.group.proofs.Sound.{sound}
 use Rattle.group.proofs.Level.{level, conjNf, genNf, low, low-inj, gen-low, low-value}
-use Rattle.group.proofs.Group.{Tested, group, model}
+use Rattle.group.proofs.Group.{TestedContext, group, model}
 use Rattle.group.proofs.Order.{order-positive, order-one, cancel-left}
 
 unfoldable pub embed : (C : Context) (i m : ℕ) → Nf C i → Nf C m
 embed C i m x = value (level C m) (genNf C m) i (x .0)
 
-module _ (T : Tested) where
-  open Tested T using (context as C, n)
+module _ (T : TestedContext) where
+  open TestedContext T using (context as C, n)
 
   embed-here : (m : ℕ) → m ≤ n → (a : ℕ) → m ≡ a → (x y : Nf C a) → embed C a m x ≡ embed C a m y → x ≡ y
   unfolding embed

@@ -27,7 +27,7 @@ use Rattle.numbers.proofs.Lists.{allBelow-elim, all-getD, sum-mono}
 use Rattle.group.specs.Context.{Context}
 use Rattle.group.proofs.Rows.{toNF-valid}
 use Rattle.group.proofs.Pairs.{length-pairs, pairNumber-power, pairNumber-below, PairAt, pair-at}
-use Rattle.group.proofs.Group.{Tested}
+use Rattle.group.proofs.Group.{TestedContext}
 use Rattle.group.proofs.Accept.{accepts, decide, tested}
 
 -- the row of a pair that has none
@@ -138,6 +138,6 @@ module _ (R : Relations) (formed : wellFormed R ≡ true) where
       decision = decide context
 
       -- the group of a consistent text
-      unfoldable pub groupOf : Consistent (presentation R) → Tested
+      unfoldable pub groupOf : Consistent (presentation R) → TestedContext
       unfolding context
       groupOf c = tested context (accept .1 c)

@@ -4,7 +4,7 @@
 --   imageNf C i j k      the image of generator k under conjugation by generator j, on level i
 --   Test C i             the known test for generator i, as equations of valid forms
 --   Group C i            what is known of level i
---   Tested               a context in which the test passes below n
+--   TestedContext               a context in which the test passes below n
 --   group                every level up to n is a group: laws, values, conjugation, relations
 --   model                level i as a model of the presentation, with its own generators
 --   conj-mul             conjugation by the next generator keeps products
@@ -220,12 +220,12 @@ module _ (C : Context) where
 
 -- ---- All levels
 
-pub record Tested : Type 0 where
+pub record TestedContext : Type 0 where
   pub context : Context
   pub n : ℕ
   pub tests : (i : ℕ) → i < n → Test context i
 
-module _ (T : Tested) where
+module _ (T : TestedContext) where
   pub group : (i : ℕ) → i ≤ T .n → Group (T .context) i
   group i l = climb (T .context) i (λ k h. T .tests k (omega arith))
 

@@ -18,7 +18,7 @@ use Rattle.group.proofs.Values.{power-suc, power-mul, power-past, power
 use Rattle.group.proofs.Clauses.{mulStep-below, mulStep-over, mul-suc}
 use Rattle.group.proofs.Cyclic.{division-unique}
 use Rattle.group.proofs.Level.{Nf-path, level, low, low-hom}
-use Rattle.group.proofs.Group.{Tested, group}
+use Rattle.group.proofs.Group.{TestedContext, group}
 
 mulStep-top : {A : Type 0} (p : ℕ) (m : A → A → A) (f : A → A) (u : A) (x y : ℕ × A) → (k : ℕ) × ((mulStep p m f u x y) .0 + k · p ≡ x .0 + y .0)
 mulStep-top p m f u x y = go (decLt (x .0 + y .0) p)
@@ -57,8 +57,8 @@ module _ (C : Context) where
   unfoldable pub inverse : (i : ℕ) → Nf C i → Nf C i
   inverse i x = power (level C i) x (order P i - 1)
 
-module _ (T : Tested) where
-  open Tested T using (context as C)
+module _ (T : TestedContext) where
+  open TestedContext T using (context as C)
 
   pub order-one : (i : ℕ) → i ≤ T .n → (x : Nf (T .context) i) → power (level (T .context) i) x (order (T .context .P) i) ≡ level (T .context) i .one
   unfolding order

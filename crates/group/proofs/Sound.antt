@@ -1,7 +1,7 @@
 -- SOUND: in every model of a presentation the value of a product is the product of the values, and the value of a
 -- conjugate is carried by the generator. Exponents may be any numbers.
 --
---   Sound 𝓗 i      both statements at level i
+--   Valued 𝓗 i      both statements at level i
 --   sound          they hold in every model, on every level up to its own
 use mathlib.Core.Path.{_≡_, sym, _∙_, ap}
 use Prim.Native.Nat.{ℕ, zero, suc, _+_, _-_, _≤_, _<_}
@@ -23,7 +23,7 @@ module _ {P : Presentation} {n : ℕ} {M : Type 0} (𝓗 : Model P n M) where
   abbrev v : (i : ℕ) → NF i → M
   v = value 𝓜 h
 
-  pub record Sound (i : ℕ) : Type 0 where
+  pub record Valued (i : ℕ) : Type 0 where
     pub mul-value : (x y : NF i) → value 𝓜 h i (mul P i x y) ≡ value 𝓜 h i x * value 𝓜 h i y
     pub conj-value : (j : ℕ) → i ≤ j → j < n → (x : NF i) → h j * value 𝓜 h i (conj P i j x) ≡ value 𝓜 h i x * h j
 
@@ -32,7 +32,7 @@ module _ {P : Presentation} {n : ℕ} {M : Type 0} (𝓗 : Model P n M) where
   power-value i r x zero = value-trivial laws h i
   power-value i r x (suc k) = r _ _ ∙ ap (λ t. v i x * t) (power-value i r x k)
 
-  carry-value : (i : ℕ) (S : Sound i) (s : ℕ) (z : NF i) → i < n → v (suc i) (carry (P .p i) (mul P i) (P .u i) s z) ≡ power 𝓜 (h i) s * v i z
+  carry-value : (i : ℕ) (S : Valued i) (s : ℕ) (z : NF i) → i < n → v (suc i) (carry (P .p i) (mul P i) (P .u i) s z) ≡ power 𝓜 (h i) s * v i z
   carry-value i S s z l = go (decLt s (P .p i))
     where
       go : Dec (s < P .p i) → v (suc i) (carry (P .p i) (mul P i) (P .u i) s z) ≡ power 𝓜 (h i) s * v i z
@@ -42,7 +42,7 @@ module _ {P : Presentation} {n : ℕ} {M : Type 0} (𝓗 : Model P n M) where
           ap (v (suc i)) (carry-over (P .p i) (mul P i) (P .u i) s z (omega arith)) ∙ value-suc 𝓜 h i _
           ∙ simp (S .mul-value, ← satisfies .powers i l) (sym (assoc _ _ _) ∙ ap (λ t. t * v i z) (sym (power-add laws (h i) _ _) ∙ ap (power 𝓜 (h i)) t))
 
-  mul-step : (i : ℕ) (S : Sound i) → i < n → (x y : NF (suc i)) → v (suc i) (mul P (suc i) x y) ≡ v (suc i) x * v (suc i) y
+  mul-step : (i : ℕ) (S : Valued i) → i < n → (x y : NF (suc i)) → v (suc i) (mul P (suc i) x y) ≡ v (suc i) x * v (suc i) y
   unfolding mulStep
   mul-step i S l x y =
       rw mul-suc (carry-value i S _ _ l ∙ simp (power-add laws, S .mul-value, value-suc, assoc) (ap (λ t. power 𝓜 (h i) (x .0) * t) mid))
@@ -53,7 +53,7 @@ module _ {P : Presentation} {n : ℕ} {M : Type 0} (𝓗 : Model P n M) where
       mid : power 𝓜 (h i) (y .0) * (v i (iter (conj P i i) (y .0) (x .1)) * v i (y .1)) ≡ v i (x .1) * (power 𝓜 (h i) (y .0) * v i (y .1))
       mid = sym (assoc _ _ _) ∙ ap (λ t. t * v i (y .1)) past ∙ assoc _ _ _
 
-  conj-step : (i : ℕ) (S : Sound i) → i < n → (j : ℕ) → suc i ≤ j → j < n → (x : NF (suc i)) → h j * v (suc i) (conj P (suc i) j x) ≡ v (suc i) x * h j
+  conj-step : (i : ℕ) (S : Valued i) → i < n → (j : ℕ) → suc i ≤ j → j < n → (x : NF (suc i)) → h j * v (suc i) (conj P (suc i) j x) ≡ v (suc i) x * h j
   conj-step i S l j a b x =
       rw conj-suc (simp (ms, power-value (suc i) ms, below, value-suc 𝓜 h i x, assoc)
       (sym (assoc _ _ _) ∙ ap (λ t. t * v i (conj P i j (x .1))) (power-past laws (h j) (h i) c one-step (x .0)) ∙ assoc _ _ _
@@ -74,7 +74,7 @@ module _ {P : Presentation} {n : ℕ} {M : Type 0} (𝓗 : Model P n M) where
       one-step : h j * c ≡ h i * h j
       one-step = ap (λ t. h j * (t * v (suc i) (P .w i j))) top ∙ sym (satisfies .commutators i j a b)
 
-  pub sound : (i : ℕ) → i ≤ n → Sound i
+  pub sound : (i : ℕ) → i ≤ n → Valued i
   unfolding value arithmetic
   sound zero l = record { mul-value = λ x y. sym (idl _); conj-value = λ j a b x. simp (idl, idr) }
   sound (suc i) l = let S = sound i (omega arith) in record { mul-value = mul-step i S l; conj-value = conj-step i S l }

@@ -16,7 +16,7 @@ use Rattle.group.specs.Context.{Context, Nf}
 use Rattle.group.proofs.Values.{power-hom, value-hom}
 use Rattle.group.proofs.Clauses.{sameForm-eq, eq-sameForm}
 use Rattle.group.proofs.Level.{Nf-path, level, conjNf, uNf, genNf, forget}
-use Rattle.group.proofs.Group.{imageNf, Test, Tested}
+use Rattle.group.proofs.Group.{imageNf, Test, TestedContext}
 
 module _ (C : Context) (i : ℕ) where
   open Context C using (P)
@@ -97,5 +97,5 @@ module _ (C : Context) (i : ℕ) where
   })
 
 -- the levels of a context in which the test passes below n
-unfoldable pub testedBelow : (C : Context) (n : ℕ) → ((i : ℕ) → i < n → levelTest (C .P) i ≡ true) → Tested
+unfoldable pub testedBelow : (C : Context) (n : ℕ) → ((i : ℕ) → i < n → levelTest (C .P) i ≡ true) → TestedContext
 testedBelow C n t = record { context = C; n = n; tests = λ i l. test-holds C i (t i l) }

@@ -22,7 +22,7 @@ use Rattle.numbers.proofs.Bools.{and-left, and-right}
 use Rattle.numbers.proofs.Lists.{allBelow-elim, length-blocks}
 use Rattle.numbers.proofs.Sums.{sum-zero, sum-suc, owner, first-le}
 use Rattle.numbers.proofs.Blocks.{getD-table, length-table, getD-blocks}
-use Rattle.clifford.proofs.Lines.{Written, table, table-length, line-count, repLines, levelLines, lineNumber, word-at}
+use Rattle.clifford.proofs.Lines.{LevelsListed, table, table-length, line-count, repLines, levelLines, lineNumber, word-at}
 use Rattle.heads.specs.Heads.{LineHead, Heads, firstFrom, baseOf, Headed}
 use Rattle.heads.proofs.Positions.{first-zero, first-suc, base-zero, base-suc}
 
@@ -139,7 +139,7 @@ module _ (n : ℕ) (positive : 0 < n) (T : List ℕ) (H : complete n T ≡ true)
       let inside : p .0 < W .lines = omega (arith, p .1, W .size) in
       subst (λ z. 0 < z) (sym (d ∙ p .2)) (W .each (p .0) inside)
 
-  abbrev W : Written
+  abbrev W : LevelsListed
   W = record { n = n; positive = positive; L = L; degree-pos = complete-degree }
 
   table-is : T ≡ table W

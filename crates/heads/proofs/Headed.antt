@@ -23,7 +23,7 @@ use Rattle.numbers.proofs.Lists.{allBelow-intro}
 use Rattle.numbers.proofs.Sums.{sum-zero, sum-suc}
 use Rattle.numbers.proofs.Blocks.{getD-table, length-table, blocks-below}
 use Rattle.monomial.proofs.Frames.{col-table}
-use Rattle.clifford.proofs.Lines.{Written, table, table-length, repLines, levelLines, lineNumber, word-at, first-line, read-back}
+use Rattle.clifford.proofs.Lines.{LevelsListed, table, table-length, repLines, levelLines, lineNumber, word-at, first-line, read-back}
 use Rattle.clifford.proofs.Agreement.{agree-words}
 use Rattle.clifford.proofs.Theorem.{same-self}
 use Rattle.heads.specs.Heads.{LineHead, firstFrom, baseOf, Headed}
@@ -65,7 +65,7 @@ module _ (n : ℕ) (positive : 0 < n) (T : List ℕ) (H : Headed n T) where
   listed : (k r : ℕ) → r < H .count k → r < length (levelOf k)
   listed k r l = subst (λ z. r < z) (sym (level-count k)) l
 
-  abbrev W : Written
+  abbrev W : LevelsListed
   W = record {
     n = n;
     positive = positive;

@@ -1,4 +1,4 @@
 -- Laws of induced representations.
 pub mod Cases
-pub mod Parts
+pub mod Cells
 pub mod Generators

@@ -1,339 +1,302 @@
 // The representation induced from an orbit of the generator on top, as lines behind the level below.
 //
-//   block_to, block_by, block_reference     where a generator takes a block, by which constant, with which reference
-//   append_part .. append_blocks            the lines of a block, and of the blocks of a generator
-//   append_induction                        the representation
+//   find_induction                     what is induced from an orbit, whose blocks it lists
+//   find_still                         a block of a generator's matrix that stays
+//   block_to, block_by, block_reference, find_cell      one that may move: where the generator takes it, by which constant,
+//                                      and its reference
+//   append_cell, append_below, append_cells      the lines of a block, and of the blocks of a generator
+//   find_scalars, induced_target       scalars and reference of a generator above the one on top
+//   append_generator, append_induction       a generator, and the representation
 ghost use mathlib.Core.Path.{_≡_};
-ghost use mathlib.Core.List.{[]};
-ghost use Prim.Native.Nat.{suc, _+_, _*_, _≤_, _<_};
-ghost use lib.ListN.{length, getD, take};
-ghost use Rattle.definitions.specs.Lists.{blocks};
-ghost use Rattle.definitions.specs.Presentation.{maxOrder};
-ghost use Rattle.definitions.specs.Table.{repWords};
-ghost use Rattle.formulas.specs.Formulas.{start, blockTo, inductionAt};
-ghost use Rattle.text.specs.Writing.{Wrote};
-ghost use Rattle.survey.specs.Below.{degOf, targetOf, sourceIn, positionIn, leaderIn, Stands, Array, Lines};
-ghost use Rattle.orbits.specs.Orbit.{OrbitArray, Inducing, BlockScalars};
-ghost use Rattle.induce.specs.Inducing.{Surveyed, Writing, factorIn, referenceIn, partWords, partsIn, staysIn, generatorWords};
-use level::Listed;
+ghost use mathlib.Core.List.{List, []};
+ghost use mathlib.Core.Bool.{cond};
+ghost use Prim.Native.Nat.{ℕ, _*_, _≤_, _<_};
+ghost use lib.Dec.{leb};
+ghost use lib.ListN.{length};
+ghost use Rattle.formulas.specs.Formulas.{blockTo};
+ghost use Rattle.lines.specs.Lines.{Appended, Space};
+ghost use Rattle.survey.specs.Below.{lowOf, degOf, matrixOf, sourceIn, LevelStands, Leads, Orbited, Surveyed};
+ghost use Rattle.orbits.specs.Blocks.{blockWidth, members, scalars, memberOf, OrbitArray, Inducing, BlockScalars};
+ghost use Rattle.induce.specs.Inducing.{inductionOf, numberAbove, Writing, Moving, factorIn, stillIn, cellIn, CellFits};
+ghost use Rattle.induce.specs.Inducing.{cellWords, stillWords, CellsWritten, inducedWords, inductionWords};
 use lines::Head;
+use lines::Piece;
 use rows::Words;
 use survey::Frame;
 
-// The block to which generator g takes block b.
-pub fn block_to(
+// What is induced from an orbit: the least representation of that, the number, and the degree of a block.
+pub struct Induction {
+    pub leader: u32,
+    pub number: u32,
+    pub deg: u32,
+}
+
+// Lists the orbit of r, and finds what is induced from it.
+fn find_induction(low: &[u32], notes: &[u32], blocks: &mut [u32], f: Frame, r: u32) -> Induction
+    requires { ⌜ ((rows : List (List ℕ)) × Surveyed f (now low) rows (now notes)) × (r < f .reps) × (blockWidth * f .p ≤ length (now blocks)) ⌝ }
+    ensures { λ i. ⌜ (i ≡ inductionOf f (now (low .entry)) (now (notes .entry)) r) × OrbitArray f (now (low .entry)) (members (now (blocks .exit))) r ⌝ }
+{
+    orbits::list_orbit(low, notes, blocks, f, r);
+    let d = survey::listed(low, notes, f, r);
+    Induction {
+        leader: r,
+        number: survey::note(notes, survey::NUMBER, r),
+        deg: d.deg,
+    }
+}
+
+// A block of a generator's matrix: the line at which the matrix of its representation begins, the blocks from which and to
+// which the generator takes it, the power of the root that it is multiplied by, and its reference.
+pub struct Cell {
+    pub src: usize,
+    pub from: u32,
+    pub to: u32,
+    pub by: u32,
+    pub refn: u32,
+}
+
+// Block b of a generator that leaves it where it is.
+fn find_still(
     low: &[u32],
-    first: &[u32],
-    places: &[u32],
-    orbit: &[u32],
+    notes: &[u32],
+    blocks: &[u32],
     f: Frame,
-    r: u32,
+    i: Induction,
     g: u32,
     b: u32,
-) -> u32
-    requires { ⌜ Stands f (now low) × Lines f (now low) (now first) × Array f (now low) (now places) (positionIn f (now low)) × (r < f .reps) × OrbitArray f (now low) (now orbit) r × (g < f .gens) × (b < f .p) ⌝ }
+) -> Cell
+    requires { ⌜ Writing f (now low) (now notes) (now blocks) i g × (b < f .p) ⌝ }
+    ensures { λ q. ⌜ (q ≡ stillIn f (now (low .entry)) i g b) × CellFits f (now (low .entry)) i q ⌝ }
+{
+    let q = orbits::block(blocks, orbits::MEMBER, b);
+    let e = survey::member(low, notes, f, i.deg, q);
+    Cell {
+        src: level::matrix_line(e, g),
+        from: b,
+        to: b,
+        by: 0,
+        refn: q,
+    }
+}
+
+// The block to which generator g, not below the one on top, takes block b of the orbit of r: the matrix of g there begins at
+// line src.
+fn block_to(low: &[u32], notes: &[u32], f: Frame, r: u32, g: u32, b: u32, src: usize) -> u32
+    requires { ⌜ LevelStands f (now low) × Orbited f (now low) (now notes) × (r < f .reps) × (f .top ≤ g) × (g < f .gens) × (b < f .p) ⌝ }
+    requires { ⌜ src ≡ matrixOf f (now low) g (memberOf f (now low) r b) ⌝ }
     ensures { λ t. ⌜ (t ≡ blockTo (sourceIn f (now (low .entry)) []) r g b) × (t < f .p) ⌝ }
 {
-    if g < f.top {
-        return b;
-    }
     if g == f.top {
         return if b + 1 < f.p { b + 1 } else { 0 };
     }
-    let q = survey::element(orbit, b);
-    let e = survey::listed(low, first, f, q);
-    let s = level::target(low, e, g);
-    survey::element(places, s)
+    let q = level::word_at(low, src, level::REF);
+    survey::note(notes, survey::POSITION, q)
 }
 
-// Its constant: the scalars are those of a generator above the one on top.
-pub fn block_by(shifts: &[u32], scalars: &[u32], f: Frame, r: u32, g: u32, b: u32) -> u32
-    requires { ⌜ (r < length (now shifts)) × (b < length (now scalars)) × (b < f .p) × (f .p ≤ maxOrder) × (0 < f .m) × (getD (now shifts) r 0 < f .m) × (f .top < g → getD (now scalars) b 0 < f .m) ⌝ }
-    ensures { λ c. ⌜ (c ≡ factorIn f (now (shifts .entry)) (now (scalars .entry)) r g b) × (c < f .m) ⌝ }
+// The constant of a block: the scalars are those of a generator above the one on top.
+fn block_by(notes: &[u32], blocks: &[u32], f: Frame, i: Induction, g: u32, b: u32) -> u32
+    requires { ⌜ ((W : List ℕ) × Moving f W (now notes) (now blocks) i g) × (b < f .p) ⌝ }
+    ensures { λ c. ⌜ (c ≡ factorIn f (now (notes .entry)) (now (blocks .entry)) (i .leader) g b) × (c < f .m) ⌝ }
 {
-    if g < f.top {
-        return 0;
-    }
     if g > f.top {
-        return survey::element(scalars, b);
+        return orbits::block(blocks, orbits::SCALAR, b);
     }
     if b + 1 < f.p {
         0
     } else {
-        survey::element(shifts, r)
+        survey::note(notes, survey::SHIFT, i.leader)
     }
 }
 
-// Its reference: x for the generators above the one on top.
-pub fn block_reference(orbit: &[u32], f: Frame, g: u32, b: u32, x: u32) -> u32
-    requires { ⌜ b < length (now orbit) ⌝ }
-    ensures { λ y. ⌜ y ≡ referenceIn f (now (orbit .entry)) x g b ⌝ }
+// The reference of a block: the representation q below, or x for the generators above the one on top.
+fn block_reference(f: Frame, g: u32, q: u32, x: u32) -> u32
+    ensures { λ y. ⌜ y ≡ cond (leb g (f .top)) q x ⌝ }
 {
-    if g <= f.top {
-        survey::element(orbit, b)
-    } else {
-        x
-    }
+    if g <= f.top { q } else { x }
 }
 
-// Appends block b of generator g of the representation induced from r, numbered rep: it goes to block t by the c-th power
-// of the root. Returns the next line's number.
-pub fn append_part(
-    words: &mut [u32],
-    first: &[u32],
-    orbit: &[u32],
+// Block b of generator g, not below the one on top; x is the reference of the generators above that.
+fn find_cell(
+    low: &[u32],
+    notes: &[u32],
+    blocks: &[u32],
     f: Frame,
-    at: usize,
-    rep: u32,
-    r: u32,
-    d: u32,
+    i: Induction,
     g: u32,
     b: u32,
-    t: u32,
-    c: u32,
     x: u32,
-) -> usize
-    requires { ⌜ Stands f (take (8 * f .end) (now words)) × Lines f (take (8 * f .end) (now words)) (now first) × (r < f .reps) × (d ≡ degOf f (take (8 * f .end) (now words)) r) × OrbitArray f (take (8 * f .end) (now words)) (now orbit) r × (g < f .gens) × (b < f .p) × (t < f .p) × (c < f .m) × (f .end ≤ at) × (8 * at + 8 * degOf f (take (8 * f .end) (now words)) r ≤ length (now words)) ⌝ }
-    ensures { λ y. ⌜ Wrote (now (words .entry)) (8 * at) (partWords f (take (8 * f .end) (now (words .entry))) rep r g b t c x) (now (words .exit)) (8 * y) ⌝ }
+) -> Cell
+    requires { ⌜ Moving f (now low) (now notes) (now blocks) i g × (b < f .p) ⌝ }
+    ensures { λ q. ⌜ (q ≡ cellIn f (now (low .entry)) (now (notes .entry)) (now (blocks .entry)) i g x b) × CellFits f (now (low .entry)) i q ⌝ }
 {
-    let q = survey::element(orbit, b);
-    let l = survey::element(first, q);
-    let e = Listed {
-        line: level::up(l),
-        deg: d,
-    };
-    let src = level::matrix_line(e, g);
+    let c = find_still(low, notes, blocks, f, i, g, b);
+    Cell {
+        src: c.src,
+        from: b,
+        to: block_to(low, notes, f, i.leader, g, b, c.src),
+        by: block_by(notes, blocks, f, i, g, b),
+        refn: block_reference(f, g, c.refn, x),
+    }
+}
+
+// Appends a block of generator g; where its degree is 1, no products are formed. Returns the next line's number.
+fn append_cell(words: &mut [u32], f: Frame, at: usize, i: Induction, g: u32, q: Cell) -> usize
+    requires { ⌜ CellFits f (lowOf f (now words)) i q × (g < f .gens) × Space (f .end) at (8 * i .deg) (now words) ⌝ }
+    ensures { λ y. ⌜ Appended (now (words .entry)) at (cellWords f (lowOf f (now (words .entry))) i g q) (now (words .exit)) y ⌝ }
+{
+    let d = i.deg;
     let h = Head {
         level: f.top + 1,
-        rep: rep,
+        rep: i.number,
         deg: f.p * d,
         generator: g + 1,
-        refn: x,
+        refn: q.refn,
     };
     if d == 1 {
-        return lines::append_line(words, f.end, at, h, b, t, src, c, f.m);
+        let b = Piece {
+            src: q.src,
+            deg: d,
+            col: q.from,
+            row: q.to,
+            by: q.by,
+        };
+        return lines::append_block(words, f.end, at, h, b, f.m);
     }
-    lines::append_block(words, f.end, at, h, b * d, t * d, src, d, c, f.m)
+    let b = Piece {
+        src: q.src,
+        deg: d,
+        col: q.from * d,
+        row: q.to * d,
+        by: q.by,
+    };
+    lines::append_block(words, f.end, at, h, b, f.m)
 }
 
-// Appends generator g, below the one on top, of the representation induced from r, numbered rep: each block stays.
-pub fn append_below(
+// Appends the blocks of generator g, below the one on top: each stays.
+fn append_below(
     words: &mut [u32],
-    first: &[u32],
-    orbit: &[u32],
+    notes: &[u32],
+    blocks: &[u32],
     f: Frame,
     at: usize,
-    rep: u32,
-    r: u32,
-    d: u32,
+    i: Induction,
     g: u32,
 ) -> usize
-    requires { ⌜ Stands f (take (8 * f .end) (now words)) × Lines f (take (8 * f .end) (now words)) (now first) × (r < f .reps) × (d ≡ degOf f (take (8 * f .end) (now words)) r) × OrbitArray f (take (8 * f .end) (now words)) (now orbit) r × (g < f .gens) × (f .end ≤ at) × (8 * at + f .p * (8 * degOf f (take (8 * f .end) (now words)) r) ≤ length (now words)) ⌝ }
-    ensures { λ y. ⌜ Wrote (now (words .entry)) (8 * at) (blocks (f .p) (staysIn f (take (8 * f .end) (now (words .entry))) (now (orbit .entry)) rep r g)) (now (words .exit)) (8 * y) ⌝ }
-{
-    let mut pos = at;
-    let p = f.p;
-    for b in 0..p {
-        let q = survey::element(orbit, b);
-        pos = append_part(words, first, orbit, f, pos, rep, r, d, g, b, b, 0, q);
-    }
-    pos
-}
-
-// The same for any generator, whose blocks may move; x is the reference of the generators above the one on top.
-pub fn append_blocks(
-    words: &mut [u32],
-    first: &[u32],
-    places: &[u32],
-    shifts: &[u32],
-    orbit: &[u32],
-    scalars: &[u32],
-    f: Frame,
-    at: usize,
-    rep: u32,
-    r: u32,
-    d: u32,
-    g: u32,
-    x: u32,
-) -> usize
-    requires { ⌜ Writing f (take (8 * f .end) (now words)) (now first) (now places) (now shifts) (now orbit) (now scalars) r g × (d ≡ degOf f (take (8 * f .end) (now words)) r) × (g < f .gens) × (f .end ≤ at) × (8 * at + f .p * (8 * degOf f (take (8 * f .end) (now words)) r) ≤ length (now words)) ⌝ }
-    ensures { λ y. ⌜ Wrote (now (words .entry)) (8 * at) (blocks (f .p) (partsIn f (take (8 * f .end) (now (words .entry))) (now (orbit .entry)) (now (shifts .entry)) (now (scalars .entry)) x rep r g)) (now (words .exit)) (8 * y) ⌝ }
+    requires { ⌜ Writing f (lowOf f (now words)) (now notes) (now blocks) i g × Space (f .end) at (f .p * (8 * i .deg)) (now words) ⌝ }
+    ensures { λ y. ⌜ Appended (now (words .entry)) at (stillWords f (lowOf f (now (words .entry))) i g) (now (words .exit)) y ⌝ }
 {
     let n = 8 * f.end;
     let mut pos = at;
     let p = f.p;
     for b in 0..p {
-        let t = block_to(&words[..n], first, places, orbit, f, r, g, b);
-        let c = block_by(shifts, scalars, f, r, g, b);
-        let y = block_reference(orbit, f, g, b, x);
-        pos = append_part(words, first, orbit, f, pos, rep, r, d, g, b, t, c, y);
+        let q = find_still(&words[..n], notes, blocks, f, i, g, b);
+        pos = append_cell(words, f, pos, i, g, q);
     }
     pos
 }
 
-// Appends generator g; x is the reference of the generators above the one on top.
-pub fn append_generator(
+// Appends the blocks of generator g, not below the one on top: they may move. x is the reference of the generators above that.
+fn append_cells(
     words: &mut [u32],
-    first: &[u32],
-    places: &[u32],
-    shifts: &[u32],
-    orbit: &[u32],
-    scalars: &[u32],
+    notes: &[u32],
+    blocks: &[u32],
     f: Frame,
     at: usize,
-    rep: u32,
-    r: u32,
+    i: Induction,
     g: u32,
     x: u32,
 ) -> usize
-    requires { ⌜ Writing f (take (8 * f .end) (now words)) (now first) (now places) (now shifts) (now orbit) (now scalars) r g × (g < f .gens) × (f .end ≤ at) × (8 * at + f .p * (8 * degOf f (take (8 * f .end) (now words)) r) ≤ length (now words)) ⌝ }
-    ensures { λ y. ⌜ Wrote (now (words .entry)) (8 * at) (blocks (f .p) (partsIn f (take (8 * f .end) (now (words .entry))) (now (orbit .entry)) (now (shifts .entry)) (now (scalars .entry)) x rep r g)) (now (words .exit)) (8 * y) ⌝ }
+    requires { ⌜ Moving f (lowOf f (now words)) (now notes) (now blocks) i g × Space (f .end) at (f .p * (8 * i .deg)) (now words) ⌝ }
+    ensures { λ y. ⌜ CellsWritten f (now (words .entry)) (now (notes .entry)) (now (blocks .entry)) i g x at (now (words .exit)) y ⌝ }
 {
     let n = 8 * f.end;
-    let e = survey::listed(&words[..n], first, f, r);
-    let d = e.deg;
-    if g < f.top {
-        return append_below(words, first, orbit, f, at, rep, r, d, g);
+    let mut pos = at;
+    let p = f.p;
+    for b in 0..p {
+        let q = find_cell(&words[..n], notes, blocks, f, i, g, b, x);
+        pos = append_cell(words, f, pos, i, g, q);
     }
-    append_blocks(
-        words,
-        first,
-        places,
-        shifts,
-        orbit,
-        scalars,
-        f,
-        at,
-        rep,
-        r,
-        d,
-        g,
-        x,
-    )
+    pos
 }
 
-// For a generator above the one on top, fills the array with its scalars.
-pub fn find_scalars(
+// For a generator above the one on top, lists its scalars.
+fn find_scalars(
     low: &[u32],
-    first: &[u32],
     rows: &Words,
-    leaders: &[u32],
-    places: &[u32],
-    shifts: &[u32],
-    orbit: &[u32],
-    c: &mut [u32],
+    notes: &[u32],
+    blocks: &mut [u32],
     f: Frame,
     r: u32,
     g: u32,
 )
-    requires { ⌜ Inducing f (now low) (now rows) (now first) (now leaders) (now places) (now shifts) (now orbit) r × (g < f .gens) × (f .p ≤ length (now c)) ⌝ }
-    ensures { λ _. ⌜ (f .top < g → BlockScalars f (now (low .entry)) (now (rows .entry)) (now (c .exit)) g r) ⌝ }
+    requires { ⌜ Inducing f (now low) (now rows) (now notes) (now blocks) r × (g < f .gens) ⌝ }
+    ensures { λ _. ⌜ Inducing f (now (low .entry)) (now (rows .entry)) (now (notes .entry)) (now (blocks .exit)) r ⌝ }
+    ensures { λ _. ⌜ (f .top < g → BlockScalars f (now (low .entry)) (now (rows .entry)) (scalars (now (blocks .exit))) g r) ⌝ }
 {
     if g > f.top {
-        orbits::scalars(low, first, rows, leaders, places, shifts, orbit, c, f, g, r);
+        orbits::list_scalars(low, rows, notes, blocks, f, g, r);
     }
 }
 
 // The number of the representation to which a generator above the one on top takes the one induced from r.
-pub fn induced_target(
-    low: &[u32],
-    first: &[u32],
-    leaders: &[u32],
-    numbers: &[u32],
-    f: Frame,
-    r: u32,
-    g: u32,
-) -> u32
-    requires { ⌜ Stands f (now low) × Lines f (now low) (now first) × Array f (now low) (now leaders) (leaderIn f (now low)) × (f .reps ≤ length (now numbers)) × (r < f .reps) × (g < f .gens) ⌝ }
-    ensures { λ x. ⌜ (f .top < g → x ≡ getD (now (numbers .entry)) (leaderIn f (now (low .entry)) (targetOf f (now (low .entry)) g r)) 0) ⌝ }
+fn induced_target(low: &[u32], notes: &[u32], f: Frame, r: u32, g: u32) -> u32
+    requires { ⌜ ((rows : List (List ℕ)) × Surveyed f (now low) rows (now notes)) × (r < f .reps) × (g < f .gens) ⌝ }
+    ensures { λ x. ⌜ (f .top < g → x ≡ numberAbove f (now (low .entry)) (now (notes .entry)) g r) ⌝ }
 {
     if g <= f.top {
         return 0;
     }
-    let d = survey::listed(low, first, f, r);
+    let d = survey::listed(low, notes, f, r);
     let q = level::target(low, d, g);
-    let l = survey::element(leaders, q);
-    survey::element(numbers, l)
+    let l = survey::note(notes, survey::LEADER, q);
+    survey::note(notes, survey::NUMBER, l)
 }
 
-// Appends generator g of the representation induced from r, numbered rep.
-pub fn append_one(
+// Appends generator g of the induced representation.
+fn append_generator(
     words: &mut [u32],
-    first: &[u32],
     rows: &Words,
-    leaders: &[u32],
-    places: &[u32],
-    numbers: &[u32],
-    shifts: &[u32],
-    orbit: &[u32],
-    c: &mut [u32],
+    notes: &[u32],
+    blocks: &mut [u32],
     f: Frame,
     at: usize,
-    rep: u32,
-    r: u32,
+    i: Induction,
     g: u32,
 ) -> usize
-    requires { ⌜ Inducing f (take (8 * f .end) (now words)) (now rows) (now first) (now leaders) (now places) (now shifts) (now orbit) r × Array f (take (8 * f .end) (now words)) (now numbers) (start (sourceIn f (take (8 * f .end) (now words)) (now rows))) × (g < f .gens) × (f .p ≤ length (now c)) × (f .end ≤ at) × (8 * at + f .p * (8 * degOf f (take (8 * f .end) (now words)) r) ≤ length (now words)) ⌝ }
-    ensures { λ y. ⌜ Wrote (now (words .entry)) (8 * at) (generatorWords f (take (8 * f .end) (now (words .entry))) (now (rows .entry)) rep r g) (now (words .exit)) (8 * y) ⌝ }
+    requires { ⌜ Inducing f (lowOf f (now words)) (now rows) (now notes) (now blocks) (i .leader) × (g < f .gens) ⌝ }
+    requires { ⌜ (i .deg ≡ degOf f (lowOf f (now words)) (i .leader)) × Space (f .end) at (f .p * (8 * i .deg)) (now words) ⌝ }
+    ensures { λ y. ⌜ Appended (now (words .entry)) at (inducedWords f (lowOf f (now (words .entry))) (now (rows .entry)) i g) (now (words .exit)) y ⌝ }
+    ensures { λ _. ⌜ Inducing f (lowOf f (now (words .entry))) (now (rows .entry)) (now (notes .entry)) (now (blocks .exit)) (i .leader) ⌝ }
 {
+    if g < f.top {
+        return append_below(words, notes, blocks, f, at, i, g);
+    }
     let n = 8 * f.end;
-    let x = induced_target(&words[..n], first, leaders, numbers, f, r, g);
-    find_scalars(
-        &words[..n],
-        first,
-        rows,
-        leaders,
-        places,
-        shifts,
-        orbit,
-        c,
-        f,
-        r,
-        g,
-    );
-    append_generator(words, first, places, shifts, orbit, c, f, at, rep, r, g, x)
+    let x = induced_target(&words[..n], notes, f, i.leader, g);
+    find_scalars(&words[..n], rows, notes, blocks, f, i.leader, g);
+    append_cells(words, notes, blocks, f, at, i, g, x)
 }
 
-// Appends the representation induced from the orbit of r, the least of it.
+// Appends the representation induced from the orbit of r, the least of it. Returns the next line's number.
 pub fn append_induction(
     words: &mut [u32],
-    first: &[u32],
     rows: &Words,
-    leaders: &[u32],
-    places: &[u32],
-    numbers: &[u32],
-    shifts: &[u32],
-    orbit: &mut [u32],
-    c: &mut [u32],
+    notes: &[u32],
+    blocks: &mut [u32],
     f: Frame,
     at: usize,
     r: u32,
 ) -> usize
-    requires { ⌜ Surveyed f (take (8 * f .end) (now words)) (now rows) (now first) (now leaders) (now places) (now numbers) (now shifts) × (r < f .reps) × (¬ (targetOf f (take (8 * f .end) (now words)) (f .top) r ≡ r)) × (leaderIn f (take (8 * f .end) (now words)) r ≡ r) × (f .end ≤ at) × (8 * at + 8 * (f .gens * (f .p * degOf f (take (8 * f .end) (now words)) r)) ≤ length (now words)) × (f .p ≤ length (now orbit)) × (f .p ≤ length (now c)) ⌝ }
-    ensures { λ y. ⌜ Wrote (now (words .entry)) (8 * at) (repWords (f .gens) (suc (f .top)) (start (sourceIn f (take (8 * f .end) (now (words .entry))) (now (rows .entry))) r) (inductionAt (sourceIn f (take (8 * f .end) (now (words .entry))) (now (rows .entry))) r)) (now (words .exit)) (8 * y) ⌝ }
+    requires { ⌜ Surveyed f (lowOf f (now words)) (now rows) (now notes) × Leads f (lowOf f (now words)) r × (blockWidth * f .p ≤ length (now blocks)) ⌝ }
+    requires { ⌜ Space (f .end) at (8 * (f .gens * (f .p * degOf f (lowOf f (now words)) r))) (now words) ⌝ }
+    ensures { λ y. ⌜ Appended (now (words .entry)) at (inductionWords f (lowOf f (now (words .entry))) (now (rows .entry)) r) (now (words .exit)) y ⌝ }
 {
     let n = 8 * f.end;
-    orbits::list_orbit(&words[..n], first, orbit, f, r);
-    let rep = survey::element(numbers, r);
+    let i = find_induction(&words[..n], notes, blocks, f, r);
     let mut pos = at;
     let gens = f.gens;
     for g in 0..gens {
-        pos = append_one(
-            words,
-            first,
-            rows,
-            leaders,
-            places,
-            numbers,
-            shifts,
-            orbit,
-            c,
-            f,
-            pos,
-            rep,
-            r,
-            g,
-        );
+        pos = append_generator(words, rows, notes, blocks, f, pos, i, g);
     }
     pos
 }

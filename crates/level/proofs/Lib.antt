@@ -1,2 +1,2 @@
 -- Laws of what stands in lines.
-pub mod Laws
+pub mod Columns

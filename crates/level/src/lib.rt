@@ -90,7 +90,7 @@ pub fn column(words: &[u32], at: usize, d: u32, k: u32, m: u32) -> Entry
 }
 
 // The matrix of degree d at line `at`, on the x.exp-th power of the root times basis vector x.row.
-pub fn apply(words: &[u32], at: usize, d: u32, x: Entry, m: u32) -> Entry
+fn apply(words: &[u32], at: usize, d: u32, x: Entry, m: u32) -> Entry
     requires { ⌜ Holds m (now words) at d ⌝ }
     requires { ⌜ Below m d x ⌝ }
     ensures { λ r. ⌜ (r ≡ act m (matrixIn (now (words .entry)) at d) x) × Below m d r ⌝ }
@@ -113,8 +113,8 @@ pub fn add_times(a: u32, k: u32, b: u32, m: u32) -> u32
     ((up(a) + up(k) * up(b)) % up(m)) as u32
 }
 
-// The same k times. A basis index that the matrix fixes stays, and its exponent is a product.
-pub fn apply_times(words: &[u32], at: usize, d: u32, k: u32, x: Entry, m: u32) -> Entry
+// A matrix k times on an entry. A basis index that the matrix fixes stays, and its exponent is a product.
+fn apply_times(words: &[u32], at: usize, d: u32, k: u32, x: Entry, m: u32) -> Entry
     requires { ⌜ Holds m (now words) at d ⌝ }
     requires { ⌜ Below m d x ⌝ }
     ensures { λ r. ⌜ (r ≡ iter (act m (matrixIn (now (words .entry)) at d)) k x) × Below m d r ⌝ }
@@ -141,7 +141,7 @@ pub fn apply_times(words: &[u32], at: usize, d: u32, k: u32, x: Entry, m: u32) -
 }
 
 // The value of the word w on its first n generators, whose matrices of degree d stand one behind the other from line `at`.
-pub fn walk_word(words: &[u32], at: usize, d: u32, w: &Row, n: usize, x: Entry, m: u32) -> Entry
+fn walk_word(words: &[u32], at: usize, d: u32, w: &Row, n: usize, x: Entry, m: u32) -> Entry
     requires { ⌜ (n ≤ maxGenerators) × ((k : ℕ) → k < n → Holds m (now words) (at + k * d) d) ⌝ }
     requires { ⌜ Below m d x ⌝ }
     ensures { λ r. ⌜ (r ≡ walk m (λ (k : ℕ). matrixIn (now (words .entry)) (at + k * d) d) n (toNF n (now (w .entry))) x) × Below m d r ⌝ }
@@ -156,7 +156,7 @@ pub fn walk_word(words: &[u32], at: usize, d: u32, w: &Row, n: usize, x: Entry, 
 }
 
 // A matrix of degree 1, k times: e is the exponent of the root.
-pub fn single_times(words: &[u32], at: usize, k: u32, e: u32, m: u32) -> u32
+fn single_times(words: &[u32], at: usize, k: u32, e: u32, m: u32) -> u32
     requires { ⌜ Holds m (now words) at 1 × (e < m) ⌝ }
     ensures { λ r. ⌜ (entry 0 r ≡ iter (act m (matrixIn (now (words .entry)) at 1)) k (entry 0 e)) × (r < m) ⌝ }
 {
@@ -168,7 +168,7 @@ pub fn single_times(words: &[u32], at: usize, k: u32, e: u32, m: u32) -> u32
 }
 
 // The value of the word w on its first n generators, of degree 1.
-pub fn single_word(words: &[u32], at: usize, w: &Row, n: usize, e: u32, m: u32) -> u32
+fn single_word(words: &[u32], at: usize, w: &Row, n: usize, e: u32, m: u32) -> u32
     requires { ⌜ (n ≤ maxGenerators) × ((k : ℕ) → k < n → Holds m (now words) (at + k * 1) 1) × (e < m) ⌝ }
     ensures { λ r. ⌜ (entry 0 r ≡ walk m (λ (k : ℕ). matrixIn (now (words .entry)) (at + k * 1) 1) n (toNF n (now (w .entry))) (entry 0 e)) × (r < m) ⌝ }
 {
@@ -220,7 +220,7 @@ pub fn moved(words: &[u32], d: Listed, g: u32, x: Entry, m: u32) -> Entry
     apply(words, matrix_line(d, g), d.deg, x, m)
 }
 
-// The same k times.
+// Generator g, k times on an entry.
 pub fn moved_times(words: &[u32], d: Listed, g: u32, k: u32, x: Entry, m: u32) -> Entry
     requires { ⌜ Stored m (suc g) (now words) d × Below m (d .deg) x ⌝ }
     ensures { λ r. ⌜ (r ≡ iter (act m (generatorIn (now (words .entry)) d g)) k x) × Below m (d .deg) r ⌝ }
@@ -244,7 +244,7 @@ pub fn walked(words: &[u32], d: Listed, w: &Row, n: usize, x: Entry, m: u32) -> 
 }
 
 // Generator g, times the c-th power of the root, on an entry.
-pub fn scaled(words: &[u32], d: Listed, g: u32, c: u32, x: Entry, m: u32) -> Entry
+fn scaled(words: &[u32], d: Listed, g: u32, c: u32, x: Entry, m: u32) -> Entry
     requires { ⌜ Stored m (suc g) (now words) d × Below m (d .deg) x × (c < m) ⌝ }
     ensures { λ r. ⌜ (r ≡ plus m c (act m (generatorIn (now (words .entry)) d g) x)) × Below m (d .deg) r ⌝ }
 {
@@ -255,7 +255,8 @@ pub fn scaled(words: &[u32], d: Listed, g: u32, c: u32, x: Entry, m: u32) -> Ent
     }
 }
 
-// The same k times. A basis index that the generator fixes stays, and its exponent is a product.
+// Generator g, times the c-th power of the root, k times on an entry. A basis index that the generator fixes stays, and its
+// exponent is a product.
 pub fn scaled_times(words: &[u32], d: Listed, g: u32, c: u32, k: u32, x: Entry, m: u32) -> Entry
     requires { ⌜ Stored m (suc g) (now words) d × Below m (d .deg) x × (c < m) ⌝ }
     ensures { λ r. ⌜ (r ≡ iter (λ z. plus m c (act m (generatorIn (now (words .entry)) d g) z)) k x) × Below m (d .deg) r ⌝ }

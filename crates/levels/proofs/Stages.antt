@@ -1,9 +1,9 @@
 -- The words of a build, level by level.
 --
---   Stage              after i levels: what is written, where the last begins, and how many representations it has
+--   BuiltTo              after i levels: what is written, where the last begins, and how many representations it has
 --   first-asks         what level 1 asks
 --   stage-one          level 1 is written
---   stage-placed, stage-sound, stage-room      what the next level asks
+--   stage-placed, stage-asks   what the next level asks
 --   stage-next         it is written
 --   stage-last         all levels are
 use mathlib.Core.Path.{_≡_, refl, sym, ap, ap₂, _∙_, subst}
@@ -21,20 +21,21 @@ use Rattle.clifford.specs.Accepted.{Accepted}
 use Rattle.formulas.specs.Formulas.{levelBy}
 use Rattle.text.specs.Writing.{put, Wrote}
 use Rattle.text.proofs.Writing.{wrote-as, wrote-more, wrote-length}
-use Rattle.first.specs.Roots.{firstWords, Exponents}
+use Rattle.first.specs.Roots.{firstWords, WordsBelow}
 use Rattle.survey.specs.declared.Frame.{Frame}
-use Rattle.survey.specs.Below.{sourceIn, numberIn}
-use Rattle.builder.specs.Level.{Sound}
-use Rattle.assembly.specs.Built.{upTo, Placed}
-use Rattle.assembly.proofs.Standing.{stands}
-use Rattle.assembly.proofs.Next.{rows-below}
-use Rattle.assembly.proofs.Cycles.{visited, fixing}
-use Rattle.assembly.proofs.First.{exponents-below}
-use Rattle.assembly.proofs.Room.{prime-le}
-use Rattle.assembly.proofs.Climb.{next-upTo, next-room, next-reps, one-upTo, one-reps, one-room, one-placed}
+use Rattle.survey.specs.Below.{lowOf, sourceIn}
+use Rattle.builder.specs.declared.Written.{Written}
+use Rattle.builder.specs.Level.{LevelAsked, LevelMade}
+use Rattle.levels.specs.Built.{upTo, Placed}
+use Rattle.levels.proofs.Standing.{stands}
+use Rattle.levels.proofs.Next.{rows-below}
+use Rattle.levels.proofs.Cycles.{visited, fixing}
+use Rattle.levels.proofs.First.{exponents-below}
+use Rattle.levels.proofs.Room.{prime-le}
+use Rattle.levels.proofs.Climb.{next-upTo, next-room, next-reps, one-upTo, one-reps, one-room, one-placed}
 use Rattle.levels.specs.Given.{Given}
 
-pub record Stage (A : Accepted) (i base reps end : ℕ) (w₀ w : List ℕ) : Type 0 where
+pub record BuiltTo (A : Accepted) (i base reps end : ℕ) (w₀ w : List ℕ) : Type 0 where
   pub wrote : Wrote w₀ 0 (upTo A i) w (8 * end)
   pub base-is : i < A .C .P .n → 8 * base ≡ length (upTo A (i - 1))
   pub reps-is : reps ≡ length (levels (A .C .P) (order (A .C .P) (A .C .P .n)) i)
@@ -46,18 +47,18 @@ take-wrote b s c next q = ap₂ take (q .end ∙ zero-add _) (q .content) ∙ ta
 module _ (A : Accepted) (rows : List (List ℕ)) (primes : List ℕ) (n m have : ℕ) (G : Given rows primes n m have A) where
   -- ---- Level 1
 
-  pub first-asks : (p : ℕ) → p ≡ getD primes 0 0 → (n ≤ maxGenerators) × (p ≤ maxOrder) × (m ≤ maxModulus) × Exponents n p rows × (8 * (p * n) ≤ have)
+  pub first-asks : (p : ℕ) → p ≡ getD primes 0 0 → (n ≤ maxGenerators) × (p ≤ maxOrder) × (m ≤ maxModulus) × WordsBelow n p rows × (8 * (p * n) ≤ have)
   first-asks p e =
       let q : p ≡ A .C .P .p 0 = e ∙ G .reads .p-is 0 (A .positive) in
       let N = G .n-is in (
         omega (arith, N, G .small .few),
         omega (arith, q, prime-le A 0 (A .positive), G .small .low),
         omega (arith, G .m-is, G .small .low),
-        subst (λ x. Exponents x p rows) (sym N) (subst (λ x. Exponents (A .C .P .n) x rows) (sym q) (exponents-below A rows (G .reads))),
+        subst (λ x. WordsBelow x p rows) (sym N) (subst (λ x. WordsBelow (A .C .P .n) x rows) (sym q) (exponents-below A rows (G .reads))),
         omega (arith, ap₂ (λ x y. 8 * (x * y)) q N, one-room A rows (G .reads), G .room),
       )
 
-  pub stage-one : (p : ℕ) → p ≡ getD primes 0 0 → (w₀ w : List ℕ) (end : ℕ) → Wrote w₀ 0 (firstWords n p m rows) w (8 * end) → Stage A 1 0 p end w₀ w
+  pub stage-one : (p : ℕ) → p ≡ getD primes 0 0 → (w₀ w : List ℕ) (end : ℕ) → Wrote w₀ 0 (firstWords n p m rows) w (8 * end) → BuiltTo A 1 0 p end w₀ w
   stage-one p e w₀ w end W =
       let q : p ≡ A .C .P .p 0 = e ∙ G .reads .p-is 0 (A .positive) in
       record {
@@ -68,14 +69,14 @@ module _ (A : Accepted) (rows : List (List ℕ)) (primes : List ℕ) (n m have :
 
   -- ---- The next
 
-  module _ (i base reps end p : ℕ) (w₀ w : List ℕ) (above : 0 < i) (below : i < n) (known : p ≡ getD primes i 0) (S : Stage A i base reps end w₀ w) where
+  module _ (i base reps end p : ℕ) (w₀ w : List ℕ) (above : 0 < i) (below : i < n) (known : p ≡ getD primes i 0) (S : BuiltTo A i base reps end w₀ w) where
     abbrev pub frame : Frame
     frame = record { m = m; top = i; gens = n; p = p; base = base; reps = reps; end = end }
 
     inside : i < A .C .P .n
     inside = omega (arith, below, G .n-is)
 
-    pub stage-placed : Placed A i frame (take (8 * end) w)
+    stage-placed : Placed A i frame (lowOf frame w)
     stage-placed = record {
       above = above;
       below = inside;
@@ -89,25 +90,25 @@ module _ (A : Accepted) (rows : List (List ℕ)) (primes : List ℕ) (n m have :
       words-are = take-wrote w₀ (upTo A i) w (8 * end) (S .wrote);
     }
 
-    pub stage-sound : Sound frame (take (8 * end) w) rows
-    stage-sound = record {
-      stands = stands A (G .small) i frame (take (8 * end) w) stage-placed;
-      words = rows-below A i frame (take (8 * end) w) rows stage-placed (G .reads);
-      cycles = visited A i frame (take (8 * end) w) rows stage-placed (G .reads);
-      fixes = fixing A i frame (take (8 * end) w) stage-placed;
+    pub stage-asks : have ≤ length w₀ → LevelAsked frame w rows
+    stage-asks h = record {
+      sound = record {
+        stands = stands A (G .small) i frame (lowOf frame w) stage-placed;
+        words = rows-below A i frame (lowOf frame w) rows stage-placed (G .reads);
+        cycles = visited A i frame (lowOf frame w) rows stage-placed (G .reads);
+        fixes = fixing A i frame (lowOf frame w) stage-placed;
+      };
+      room = omega (arith, next-room A i frame (lowOf frame w) rows stage-placed (G .reads), G .room, h, wrote-length (S .wrote));
     }
 
-    pub stage-room : have ≤ length w₀ → 8 * end + length (levelWords n (suc i) (levelBy (sourceIn frame (take (8 * end) w) rows))) ≤ length w
-    stage-room h = omega (arith, next-room A i frame (take (8 * end) w) rows stage-placed (G .reads), G .room, h, wrote-length (S .wrote))
-
-    pub stage-next : (w′ : List ℕ) (end′ reps′ : ℕ) → Wrote w (8 * end) (levelWords n (suc i) (levelBy (sourceIn frame (take (8 * end) w) rows))) w′ (8 * end′) → reps′ ≡ numberIn frame (take (8 * end) w) reps
-        → Stage A (i + 1) end reps′ end′ w₀ w′
-    stage-next w′ end′ reps′ W e =
+    pub stage-next : (t : Written) (w′ : List ℕ) → LevelMade frame w rows t w′ → BuiltTo A (i + 1) end (t .reps) (t .end) w₀ w′
+    stage-next t w′ M =
         let Q = stage-placed in
         let next : i + 1 - 1 ≡ i = omega arith in
+        let named = ap₂ (_++_) (sym (Q .words-are)) (ap (λ x. levelWords x (suc i) (levelBy (sourceIn frame (lowOf frame w) rows))) (G .n-is)) in
         record {
-          wrote = wrote-as (wrote-more (S .wrote) W)
-              (ap₂ (_++_) (sym (Q .words-are)) (ap (λ x. levelWords x (suc i) (levelBy (sourceIn frame (take (8 * end) w) rows))) (G .n-is)) ∙ next-upTo A i frame (take (8 * end) w) rows Q (G .reads) ∙ ap (upTo A) (sym (add-one i)));
+          wrote = wrote-as (wrote-more (S .wrote) (M .wrote)) (named ∙ next-upTo A i frame (lowOf frame w) rows Q (G .reads) ∙ ap (upTo A) (sym (add-one i)));
           base-is = λ l. Q .end-is ∙ ap (λ x. length (upTo A x)) (sym next);
-          reps-is = e ∙ next-reps A i frame (take (8 * end) w) Q ∙ ap (λ x. length (levels (A .C .P) (order (A .C .P) (A .C .P .n)) x)) (sym (add-one i));
+          reps-is = M .reps-is ∙ next-reps A i frame (lowOf frame w) Q
+              ∙ ap (λ x. length (levels (A .C .P) (order (A .C .P) (A .C .P .n)) x)) (sym (add-one i));
         }

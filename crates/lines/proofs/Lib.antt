@@ -1,3 +1,3 @@
 -- Laws of lines.
-pub mod Laws
+pub mod Written
 pub mod Appending

@@ -1,15 +1,13 @@
 // Lines in the caller's words, appended: what the lines of one matrix share, and the lines of a matrix as a block of a greater one.
 //
 //   Head                         what the lines of one matrix share
+//   Piece                        a matrix as a block of a greater one
 //   put_line                     one line
-//   append_block, append_line    the lines of a block
+//   append_block                 the lines of a block
 ghost use mathlib.Core.Path.{_≡_};
-ghost use Prim.Native.Nat.{_+_, _*_, _%_, _≤_, _<_};
+ghost use Prim.Native.Nat.{_+_, _*_, _≤_, _<_};
 ghost use lib.ListN.{length, take};
-ghost use Rattle.definitions.specs.Monomial.{entry};
-ghost use Rattle.text.specs.Writing.{Wrote};
-ghost use Rattle.level.specs.Stored.{entryIn, Holds};
-ghost use Rattle.lines.specs.Lines.{headLine, blockLines};
+ghost use Rattle.lines.specs.Lines.{headLine, blockEntry, blockLines, Copied, Space, Appended};
 use definitions::Entry;
 
 // What the lines of one matrix share.
@@ -21,10 +19,20 @@ pub struct Head {
     pub refn: u32,
 }
 
+// A matrix as a block of a greater one: its first line and its degree, the columns and the rows before it, and the power of
+// the root that it is multiplied by.
+pub struct Piece {
+    pub src: usize,
+    pub deg: u32,
+    pub col: u32,
+    pub row: u32,
+    pub by: u32,
+}
+
 // Writes one line, and returns the next line's number.
 pub fn put_line(words: &mut [u32], at: usize, h: Head, k: u32, x: Entry) -> usize
     requires { ⌜ 8 * at + 8 ≤ length (now words) ⌝ }
-    ensures { λ r. ⌜ Wrote (now (words .entry)) (8 * at) (headLine h k x) (now (words .exit)) (8 * r) ⌝ }
+    ensures { λ r. ⌜ Appended (now (words .entry)) at (headLine h k x) (now (words .exit)) r ⌝ }
 {
     let i = 8 * at;
     words[i + level::LEVEL] = h.level;
@@ -38,67 +46,46 @@ pub fn put_line(words: &mut [u32], at: usize, h: Head, k: u32, x: Entry) -> usiz
     at + 1
 }
 
-// Column k of the matrix at line src, its row moved up by ro and c added to its exponent.
-pub fn block_entry(words: &[u32], src: usize, d: u32, k: u32, ro: u32, c: u32, m: u32) -> Entry
-    requires { ⌜ (c < m) × (k < d) × (ro + d ≤ 1000000000) ⌝ }
-    requires { ⌜ Holds m (now words) src d ⌝ }
-    ensures { λ r. ⌜ r ≡ entry (ro + entryIn (now (words .entry)) (src + k) .row) ((entryIn (now (words .entry)) (src + k) .exp + c) % m) ⌝ }
+// Column k of a piece, its row and its exponent as they stand in the greater matrix.
+fn block_entry(words: &[u32], b: Piece, k: u32, m: u32) -> Entry
+    requires { ⌜ Copied m (now words) b × (k < b .deg) ⌝ }
+    ensures { λ r. ⌜ r ≡ blockEntry m b (now (words .entry)) k ⌝ }
 {
-    let e = level::column(words, src, d, k, m);
+    let e = level::column(words, b.src, b.deg, k, m);
     Entry {
-        row: ro + e.row,
-        exp: level::add_mod(e.exp, c, m),
+        row: b.row + e.row,
+        exp: level::add_mod(e.exp, b.by, m),
     }
 }
 
-// Appends the matrix of degree d at line src, which stands below line low, as the block with columns from co and rows
-// from ro, times the c-th power of the root. Returns the next line's number.
-pub fn append_block(
-    words: &mut [u32],
-    low: usize,
-    at: usize,
-    h: Head,
-    co: u32,
-    ro: u32,
-    src: usize,
-    d: u32,
-    c: u32,
-    m: u32,
-) -> usize
-    requires { ⌜ (c < m) × (low ≤ at) × (8 * at + 8 * d ≤ length (now words)) × (co + d ≤ 1000000000) × (ro + d ≤ 1000000000) ⌝ }
-    requires { ⌜ Holds m (take (8 * low) (now words)) src d ⌝ }
-    ensures { λ r. ⌜ Wrote (now (words .entry)) (8 * at) (blockLines m h co ro c d (take (8 * low) (now (words .entry))) src) (now (words .exit)) (8 * r) ⌝ }
+// Appends the line of a piece of degree 1. Returns the next line's number.
+fn append_line(words: &mut [u32], low: usize, at: usize, h: Head, b: Piece, m: u32) -> usize
+    requires { ⌜ Copied m (take (8 * low) (now words)) b × Space low at (8 * b .deg) (now words) × (b .deg ≡ 1) ⌝ }
+    ensures { λ r. ⌜ Appended (now (words .entry)) at (blockLines m h b (take (8 * low) (now (words .entry)))) (now (words .exit)) r ⌝ }
 {
+    let n = 8 * low;
+    let e = level::word_at(&words[..n], b.src, level::EXP);
+    let x = Entry {
+        row: b.row,
+        exp: level::add_mod(e, b.by, m),
+    };
+    put_line(words, at, h, b.col, x)
+}
+
+// Appends the lines of a piece, whose matrix stands below line low. Returns the next line's number.
+pub fn append_block(words: &mut [u32], low: usize, at: usize, h: Head, b: Piece, m: u32) -> usize
+    requires { ⌜ Copied m (take (8 * low) (now words)) b × Space low at (8 * b .deg) (now words) ⌝ }
+    ensures { λ r. ⌜ Appended (now (words .entry)) at (blockLines m h b (take (8 * low) (now (words .entry)))) (now (words .exit)) r ⌝ }
+{
+    let deg = b.deg;
+    if deg == 1 {
+        return append_line(words, low, at, h, b, m);
+    }
     let n = 8 * low;
     let mut pos = at;
-    for k in 0..d {
-        let x = block_entry(&words[..n], src, d, k, ro, c, m);
-        pos = put_line(words, pos, h, co + k, x);
+    for k in 0..deg {
+        let x = block_entry(&words[..n], b, k, m);
+        pos = put_line(words, pos, h, b.col + k, x);
     }
     pos
-}
-
-// The same for a matrix of degree 1.
-pub fn append_line(
-    words: &mut [u32],
-    low: usize,
-    at: usize,
-    h: Head,
-    co: u32,
-    ro: u32,
-    src: usize,
-    c: u32,
-    m: u32,
-) -> usize
-    requires { ⌜ (c < m) × (low ≤ at) × (8 * at + 8 ≤ length (now words)) ⌝ }
-    requires { ⌜ Holds m (take (8 * low) (now words)) src 1 ⌝ }
-    ensures { λ r. ⌜ Wrote (now (words .entry)) (8 * at) (blockLines m h co ro c 1 (take (8 * low) (now (words .entry))) src) (now (words .exit)) (8 * r) ⌝ }
-{
-    let n = 8 * low;
-    let e = level::word_at(&words[..n], src, level::EXP);
-    let x = Entry {
-        row: ro,
-        exp: level::add_mod(e, c, m),
-    };
-    put_line(words, at, h, co, x)
 }

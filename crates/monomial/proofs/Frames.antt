@@ -27,7 +27,7 @@ use Rattle.numbers.proofs.Searches.{anyBelow-intro, least-is}
 use Rattle.numbers.proofs.Blocks.{getD-map, getD-table, length-table}
 use Rattle.monomial.specs.Exponents.{Residue}
 use Rattle.monomial.specs.Maps.{Map, compose, maps, Inverse}
-use Rattle.monomial.specs.Frames.{Frame, Complete, Shows}
+use Rattle.monomial.specs.Frames.{Layout, Complete, Shows}
 use Rattle.monomial.proofs.Exponents.{cancel}
 use Rattle.monomial.proofs.Maps.{column, at-mul, at-one, inverse-injective}
 use Rattle.monomial.proofs.Residues.{residues, Residue-path, less-value, nil-value}
@@ -48,8 +48,8 @@ pub length-product : (m : ℕ) (M N : Matrix) → length (product m M N) ≡ len
 unfolding product
 length-product m M N = length-map N (act m M)
 
-module _ (m : ℕ) (pos : 0 < m) {Ω : Type 0} (Φ : Frame Ω) where
-  open Frame Φ using (rep, degree, column-below)
+module _ (m : ℕ) (pos : 0 < m) {Ω : Type 0} (Φ : Layout Ω) where
+  open Layout Φ using (rep, degree, column-below)
 
   abbrev at : Ω → ℕ
   at = Φ .column

@@ -1,3 +1,4 @@
--- Laws of orbits and blocks.
-pub mod Laws
+-- Laws of the blocks of an orbit.
+pub mod Blocks
+pub mod Sides
 pub mod Along

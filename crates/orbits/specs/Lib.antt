@@ -1,2 +1,3 @@
--- What the blocks of an orbit are known by.
-pub mod Orbit
+-- What the blocks of an orbit are known by, and the two sides of an intertwiner's equation there.
+pub mod Blocks
+pub mod Sides

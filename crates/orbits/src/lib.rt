@@ -1,61 +1,105 @@
 // The blocks of an orbit of the generator on top: how that generator moves them, and the scalars of the generators above it.
+// They are listed in one array, a row of two numbers for each block.
 //
-//   list_orbit                   the representations of the blocks
-//   cycle, cycle_times           the generator on top of the induced representation on a column
-//   conjugate, left, right       the two sides of an intertwiner's equation at a block
-//   next_scalar, scalars         the scalar of each block, from block to block
+//   MEMBER, SCALAR               the fields of a row
+//   block, put_block             reads and stores a field
+//   list_orbit                   lists the representations of the blocks
+//   of_block                     the representation of a block, by its first line
+//   cycle, cycle_times           the generator on top of the induced representation on an entry in a block
+//   conjugate, left              one side of an intertwiner's equation at a block
+//   constant, right              the other
+//   next_scalar, list_scalars    lists the scalars, from block to block
 ghost use mathlib.Core.Path.{_≡_};
-ghost use mathlib.Core.List.{List, []};
-ghost use Prim.Native.Nat.{ℕ, suc, _+_, _≤_, _<_};
-ghost use mathlib.Core.Bool.{cond};
+ghost use mathlib.Core.List.{List};
+ghost use Prim.Native.Nat.{ℕ, _*_, _≤_, _<_};
 ghost use lib.ListN.{length, getD};
-ghost use lib.Dec.{ltb};
 ghost use Rattle.definitions.specs.Lists.{iter};
-ghost use Rattle.definitions.specs.Presentation.{maxOrder, pairNumber};
-ghost use Rattle.definitions.specs.Monomial.{act};
-ghost use Rattle.formulas.specs.Formulas.{shift, cycleEntry, conjugateEntry};
-ghost use Rattle.level.specs.Stored.{Below};
-ghost use Rattle.survey.specs.Below.{degOf, targetOf, sourceIn, Stands, Lines};
-ghost use Rattle.orbits.specs.Orbit.{OrbitArray, Inducing, BlockScalars, Held, Cycled, Righting, rightIn, NextScalar};
+ghost use Rattle.fields.specs.Fields.{field, Inside, Put};
+ghost use Rattle.survey.specs.Notes.{firsts};
+ghost use Rattle.survey.specs.Below.{LevelStands, Located, Lines, Surveyed};
+ghost use Rattle.orbits.specs.Blocks.{blockWidth, members, scalars, memberOf, OrbitArray, Inducing, Listing, BlockScalars};
+ghost use Rattle.orbits.specs.Sides.{movedOf, Lies, EntryIs, cycleIn, conjugateIn, leftIn, constantIn, rightIn, NextScalar};
 use definitions::Entry;
+use level::Listed;
 use rows::Row;
 use rows::Words;
 use survey::Frame;
 
-// An entry in a block of an orbit.
-pub struct Moved {
-    pub block: u32,
-    pub x: Entry,
+// The numbers of a row of blocks.
+const BLOCK: usize = 2;
+
+// The representation of a block.
+pub const MEMBER: usize = 0;
+
+// Its scalar.
+pub const SCALAR: usize = 1;
+
+// Field k of block b.
+pub fn block(blocks: &[u32], k: usize, b: u32) -> u32
+    requires { ⌜ Inside blockWidth k (now blocks) b ⌝ }
+    ensures { λ x. ⌜ x ≡ getD (field blockWidth k (now (blocks .entry))) b 0 ⌝ }
+{
+    fields::get(blocks, BLOCK, k, b)
 }
 
-// Fills an array with the orbit of r.
-pub fn list_orbit(low: &[u32], first: &[u32], orbit: &mut [u32], f: Frame, r: u32)
-    requires { ⌜ Stands f (now low) × Lines f (now low) (now first) × (r < f .reps) × (f .p ≤ length (now orbit)) ⌝ }
-    ensures { λ _. ⌜ OrbitArray f (now (low .entry)) (now (orbit .exit)) r ⌝ }
+// Stores it.
+fn put_block(blocks: &mut [u32], k: usize, b: u32, x: u32)
+    requires { ⌜ Inside blockWidth k (now blocks) b ⌝ }
+    ensures { λ _. ⌜ Put blockWidth k b x (now (blocks .entry)) (now (blocks .exit)) ⌝ }
 {
-    let d = survey::listed(low, first, f, r);
+    fields::put(blocks, BLOCK, k, b, x);
+}
+
+// Lists the orbit of r.
+pub fn list_orbit(low: &[u32], notes: &[u32], blocks: &mut [u32], f: Frame, r: u32)
+    requires { ⌜ LevelStands f (now low) × Lines f (now low) (firsts (now notes)) × (r < f .reps) × (blockWidth * f .p ≤ length (now blocks)) ⌝ }
+    ensures { λ _. ⌜ OrbitArray f (now (low .entry)) (members (now (blocks .exit))) r ⌝ }
+{
+    let d = survey::listed(low, notes, f, r);
     let mut q = r;
     let p = f.p;
     for k in 0..p {
-        survey::store(orbit, k, q);
-        let e = survey::member(low, first, f, d.deg, q);
+        put_block(blocks, MEMBER, k, q);
+        let e = survey::member(low, notes, f, d.deg, q);
         q = level::target(low, e, f.top);
     }
 }
 
+// The representation of block b of the orbit of r.
+fn of_block(low: &[u32], notes: &[u32], blocks: &[u32], f: Frame, r: u32, b: u32) -> Listed
+    requires { ⌜ Listing f (now low) (now notes) (now blocks) r × (b < f .p) ⌝ }
+    ensures { λ d. ⌜ Located f (now (low .entry)) (memberOf f (now (low .entry)) r b) d ⌝ }
+{
+    let q = block(blocks, MEMBER, b);
+    survey::listed(low, notes, f, q)
+}
+
+// An entry in a block of an orbit.
+pub struct BlockEntry {
+    pub block: u32,
+    pub x: Entry,
+}
+
 // The generator on top of the induced representation on an entry in a block; c closes the orbit.
-pub fn cycle(low: &[u32], first: &[u32], orbit: &[u32], f: Frame, c: u32, r: u32, s: Moved) -> Moved
-    requires { ⌜ Stands f (now low) × Lines f (now low) (now first) × (r < f .reps) × OrbitArray f (now low) (now orbit) r × (s .block < f .p) × (c < f .m) × Below (f .m) (degOf f (now low) r) (s .x) ⌝ }
-    ensures { λ t. ⌜ Cycled f (now (low .entry)) c r s t ⌝ }
+fn cycle(
+    low: &[u32],
+    notes: &[u32],
+    blocks: &[u32],
+    f: Frame,
+    c: u32,
+    r: u32,
+    s: BlockEntry,
+) -> BlockEntry
+    requires { ⌜ Listing f (now low) (now notes) (now blocks) r × (c < f .m) × Lies f (now low) r s ⌝ }
+    ensures { λ t. ⌜ EntryIs f (now (low .entry)) r (cycleIn f (now (low .entry)) c r (movedOf s)) t ⌝ }
 {
     let b = s.block;
-    let q = survey::element(orbit, b);
-    let e = survey::listed(low, first, f, q);
+    let e = of_block(low, notes, blocks, f, r, b);
     let y = level::moved(low, e, f.top, s.x, f.m);
     if b + 1 < f.p {
-        return Moved { block: b + 1, x: y };
+        return BlockEntry { block: b + 1, x: y };
     }
-    Moved {
+    BlockEntry {
         block: 0,
         x: Entry {
             row: y.row,
@@ -64,190 +108,143 @@ pub fn cycle(low: &[u32], first: &[u32], orbit: &[u32], f: Frame, c: u32, r: u32
     }
 }
 
-// The same k times.
-pub fn cycle_times(
+// The generator on top of the induced representation, k times on an entry in a block.
+fn cycle_times(
     low: &[u32],
-    first: &[u32],
-    orbit: &[u32],
+    notes: &[u32],
+    blocks: &[u32],
     f: Frame,
     c: u32,
     r: u32,
     k: u32,
-    s: Moved,
-) -> Moved
-    requires { ⌜ Stands f (now low) × Lines f (now low) (now first) × (r < f .reps) × OrbitArray f (now low) (now orbit) r × (s .block < f .p) × (c < f .m) × Below (f .m) (degOf f (now low) r) (s .x) ⌝ }
-    ensures { λ t. ⌜ ((rows : List (List ℕ)) → shift (sourceIn f (now (low .entry)) rows) r ≡ c → Held f (now (low .entry)) r (iter (cycleEntry (sourceIn f (now (low .entry)) rows) r) k (record { block = s .block; at = s .x })) t) × (t .block < f .p) × Below (f .m) (degOf f (now (low .entry)) r) (t .x) ⌝ }
+    s: BlockEntry,
+) -> BlockEntry
+    requires { ⌜ Listing f (now low) (now notes) (now blocks) r × (c < f .m) × Lies f (now low) r s ⌝ }
+    ensures { λ t. ⌜ EntryIs f (now (low .entry)) r (iter (cycleIn f (now (low .entry)) c r) k (movedOf s)) t ⌝ }
 {
     let mut t = s;
     for i in 0..k {
-        t = cycle(low, first, orbit, f, c, r, t);
+        t = cycle(low, notes, blocks, f, c, r, t);
     }
     t
 }
 
 // Column 0 of block b moved by j⁻¹ g j, g the generator on top: by the word w of the two, and once more by g.
-pub fn conjugate(
+fn conjugate(
     low: &[u32],
-    first: &[u32],
-    orbit: &[u32],
+    notes: &[u32],
+    blocks: &[u32],
     w: &Row,
     f: Frame,
     c: u32,
     r: u32,
     b: u32,
-) -> Moved
-    requires { ⌜ Stands f (now low) × Lines f (now low) (now first) × (r < f .reps) × OrbitArray f (now low) (now orbit) r × (b < f .p) × (c < f .m) × (getD (now w) (f .top) 0 < f .p) ⌝ }
-    ensures { λ t. ⌜ ((rows : List (List ℕ)) (j : ℕ) → shift (sourceIn f (now (low .entry)) rows) r ≡ c → getD rows (pairNumber j (f .top)) [] ≡ now (w .entry) → Held f (now (low .entry)) r (conjugateEntry (sourceIn f (now (low .entry)) rows) j r b) t) × (t .block < f .p) × Below (f .m) (degOf f (now (low .entry)) r) (t .x) ⌝ }
+) -> BlockEntry
+    requires { ⌜ Listing f (now low) (now notes) (now blocks) r × (b < f .p) × (c < f .m) × (getD (now w) (f .top) 0 < f .p) ⌝ }
+    ensures { λ t. ⌜ EntryIs f (now (low .entry)) r (conjugateIn f (now (low .entry)) c (now (w .entry)) r b) t ⌝ }
 {
-    let q = survey::element(orbit, b);
-    let e = survey::listed(low, first, f, q);
+    let e = of_block(low, notes, blocks, f, r, b);
     let t = level::up(f.top);
     let x = level::walked(low, e, w, t, Entry { row: 0, exp: 0 }, f.m);
     let k = w[t];
-    cycle_times(low, first, orbit, f, c, r, k + 1, Moved { block: b, x: x })
+    cycle_times(
+        low,
+        notes,
+        blocks,
+        f,
+        c,
+        r,
+        k + 1,
+        BlockEntry { block: b, x: x },
+    )
 }
 
 // The exponent of an entry in a block moved by the intertwiner of generator j there.
-pub fn left(low: &[u32], first: &[u32], orbit: &[u32], f: Frame, j: u32, r: u32, s: Moved) -> u32
-    requires { ⌜ Stands f (now low) × Lines f (now low) (now first) × (r < f .reps) × OrbitArray f (now low) (now orbit) r × (s .block < f .p) × (j < f .gens) × Below (f .m) (degOf f (now low) r) (s .x) ⌝ }
-    ensures { λ e. ⌜ (e ≡ act (f .m) (sourceIn f (now (low .entry)) [] .matrix (iter (targetOf f (now (low .entry)) (f .top)) (s .block) r) j) (s .x) .exp) × (e < f .m) ⌝ }
+fn left(low: &[u32], notes: &[u32], blocks: &[u32], f: Frame, j: u32, r: u32, s: BlockEntry) -> u32
+    requires { ⌜ Listing f (now low) (now notes) (now blocks) r × (j < f .gens) × Lies f (now low) r s ⌝ }
+    ensures { λ e. ⌜ (e ≡ leftIn f (now (low .entry)) j r (movedOf s)) × (e < f .m) ⌝ }
 {
-    let b = s.block;
-    let q = survey::element(orbit, b);
-    let e = survey::listed(low, first, f, q);
+    let e = of_block(low, notes, blocks, f, r, s.block);
     let y = level::moved(low, e, j, s.x, f.m);
     y.exp
 }
 
 // The constant of the generator on top behind representation q of an orbit: 0, and at the end of the orbit what closes it.
-pub fn constant(leaders: &[u32], places: &[u32], shifts: &[u32], f: Frame, q: u32) -> u32
-    requires { ⌜ (q < length (now places)) × (q < length (now leaders)) × (getD (now leaders) q 0 < length (now shifts)) × (0 < f .m) × (getD (now places) q 0 ≤ maxOrder) × (getD (now shifts) (getD (now leaders) q 0) 0 < f .m) ⌝ }
-    ensures { λ c. ⌜ (c ≡ cond (ltb (suc (getD (now (places .entry)) q 0)) (f .p)) 0 (getD (now (shifts .entry)) (getD (now (leaders .entry)) q 0) 0)) × (c < f .m) ⌝ }
+fn constant(notes: &[u32], f: Frame, q: u32) -> u32
+    requires { ⌜ ((W : List ℕ) × (rows : List (List ℕ)) × Surveyed f W rows (now notes)) × (q < f .reps) ⌝ }
+    ensures { λ c. ⌜ (c ≡ constantIn f (now (notes .entry)) q) × (c < f .m) ⌝ }
 {
-    let b = survey::element(places, q);
+    let b = survey::note(notes, survey::POSITION, q);
     if b + 1 < f.p {
         return 0;
     }
-    let l = survey::element(leaders, q);
-    survey::element(shifts, l)
+    let l = survey::note(notes, survey::LEADER, q);
+    survey::note(notes, survey::SHIFT, l)
 }
 
 // The exponent of column 0 of block b moved by the intertwiner of generator j, and then by the generator on top.
-pub fn right(
-    low: &[u32],
-    first: &[u32],
-    leaders: &[u32],
-    places: &[u32],
-    shifts: &[u32],
-    orbit: &[u32],
-    f: Frame,
-    j: u32,
-    b: u32,
-) -> u32
-    requires { ⌜ Righting f (now low) (now first) (now leaders) (now places) (now shifts) (now orbit) × (f .top < j) × (j < f .gens) × (b < f .p) ⌝ }
-    ensures { λ e. ⌜ (e ≡ rightIn f (now (low .entry)) (now (shifts .entry)) j (getD (now (orbit .entry)) b 0)) × (e < f .m) ⌝ }
+fn right(low: &[u32], notes: &[u32], blocks: &[u32], f: Frame, j: u32, r: u32, b: u32) -> u32
+    requires { ⌜ Listing f (now low) (now notes) (now blocks) r × (f .top < j) × (j < f .gens) × (b < f .p) ⌝ }
+    ensures { λ e. ⌜ (e ≡ rightIn f (now (low .entry)) (now (notes .entry)) j r b) × (e < f .m) ⌝ }
 {
-    let r = survey::element(orbit, b);
-    let d = survey::listed(low, first, f, r);
+    let d = of_block(low, notes, blocks, f, r, b);
     let q = level::target(low, d, j);
-    let e = survey::member(low, first, f, d.deg, q);
-    let c = constant(leaders, places, shifts, f, q);
+    let e = survey::member(low, notes, f, d.deg, q);
+    let c = constant(notes, f, q);
     level::through(low, d, j, e, f.top, c, f.m)
 }
 
 // A block, and its scalar.
-pub struct Scaled {
+pub struct BlockScalar {
     pub block: u32,
     pub exp: u32,
 }
 
 // The block behind s along the generator on top, and its scalar.
-pub fn next_scalar(
+fn next_scalar(
     low: &[u32],
-    first: &[u32],
     rows: &Words,
-    leaders: &[u32],
-    places: &[u32],
-    shifts: &[u32],
-    orbit: &[u32],
+    notes: &[u32],
+    blocks: &[u32],
     f: Frame,
     j: u32,
     r: u32,
-    s: Scaled,
-) -> Scaled
-    requires { ⌜ Inducing f (now low) (now rows) (now first) (now leaders) (now places) (now shifts) (now orbit) r × (f .top < j) × (j < f .gens) × (s .block < f .p) × (s .exp < f .m) ⌝ }
+    s: BlockScalar,
+) -> BlockScalar
+    requires { ⌜ Inducing f (now low) (now rows) (now notes) (now blocks) r × (f .top < j) × (j < f .gens) × (s .block < f .p) × (s .exp < f .m) ⌝ }
     ensures { λ t. ⌜ NextScalar f (now (low .entry)) (now (rows .entry)) j r s t ⌝ }
 {
     let w = rows::word(rows, level::up(j), level::up(f.top));
-    let c = survey::element(shifts, r);
-    let a = conjugate(low, first, orbit, &w, f, c, r, s.block);
-    let l = left(low, first, orbit, f, j, r, a);
-    let y = right(low, first, leaders, places, shifts, orbit, f, j, s.block);
+    let c = survey::note(notes, survey::SHIFT, r);
+    let a = conjugate(low, notes, blocks, &w, f, c, r, s.block);
+    let l = left(low, notes, blocks, f, j, r, a);
+    let y = right(low, notes, blocks, f, j, r, s.block);
     let e = level::add_mod(s.exp, y, f.m);
-    Scaled {
+    BlockScalar {
         block: a.block,
         exp: level::sub_mod(e, l, f.m),
     }
 }
 
-// The same behind block k along the generator on top, unless that is the last.
-pub fn scalar_behind(
+// Lists the scalars of the blocks for generator j, from block 0 along the generator on top.
+pub fn list_scalars(
     low: &[u32],
-    first: &[u32],
     rows: &Words,
-    leaders: &[u32],
-    places: &[u32],
-    shifts: &[u32],
-    orbit: &[u32],
-    f: Frame,
-    j: u32,
-    r: u32,
-    k: u32,
-    s: Scaled,
-) -> Scaled
-    requires { ⌜ Inducing f (now low) (now rows) (now first) (now leaders) (now places) (now shifts) (now orbit) r × (f .top < j) × (j < f .gens) × (k < f .p) × (s .block < f .p) × (s .exp < f .m) ⌝ }
-    ensures { λ t. ⌜ (suc k < f .p → NextScalar f (now (low .entry)) (now (rows .entry)) j r s t) × (t .block < f .p) × (t .exp < f .m) ⌝ }
-{
-    if k + 1 < f.p {
-        return next_scalar(low, first, rows, leaders, places, shifts, orbit, f, j, r, s);
-    }
-    s
-}
-
-// Fills an array with the scalars of the blocks for generator j, from block 0 along the generator on top.
-pub fn scalars(
-    low: &[u32],
-    first: &[u32],
-    rows: &Words,
-    leaders: &[u32],
-    places: &[u32],
-    shifts: &[u32],
-    orbit: &[u32],
-    c: &mut [u32],
+    notes: &[u32],
+    blocks: &mut [u32],
     f: Frame,
     j: u32,
     r: u32,
 )
-    requires { ⌜ Inducing f (now low) (now rows) (now first) (now leaders) (now places) (now shifts) (now orbit) r × (f .top < j) × (j < f .gens) × (f .p ≤ length (now c)) ⌝ }
-    ensures { λ _. ⌜ BlockScalars f (now (low .entry)) (now (rows .entry)) (now (c .exit)) j r ⌝ }
+    requires { ⌜ Inducing f (now low) (now rows) (now notes) (now blocks) r × (f .top < j) × (j < f .gens) ⌝ }
+    ensures { λ _. ⌜ Inducing f (now (low .entry)) (now (rows .entry)) (now (notes .entry)) (now (blocks .exit)) r ⌝ }
+    ensures { λ _. ⌜ BlockScalars f (now (low .entry)) (now (rows .entry)) (scalars (now (blocks .exit))) j r ⌝ }
 {
-    let mut s = Scaled { block: 0, exp: 0 };
-    let p = f.p;
-    for k in 0..p {
-        survey::store(c, s.block, s.exp);
-        s = scalar_behind(
-            low,
-            first,
-            rows,
-            leaders,
-            places,
-            shifts,
-            orbit,
-            f,
-            j,
-            r,
-            k,
-            s,
-        );
+    let mut s = BlockScalar { block: 0, exp: 0 };
+    put_block(blocks, SCALAR, 0, 0);
+    let last = f.p - 1;
+    for k in 0..last {
+        s = next_scalar(low, rows, notes, blocks, f, j, r, s);
+        put_block(blocks, SCALAR, s.block, s.exp);
     }
 }

@@ -12,12 +12,12 @@ use Rattle.definitions.specs.Text.{Bytes}
 use Rattle.definitions.specs.Presentation.{Relations, maxGenerators, maxOrder, presentation}
 use Rattle.definitions.specs.Answers.{First, says, textRefusals}
 use Rattle.rows.specs.Rows.{Reads}
-use Rattle.presentation.specs.declared.Presentation.{Presentation}
+use Rattle.presentation.specs.declared.ReadPresentation.{ReadPresentation}
 use Rattle.presentation.specs.declared.Outcome.{Outcome}
 use Rattle.conditions.specs.Conditions.{product, allWell, Primes}
 
 -- n, and rows that are those of the presentation of R
-pub record Held (R : Relations) (P : Presentation) : Type 0 where
+pub record Held (R : Relations) (P : ReadPresentation) : Type 0 where
   pub count : P .n ≡ R .n
   pub few : R .n ≤ maxGenerators
   pub reads : Reads (presentation R) (R .n) (P .primes) (P .words)

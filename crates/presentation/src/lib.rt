@@ -1,6 +1,6 @@
 // The read presentation, and the answer to its text (refusals 11 to 14).
 //
-//   Presentation          n, the primes, and the words in rows
+//   ReadPresentation          n, the primes, and the words in rows
 //   make, words_of        the two functions that touch the rows as a field
 //   Outcome, refused      what reading leaves: a refusal, or 0 and the presentation
 //   conclude              refusals 13 and 14 on what was kept of a text whose generators have room
@@ -18,19 +18,19 @@ ghost use Rattle.definitions.specs.Presentation.{maxGenerators, pairNumber};
 ghost use Rattle.presentation.specs.Outcome.{Concluded, ReadText};
 
 // The read presentation.
-pub struct Presentation {
+pub struct ReadPresentation {
     pub n: usize,
     pub primes: Row,
     pub words: Words,
 }
 
-pub fn make(n: usize, primes: Row, words: Words) -> Presentation
+pub fn make(n: usize, primes: Row, words: Words) -> ReadPresentation
     ensures { λ r. ⌜ (r .n ≡ n) × (r .primes ≡ primes) × (r .words ≡ words) ⌝ }
 {
-    Presentation { n, primes, words }
+    ReadPresentation { n, primes, words }
 }
 
-pub fn words_of(p: Presentation) -> Words
+pub fn words_of(p: ReadPresentation) -> Words
     ensures { λ r. ⌜ r ≡ p .words ⌝ }
 {
     p.words
@@ -39,7 +39,7 @@ pub fn words_of(p: Presentation) -> Words
 // What reading a text leaves: the number of a refusal, or 0 and the presentation.
 pub struct Outcome {
     pub status: u32,
-    pub presentation: Presentation,
+    pub presentation: ReadPresentation,
 }
 
 // A refusal, with no generators.

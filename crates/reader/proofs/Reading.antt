@@ -27,13 +27,13 @@ use Rattle.numbers.proofs.Sums.{sum-zero}
 use Rattle.group.proofs.Pairs.{length-pairs, pairNumber-power, pairNumber-commutator, pairNumber-below}
 use Rattle.text.proofs.Trail.{all-one}
 use Rattle.reader.specs.Lines.{HeadLine, WordLine}
-use Rattle.reader.specs.Rows.{noRow, rowText, passes, Kept, Stored, AllLines, NoLines, LinesAt}
+use Rattle.reader.specs.Rows.{noRow, rowText, passes, RowKept, RowsStored, AllLines, NoLines, LinesAt}
 use Rattle.reader.proofs.Words.{getD-snoc, getD-snoc-other}
 use Rattle.reader.proofs.Rows.{pairs-at, NoLine, line-some, rowText-nil, rowText-one, rows-ahead, rows-whole, formed-row}
 
 -- ---- What is kept of a line
 
-module _ {words : List (List ℕ)} {ps : List ℕ} {k p : ℕ} {e : List ℕ} {words′ : List (List ℕ)} {ps′ : List ℕ} (h : Kept words ps k p e words′ ps′) where
+module _ {words : List (List ℕ)} {ps : List ℕ} {k p : ℕ} {e : List ℕ} {words′ : List (List ℕ)} {ps′ : List ℕ} (h : RowKept words ps k p e words′ ps′) where
   pub kept-words-length : length words′ ≡ length words
   kept-words-length = pick (decLt k pairCount)
     where
@@ -63,7 +63,7 @@ module _ {words : List (List ℕ)} {ps : List ℕ} {k p : ℕ} {e : List ℕ} {w
       pick (no l) = ap (λ (w : List ℕ). getD w m 0) (h .past-p (omega arith))
 
   pub stored-one : (rows : List Row) (row : Row) → length rows ≡ k → length words ≡ pairCount → length ps ≡ pairCount → p ≡ row .p
-      → ((c : ℕ) → c < maxGenerators → getD e c 0 ≡ getD (row .word) c 0) → Stored rows words ps → Stored (rows ++ (row ∷ [])) words′ ps′
+      → ((c : ℕ) → c < maxGenerators → getD e c 0 ≡ getD (row .word) c 0) → RowsStored rows words ps → RowsStored (rows ++ (row ∷ [])) words′ ps′
   stored-one rows row count a b same keeps s =
       record {
         word-kept = λ m l d c g. word m l d c g (ℕ-discrete m k);
@@ -119,7 +119,7 @@ pub record Reading (t : Bytes) (start n at j i k : ℕ) (words : List (List ℕ)
   pub within : at ≤ length t
   pub words-length : length words ≡ pairCount
   pub ps-length : length ps ≡ pairCount
-  pub stored : Stored rows words ps
+  pub stored : RowsStored rows words ps
   pub prime : primes ≡ true → (g : ℕ) → g < n → pairNumber g g < k → isPrime (getD rows (pairNumber g g) noRow .p) ≡ true
   pub composite : primes ≡ false → (g : ℕ) × (g < n) × (pairNumber g g < k) × (isPrime (getD rows (pairNumber g g) noRow .p) ≡ false)
 
@@ -192,7 +192,7 @@ module _ {t : Bytes} {start n : ℕ} where
 
     -- one more line
     module _ (l : j < n) {p behind : ℕ} (hd : HeadLine t at j i p behind) {e : List ℕ} {next : ℕ} (wd : WordLine t behind n e next)
-        {words′ : List (List ℕ)} {ps′ : List ℕ} (kp : Kept words ps k p e words′ ps′) {primes′ : Bool} (pq : primes′ ≡ (primes && passes j i p))
+        {words′ : List (List ℕ)} {ps′ : List ℕ} (kp : RowKept words ps k p e words′ ps′) {primes′ : Bool} (pq : primes′ ≡ (primes && passes j i p))
         {j′ i′ : ℕ} (nx : (pairNumber j′ i′ ≡ pairNumber j i + 1) × (i′ ≤ j′) × (j′ ≤ j + 1)) where
       row : Row
       row = record { p = p; word = wd .word }

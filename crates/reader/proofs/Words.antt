@@ -1,7 +1,7 @@
 -- Laws of the exponents of a line.
 --
 --   getD-snoc, getD-snoc-other     the last element of a list, and the others
---   Going                     k exponents have been read
+--   ReadTo                     k exponents have been read
 --   going-none, going-more, going-past      none; one more, kept or not
 --   going-fails, going-stops, going-end     why a word is refused; a whole word
 --   going-as                  what is kept, said otherwise
@@ -34,7 +34,7 @@ getD-snoc-other (y ∷ ys) x d (suc k) n = getD-snoc-other ys x d k (λ q. n (ap
 
 -- ---- Reading the exponents
 
-pub record Going (t : Bytes) (at n k next : ℕ) (kept : List ℕ) : Type 0 where
+pub record ReadTo (t : Bytes) (at n k next : ℕ) (kept : List ℕ) : Type 0 where
   pub word : List ℕ
   pub count : length word ≡ k
   pub small-all : small word ≡ true
@@ -47,7 +47,7 @@ pub record Going (t : Bytes) (at n k next : ℕ) (kept : List ℕ) : Type 0 wher
   pub within : next ≤ length t
 
 module _ {t : Bytes} {at n : ℕ} where
-  pub going-none : at ≤ length t → Ends (drop at t) → Going t at n 0 at (replicate maxGenerators 0)
+  pub going-none : at ≤ length t → Ends (drop at t) → ReadTo t at n 0 at (replicate maxGenerators 0)
   going-none l e =
       record {
         word = [];
@@ -62,10 +62,10 @@ module _ {t : Bytes} {at n : ℕ} where
         within = l;
       }
 
-  module _ {k next : ℕ} {kept : List ℕ} (h : Going t at n k next kept) where
+  module _ {k next : ℕ} {kept : List ℕ} (h : ReadTo t at n k next kept) where
     -- one more exponent, where what is kept agrees
     more : {e behind : ℕ} (new : List ℕ) → k < n → ValueAt (32 ∷ []) t next e behind → length new ≡ maxGenerators
-        → ((m : ℕ) → m < maxGenerators → getD new m 0 ≡ getD (h .word ++ (e ∷ [])) m 0) → Going t at n (k + 1) behind new
+        → ((m : ℕ) → m < maxGenerators → getD new m 0 ≡ getD (h .word ++ (e ∷ [])) m 0) → ReadTo t at n (k + 1) behind new
     more {e} {behind} new l v long keeps =
         record {
           word = h .word ++ (e ∷ []);
@@ -80,7 +80,7 @@ module _ {t : Bytes} {at n : ℕ} where
           within = v .within;
         }
 
-    pub going-more : {e behind : ℕ} → k < n → k < maxGenerators → ValueAt (32 ∷ []) t next e behind → Going t at n (k + 1) behind (set kept k e)
+    pub going-more : {e behind : ℕ} → k < n → k < maxGenerators → ValueAt (32 ∷ []) t next e behind → ReadTo t at n (k + 1) behind (set kept k e)
     going-more {e} {behind} l s v = more (set kept k e) l v (length-set kept k e ∙ h .long) (λ m b. pick m b (ℕ-discrete m k))
       where
         pick : (m : ℕ) → m < maxGenerators → Dec (m ≡ k) → getD (set kept k e) m 0 ≡ getD (h .word ++ (e ∷ [])) m 0
@@ -91,7 +91,7 @@ module _ {t : Bytes} {at n : ℕ} where
         pick m b (no q) =
             getD-set-other kept k m e 0 q ∙ h .keeps m b ∙ sym (getD-snoc-other (h .word) e 0 m (λ w. q (w ∙ h .count)))
 
-    pub going-past : {e behind : ℕ} → k < n → maxGenerators ≤ k → ValueAt (32 ∷ []) t next e behind → Going t at n (k + 1) behind kept
+    pub going-past : {e behind : ℕ} → k < n → maxGenerators ≤ k → ValueAt (32 ∷ []) t next e behind → ReadTo t at n (k + 1) behind kept
     going-past {e} {behind} l s v =
         more kept l v (h .long) (λ m b. h .keeps m b ∙ sym (getD-snoc-other (h .word) e 0 m (λ w. omega (arith, h .count))))
 
@@ -137,5 +137,5 @@ module _ {t : Bytes} {at n : ℕ} where
         }
 
 -- the same with what is kept said otherwise
-pub going-as : {t : Bytes} {at n k next : ℕ} {new kept : List ℕ} → new ≡ kept → Going t at n k next kept → Going t at n k next new
-going-as {t} {at} {n} {k} {next} q h = subst (Going t at n k next) (sym q) h
+pub going-as : {t : Bytes} {at n k next : ℕ} {new kept : List ℕ} → new ≡ kept → ReadTo t at n k next kept → ReadTo t at n k next new
+going-as {t} {at} {n} {k} {next} q h = subst (ReadTo t at n k next) (sym q) h

@@ -13,7 +13,7 @@ use Rattle.definitions.specs.Presentation.{maxGenerators, presentationNames}
 use Rattle.text.specs.Reading.{Ends, trail}
 use Rattle.text.specs.declared.Read.{Read}
 use Rattle.text.specs.declared.Read.the-variants.{Value, Nothing}
-use Rattle.reader.specs.declared.Word.{Word}
+use Rattle.reader.specs.declared.WordRead.{WordRead}
 
 -- ---- The names line
 
@@ -66,6 +66,6 @@ module _ (t : Bytes) (at n : ℕ) where
   pub record NoWord : Type 0 where
     pub none : (word : List ℕ) (r : Bytes) → length word ≡ n → small word ≡ true → drop at t ≡ trail word ++ 10 ∷ r → ⊥
 
-  pub record WordAt (w : Word) : Type 0 where
+  pub record WordAt (w : WordRead) : Type 0 where
     pub stands : w .ok ≡ true → WordLine (w .kept) (w .next)
     pub fails : w .ok ≡ false → NoWord

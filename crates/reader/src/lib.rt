@@ -22,7 +22,7 @@ ghost use Rattle.definitions.specs.Text.{largest};
 ghost use Rattle.definitions.specs.Presentation.{pairCount, pairNumber};
 ghost use Rattle.text.specs.Reading.{Ends, ReadAt};
 ghost use Rattle.reader.specs.Lines.{NamesAt, HeadAt, WordAt};
-ghost use Rattle.reader.specs.Rows.{passes, Kept, LinesAt};
+ghost use Rattle.reader.specs.Rows.{passes, RowKept, LinesAt};
 
 // The number in the exponent's name at a position.
 fn next_name(text: &[u8], at: usize) -> Read
@@ -83,14 +83,14 @@ fn head(text: &[u8], at: usize, j: u32, i: u32) -> Read
 }
 
 // The exponents of a line, of which as many are kept as a row has.
-pub struct Word {
+pub struct WordRead {
     pub ok: bool,
     pub next: usize,
     pub kept: Row,
 }
 
 // The n exponents behind the p of a line, and the end of the line.
-fn exponents(text: &[u8], at: usize, n: u32) -> Word
+fn exponents(text: &[u8], at: usize, n: u32) -> WordRead
     requires { ⌜ (at ≤ length (now text)) × Ends (drop at (now text)) ⌝ }
     ensures { λ r. ⌜ WordAt (now (text .entry)) at n r ⌝ }
 {
@@ -99,7 +99,7 @@ fn exponents(text: &[u8], at: usize, n: u32) -> Word
     let mut k: u32 = 0;
     while k < n {
         let Read::Value(e, behind) = text::value_behind(text, next, 32) else {
-            return Word {
+            return WordRead {
                 ok: false,
                 next,
                 kept,
@@ -113,13 +113,13 @@ fn exponents(text: &[u8], at: usize, n: u32) -> Word
         k += 1;
     }
     if text::byte_at(text, next) != 10 {
-        return Word {
+        return WordRead {
             ok: false,
             next,
             kept,
         };
     }
-    Word {
+    WordRead {
         ok: true,
         next: next + 1,
         kept,
@@ -151,7 +151,7 @@ fn next_pair(j: u32, i: u32) -> Pair
 
 // Keeps a line, if there is a row for it.
 fn keep(words: &mut Words, ps: &mut [u32; PAIRS], k: usize, p: u32, e: Row)
-    ensures { λ r. ⌜ Kept (now (words .entry)) (now (ps .entry)) k p e (now (words .exit)) (now (ps .exit)) ⌝ }
+    ensures { λ r. ⌜ RowKept (now (words .entry)) (now (ps .entry)) k p e (now (words .exit)) (now (ps .exit)) ⌝ }
 {
     if k < PAIRS {
         words[k] = e;
@@ -174,7 +174,7 @@ fn still_prime(primes: bool, j: u32, i: u32, p: u32) -> bool
 }
 
 // Whether the lines stand, and whether every p of a line i = j is prime.
-pub struct Lines {
+pub struct LinesRead {
     pub ok: bool,
     pub primes: bool,
 }
@@ -186,7 +186,7 @@ pub fn read_lines(
     n: u32,
     words: &mut Words,
     ps: &mut [u32; PAIRS],
-) -> Lines
+) -> LinesRead
     requires { ⌜ (start ≤ length (now text)) × (n ≤ largest) × (length (now words) ≡ pairCount) × (length (now ps) ≡ pairCount) ⌝ }
     ensures { λ r. ⌜ LinesAt (now (text .entry)) start n (now (words .exit)) (now (ps .exit)) r ⌝ }
 {
@@ -197,12 +197,12 @@ pub fn read_lines(
     let mut primes = true;
     while j < n {
         let Read::Value(p, behind) = head(text, at, j, i) else {
-            return Lines { ok: false, primes };
+            return LinesRead { ok: false, primes };
         };
         let w = exponents(text, behind, n);
         let ok = w.ok;
         if !ok {
-            return Lines { ok: false, primes };
+            return LinesRead { ok: false, primes };
         }
         let e = w.kept;
         primes = still_prime(primes, j, i, p);
@@ -213,7 +213,7 @@ pub fn read_lines(
         j = q.j;
         i = q.i;
     }
-    Lines {
+    LinesRead {
         ok: at == text.len(),
         primes,
     }

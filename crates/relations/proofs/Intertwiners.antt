@@ -25,23 +25,23 @@ use Rattle.seek.specs.Formed.{Formed}
 use Rattle.seek.specs.Among.{repIn, Among}
 use Rattle.seek.proofs.Stored.{found-target}
 use Rattle.seek.proofs.Among.{formed-stored}
-use Rattle.relations.specs.Kept.{Kept}
+use Rattle.relations.specs.Kept.{MatricesStored}
 use Rattle.relations.specs.Tests.{carries, allCarriedIn, intertwinesIn, targetedIn, intertwinersIn}
 
 -- ---- A representation of a level
 
-pub formed-kept : {P : Presentation} {s : Scope} {T : List ℕ} (F : Formed P s T) (i r : ℕ) {D : Listed} → Found (s .gens) T i r D → Kept s T D
+pub formed-kept : {P : Presentation} {s : Scope} {T : List ℕ} (F : Formed P s T) (i r : ℕ) {D : Listed} → Found (s .gens) T i r D → MatricesStored s T D
 formed-kept F i r G = record { few = F .whole .few; modulus = F .modulus .0; stored = formed-stored F i r G }
 
 module _ {s : Scope} {T : List ℕ} {i : ℕ} {D : Listed} (A : Among s T i D) where
-  pub among-kept : Kept s T D
+  pub among-kept : MatricesStored s T D
   among-kept = formed-kept (A .formed) i (A .r) (A .found)
 
   pub among-target : (j : ℕ) {x : ℕ} → x ≡ targetIn T D j → i ≤ j → j < s .gens → x < length (levelAt (s .gens) T i)
   among-target j is l h =
       let e = A .formed .gens-are in
-      subst (λ n. _ < length (levelAt n T i)) (sym e) (subst (λ x. x < length (levelAt (A .P .n) T i)) (sym is)
-      (found-target (A .P) (s .m) T (A .formed .formed) i (A .r) D (subst (λ n. Found n T i (A .r) D) e (A .found)) j l (subst (λ n. j < n) e h)))
+      subst (λ n. _ < length (levelAt n T i)) (sym e) (subst (λ x. x < length (levelAt (A .presented .n) T i)) (sym is)
+      (found-target (A .presented) (s .m) T (A .formed .formed) i (A .r) D (subst (λ n. Found n T i (A .r) D) e (A .found)) j l (subst (λ n. j < n) e h)))
 
 -- ---- Intertwiners
 

@@ -27,7 +27,7 @@ use Rattle.level.specs.declared.Listed.{Listed}
 use Rattle.level.specs.Stored.{entryIn, Below, lineIn, generatorIn, Stored}
 use Rattle.seek.specs.declared.Scope.{Scope}
 use Rattle.seek.specs.Among.{repIn}
-use Rattle.relations.specs.Kept.{Kept}
+use Rattle.relations.specs.Kept.{MatricesStored}
 use Rattle.relations.specs.Said.{PowerOf, WordOf}
 use Rattle.relations.specs.Tests.{Conjugated, carries, powerAtIn, commutatorAtIn, carriesAtIn, powerIn, commutatorIn, carriesIn}
 
@@ -43,7 +43,7 @@ entries-exp x y e = sym (ap (λ b. b && eqb (x .exp) (y .exp)) (eq-eqb (x .row) 
 
 -- ---- Lines that hold matrices
 
-module _ {s : Scope} {T : List ℕ} {D : Listed} (K : Kept s T D) where
+module _ {s : Scope} {T : List ℕ} {D : Listed} (K : MatricesStored s T D) where
   pub kept-stored : (i : ℕ) → i ≤ s .gens → Stored (s .m) i T D
   kept-stored i l =
       record { positive = K .stored .positive; degree = K .stored .degree; holds = λ g h. K .stored .holds g (omega arith) }
@@ -97,7 +97,7 @@ module _ (m : ℕ) (T : List ℕ) (D : Listed) (P : Presentation) where
 
 -- ---- Relations at every column
 
-module _ {s : Scope} {T : List ℕ} {D : Listed} (K : Kept s T D) (P : Presentation) where
+module _ {s : Scope} {T : List ℕ} {D : Listed} (K : MatricesStored s T D) (P : Presentation) where
   pub power-everywhere : (j : ℕ) → j < s .gens → allBelow (D .deg) (λ c. powerAtIn s T D j c P) ≡ powerIn s T D j P
   unfolding repAt
   power-everywhere j l = sym (power-columns P (s .m) (K .modulus) T (s .gens) (repIn T D) (kept-squares K) j l)
@@ -107,7 +107,7 @@ module _ {s : Scope} {T : List ℕ} {D : Listed} (K : Kept s T D) (P : Presentat
     unfolding repAt
     commutator-everywhere = sym (commutator-columns P (s .m) (K .modulus) T (s .gens) (repIn T D) (kept-squares K) k j kn jn)
 
-    pub intertwiner-everywhere : {F : Listed} → Kept s T F → F .deg ≡ D .deg
+    pub intertwiner-everywhere : {F : Listed} → MatricesStored s T F → F .deg ≡ D .deg
         → allBelow (D .deg) (λ c. carriesAtIn s T D F k j c P) ≡ carriesIn s T D F k j P
     unfolding repAt carries
     intertwiner-everywhere {F} L e =

@@ -22,9 +22,9 @@ use Rattle.separation.proofs.Pairs.{eqb-sym}
 use Rattle.columns.specs.Columns.{sameAt, commutatorAt, intertwinesAt}
 use Rattle.level.specs.declared.Listed.{Listed}
 use Rattle.level.specs.Stored.{entryIn, Below, lineIn, generatorIn}
-use Rattle.level.proofs.Laws.{mod-once, act-fixed}
+use Rattle.level.proofs.Columns.{mod-once, act-fixed}
 use Rattle.seek.specs.declared.Scope.{Scope}
-use Rattle.relations.specs.Kept.{Kept}
+use Rattle.relations.specs.Kept.{MatricesStored}
 use Rattle.relations.specs.Said.{WordOf}
 use Rattle.relations.specs.Tests.{Conjugated, commutatorAtIn, carriesAtIn}
 use Rattle.relations.proofs.Kept.{entries-exp, conjugate-moved}
@@ -58,7 +58,7 @@ turned m t a b = let e : a + b ≡ b + a = omega arith in turn m t a b ∙ ap (�
 
 -- ---- One generator
 
-module _ {s : Scope} {T : List ℕ} {D : Listed} (K : Kept s T D) (one : D .deg ≡ 1) where
+module _ {s : Scope} {T : List ℕ} {D : Listed} (K : MatricesStored s T D) (one : D .deg ≡ 1) where
   abbrev exponent : ℕ → ℕ
   exponent g = entryIn T (lineIn D g + 0) .exp
 
@@ -83,7 +83,7 @@ module _ {s : Scope} {T : List ℕ} {D : Listed} (K : Kept s T D) (one : D .deg 
 same-zero : (x y : ℕ) → sameAt (entry 0 x) (entry 0 y) ≡ eqb x y
 same-zero x y = sym (entries-exp (entry 0 x) (entry 0 y) refl)
 
-module _ {s : Scope} {T : List ℕ} {D : Listed} (K : Kept s T D) (one : D .deg ≡ 1) (P : Presentation) (k j c : ℕ) (kn : k < s .gens) (jn : j < s .gens)
+module _ {s : Scope} {T : List ℕ} {D : Listed} (K : MatricesStored s T D) (one : D .deg ≡ 1) (P : Presentation) (k j c : ℕ) (kn : k < s .gens) (jn : j < s .gens)
     (inside : c < D .deg) (w : List ℕ) (is : WordOf k j w P)
   where
     abbrev m : ℕ
@@ -108,7 +108,7 @@ module _ {s : Scope} {T : List ℕ} {D : Listed} (K : Kept s T D) (one : D .deg 
         ∙ ap₂ eqb (ap (λ x. (0 + x % m) % m) (sym swap) ∙ sym (turn m 0 (exp j) (exp k))) (sym (turn m (t .exp) (exp k) (exp j)))
         ∙ sym (same-zero _ _) ∙ sym (ap₂ sameAt left right)
 
-    pub single-intertwiner : {F : Listed} → Kept s T F → F .deg ≡ D .deg → (y z : Entry) → Conjugated (s .m) T D k w c z
+    pub single-intertwiner : {F : Listed} → MatricesStored s T F → F .deg ≡ D .deg → (y z : Entry) → Conjugated (s .m) T D k w c z
         → y ≡ act (s .m) (generatorIn T F k) (entry c 0) → eqb (z .exp) (y .exp) ≡ carriesAtIn s T D F k j c P
     unfolding intertwinesAt repAt
     single-intertwiner {F} L same y z C a =

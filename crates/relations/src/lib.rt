@@ -15,7 +15,7 @@ ghost use Rattle.columns.specs.Columns.{sameAt};
 ghost use Rattle.level.specs.Stored.{targetIn};
 ghost use Rattle.seek.specs.Seek.{Found};
 ghost use Rattle.seek.specs.Among.{Among};
-ghost use Rattle.relations.specs.Kept.{Kept};
+ghost use Rattle.relations.specs.Kept.{MatricesStored};
 ghost use Rattle.relations.specs.Said.{Decides, PowerOf, WordOf, WordIn, ReadsIn, Spells};
 ghost use Rattle.relations.specs.Tests.{powerAtIn, commutatorAtIn, carriesAtIn, powerIn, commutatorIn, carriesIn};
 ghost use Rattle.relations.specs.Tests.{Conjugated, topIn, relationsIn, allCarriedIn, intertwinesIn, intertwinersIn};
@@ -39,7 +39,7 @@ fn same_entry(x: Entry, y: Entry) -> bool
 
 // Generator j to the power p, its prime, moves column c as its power word u does.
 pub fn power_at(words: &[u32], s: Scope, d: Listed, j: u32, p: u32, u: &Row, c: u32) -> bool
-    requires { ⌜ Kept s (now words) d × (j < s .gens) × (c < d .deg) ⌝ }
+    requires { ⌜ MatricesStored s (now words) d × (j < s .gens) × (c < d .deg) ⌝ }
     ensures { λ r. ⌜ Decides (PowerOf j p (now (u .entry))) (powerAtIn s (now (words .entry)) d j c) r ⌝ }
 {
     let x = Entry { row: c, exp: 0 };
@@ -50,7 +50,7 @@ pub fn power_at(words: &[u32], s: Scope, d: Listed, j: u32, p: u32, u: &Row, c: 
 
 // Where the conjugate of generator k by a generator above it moves column c; w is the word of the two.
 fn conjugated(words: &[u32], s: Scope, d: Listed, k: u32, w: &Row, c: u32) -> Entry
-    requires { ⌜ Kept s (now words) d × (k < s .gens) × (c < d .deg) ⌝ }
+    requires { ⌜ MatricesStored s (now words) d × (k < s .gens) × (c < d .deg) ⌝ }
     ensures { λ r. ⌜ Conjugated (s .m) (now (words .entry)) d k (now (w .entry)) c r ⌝ }
 {
     let x = Entry { row: c, exp: 0 };
@@ -60,7 +60,7 @@ fn conjugated(words: &[u32], s: Scope, d: Listed, k: u32, w: &Row, c: u32) -> En
 
 // Generators k < j, whose word is w, commute on column c up to that word; where the degree is 1, the word has the exponent 0.
 fn commutator_at(words: &[u32], s: Scope, d: Listed, k: u32, j: u32, w: &Row, c: u32) -> bool
-    requires { ⌜ Kept s (now words) d × (k < s .gens) × (j < s .gens) × (c < d .deg) ⌝ }
+    requires { ⌜ MatricesStored s (now words) d × (k < s .gens) × (j < s .gens) × (c < d .deg) ⌝ }
     ensures { λ r. ⌜ Decides (WordOf k j (now (w .entry))) (commutatorAtIn s (now (words .entry)) d k j c) r ⌝ }
 {
     if d.deg == 1 {
@@ -87,7 +87,7 @@ pub fn intertwines_at(
     w: &Row,
     c: u32,
 ) -> bool
-    requires { ⌜ Kept s (now words) d × Kept s (now words) e × (e .deg ≡ d .deg) × (k < s .gens) × (j < s .gens) × (c < d .deg) ⌝ }
+    requires { ⌜ MatricesStored s (now words) d × MatricesStored s (now words) e × (e .deg ≡ d .deg) × (k < s .gens) × (j < s .gens) × (c < d .deg) ⌝ }
     ensures { λ r. ⌜ Decides (WordOf k j (now (w .entry))) (carriesAtIn s (now (words .entry)) d e k j c) r ⌝ }
 {
     if d.deg == 1 {
@@ -107,7 +107,7 @@ pub fn intertwines_at(
 
 // The power relation of generator j, of prime p and power word u.
 fn power_holds(words: &[u32], s: Scope, d: Listed, j: u32, p: u32, u: &Row) -> bool
-    requires { ⌜ Kept s (now words) d × (j < s .gens) ⌝ }
+    requires { ⌜ MatricesStored s (now words) d × (j < s .gens) ⌝ }
     ensures { λ r. ⌜ Decides (PowerOf j p (now (u .entry))) (powerIn s (now (words .entry)) d j) r ⌝ }
 {
     let deg = d.deg;
@@ -121,7 +121,7 @@ fn power_holds(words: &[u32], s: Scope, d: Listed, j: u32, p: u32, u: &Row) -> b
 
 // The commutator relation of generators k < j, of word w.
 fn commutator_holds(words: &[u32], s: Scope, d: Listed, k: u32, j: u32, w: &Row) -> bool
-    requires { ⌜ Kept s (now words) d × (k < s .gens) × (j < s .gens) ⌝ }
+    requires { ⌜ MatricesStored s (now words) d × (k < s .gens) × (j < s .gens) ⌝ }
     ensures { λ r. ⌜ Decides (WordOf k j (now (w .entry))) (commutatorIn s (now (words .entry)) d k j) r ⌝ }
 {
     let deg = d.deg;
@@ -135,7 +135,7 @@ fn commutator_holds(words: &[u32], s: Scope, d: Listed, k: u32, j: u32, w: &Row)
 
 // The intertwiner of generator j carries generator k from d to e, of the same degree.
 fn carries_over(words: &[u32], s: Scope, d: Listed, e: Listed, k: u32, j: u32, w: &Row) -> bool
-    requires { ⌜ Kept s (now words) d × Kept s (now words) e × (e .deg ≡ d .deg) × (k < s .gens) × (j < s .gens) ⌝ }
+    requires { ⌜ MatricesStored s (now words) d × MatricesStored s (now words) e × (e .deg ≡ d .deg) × (k < s .gens) × (j < s .gens) ⌝ }
     ensures { λ r. ⌜ Decides (WordOf k j (now (w .entry))) (carriesIn s (now (words .entry)) d e k j) r ⌝ }
 {
     let deg = d.deg;
@@ -151,7 +151,7 @@ fn carries_over(words: &[u32], s: Scope, d: Listed, e: Listed, k: u32, j: u32, w
 
 // The power relation of generator j.
 fn power_relation(words: &[u32], rows: &Words, primes: &Row, s: Scope, d: Listed, j: u32) -> bool
-    requires { ⌜ Kept s (now words) d × (j < s .gens) ⌝ }
+    requires { ⌜ MatricesStored s (now words) d × (j < s .gens) ⌝ }
     ensures { λ r. ⌜ Decides (ReadsIn s (now (primes .entry)) (now (rows .entry))) (powerIn s (now (words .entry)) d j) r ⌝ }
 {
     let t = level::up(j);
@@ -161,7 +161,7 @@ fn power_relation(words: &[u32], rows: &Words, primes: &Row, s: Scope, d: Listed
 
 // The commutator relation of generators k < j.
 fn commutator_relation(words: &[u32], rows: &Words, s: Scope, d: Listed, k: u32, j: u32) -> bool
-    requires { ⌜ Kept s (now words) d × (k < j) × (j < s .gens) ⌝ }
+    requires { ⌜ MatricesStored s (now words) d × (k < j) × (j < s .gens) ⌝ }
     ensures { λ r. ⌜ Decides (WordIn k j (now (rows .entry))) (commutatorIn s (now (words .entry)) d k j) r ⌝ }
 {
     let at = rows::pair(level::up(j), level::up(k));
@@ -170,7 +170,7 @@ fn commutator_relation(words: &[u32], rows: &Words, s: Scope, d: Listed, k: u32,
 
 // The relations of generator j with those below it.
 pub fn top_relations(words: &[u32], rows: &Words, primes: &Row, s: Scope, d: Listed, j: u32) -> bool
-    requires { ⌜ Kept s (now words) d × (j < s .gens) ⌝ }
+    requires { ⌜ MatricesStored s (now words) d × (j < s .gens) ⌝ }
     ensures { λ r. ⌜ Decides (ReadsIn s (now (primes .entry)) (now (rows .entry))) (topIn s (now (words .entry)) d j) r ⌝ }
 {
     if !power_relation(words, rows, primes, s, d, j) {
@@ -186,7 +186,7 @@ pub fn top_relations(words: &[u32], rows: &Words, primes: &Row, s: Scope, d: Lis
 
 // The relations of the first i generators.
 pub fn all_relations(words: &[u32], rows: &Words, primes: &Row, s: Scope, d: Listed, i: u32) -> bool
-    requires { ⌜ Kept s (now words) d × (i ≤ s .gens) ⌝ }
+    requires { ⌜ MatricesStored s (now words) d × (i ≤ s .gens) ⌝ }
     ensures { λ r. ⌜ Decides (ReadsIn s (now (primes .entry)) (now (rows .entry))) (relationsIn s (now (words .entry)) d i) r ⌝ }
 {
     for j in 0..i {
@@ -199,16 +199,16 @@ pub fn all_relations(words: &[u32], rows: &Words, primes: &Row, s: Scope, d: Lis
 
 // The intertwiner of generator j carries generator k from d to e, of the same degree.
 fn carried(words: &[u32], rows: &Words, s: Scope, d: Listed, e: Listed, k: u32, j: u32) -> bool
-    requires { ⌜ Kept s (now words) d × Kept s (now words) e × (e .deg ≡ d .deg) × (k < j) × (j < s .gens) ⌝ }
+    requires { ⌜ MatricesStored s (now words) d × MatricesStored s (now words) e × (e .deg ≡ d .deg) × (k < j) × (j < s .gens) ⌝ }
     ensures { λ r. ⌜ Decides (WordIn k j (now (rows .entry))) (carriesIn s (now (words .entry)) d e k j) r ⌝ }
 {
     let at = rows::pair(level::up(j), level::up(k));
     carries_over(words, s, d, e, k, j, &rows[at])
 }
 
-// The same for every generator of level i.
+// The intertwiner of generator j carries every generator of level i from d to e, of the same degree.
 fn all_carried(words: &[u32], rows: &Words, s: Scope, i: u32, d: Listed, e: Listed, j: u32) -> bool
-    requires { ⌜ Kept s (now words) d × Kept s (now words) e × (e .deg ≡ d .deg) × (i ≤ j) × (j < s .gens) ⌝ }
+    requires { ⌜ MatricesStored s (now words) d × MatricesStored s (now words) e × (e .deg ≡ d .deg) × (i ≤ j) × (j < s .gens) ⌝ }
     ensures { λ r. ⌜ Decides (Spells s (now (rows .entry))) (allCarriedIn s (now (words .entry)) d e i j) r ⌝ }
 {
     for k in 0..i {

@@ -16,8 +16,8 @@ use Rattle.definitions.specs.Presentation.{order}
 use Rattle.definitions.specs.Answers.{First, presentationRefusals, tableRefusals, readRefusals, Accept, Check, ReadTable}
 use Rattle.definitions.specs.Programs.{lentWords, groupBytes, tableBytes, groupRefusals, tableFileRefusals, saidRefusals, Repcheck}
 use Rattle.definitions.proofs.Refusals.{None, first-none, first-refused, first-behind, first-rest, accept-unrefused}
-use Rattle.table.proofs.Calls.{over-within, over-take, says-lines, said-first}
-use Rattle.repcheck.specs.Judged.{Judged}
+use Rattle.table_text.proofs.Calls.{over-within, over-take, says-lines, said-first}
+use Rattle.repcheck.specs.Judged.{Replied}
 
 -- ---- The words of a finished reading
 
@@ -28,7 +28,7 @@ module _ {t : Bytes} {before after : List ℕ} {status count : ℕ} where
       omega (arith, k, ap length w, over-within before T, says-lines s)
 
   pub refused : (g : Bytes) → length before ≡ lentWords → ¬ (status ≡ 0) → ReadTable t before status count after
-      → Judged g t status
+      → Replied g t status
   refused g l ne B = record {
     answered = first-refused (saidRefusals g t) status (readRefusals t lentWords) (subst (λ k. First (readRefusals t k) status) l (B .answered)) ne;
   }
@@ -37,7 +37,7 @@ module _ {t : Bytes} {before after : List ℕ} {status count : ℕ} where
 
 pub checked :
     (g : Bytes) {t : Bytes} {before after : List ℕ} {status count a : ℕ} → length before ≡ lentWords → Accept g 0 → status ≡ 0
-    → ReadTable t before status count after → Check g (take (8 * count) after) a → Judged g t a
+    → ReadTable t before status count after → Check g (take (8 * count) after) a → Replied g t a
 checked g {t} {before} {after} {status} {count} {a} l f e B C =
     let (T, s, k, w) = B .leaves .finished e in
     let n : 8 * count ≡ length T = omega (arith, k, says-lines s) in
@@ -71,5 +71,5 @@ module _ (g t : Bytes) where
       pub table-long : tableBytes < length t → Repcheck g t 20
       table-long h = first-behind behind 20 (groupRefusals g) none-group (inl (h, refl))
 
-      pub table-short : {a : ℕ} → length t ≤ tableBytes → Judged g t a → Repcheck g t a
+      pub table-short : {a : ℕ} → length t ≤ tableBytes → Replied g t a → Repcheck g t a
       table-short {a} h j = first-behind behind a (groupRefusals g) none-group (inr (λ m. omega arith, j .answered))

@@ -4,7 +4,7 @@ use libc::STDOUT_FILENO;
 use program::ANSWER;
 ghost use Rattle.definitions.specs.Answers.{Accept};
 ghost use Rattle.definitions.specs.Programs.{Repcheck};
-ghost use Rattle.repcheck.specs.Judged.{Judged};
+ghost use Rattle.repcheck.specs.Judged.{Replied};
 
 // Bytes of a presentation text and of a table text, at most.
 const GROUP: usize = 4096;
@@ -17,7 +17,7 @@ const WORDS: usize = 8192;
 // The answer of reading a table text, then that of checking its words for a presentation text that is accepted.
 fn judge_table(group: &[u8], table: &[u8]) -> u32
     requires { ⌜ Accept (now group) 0 ⌝ }
-    ensures { λ r. ⌜ Judged (now (group .entry)) (now (table .entry)) r ⌝ }
+    ensures { λ r. ⌜ Replied (now (group .entry)) (now (table .entry)) r ⌝ }
 {
     let mut words = [0u32; WORDS];
     let read = chieftables::read_table::read_table(table, &mut words);

@@ -21,7 +21,7 @@ use Rattle.definitions.specs.Table.{lineCount, tableText}
 use Rattle.definitions.specs.Steps.{tableOf}
 use Rattle.definitions.specs.Answers.{First, buildRefusals, Build, WriteTable}
 use Rattle.clifford.proofs.Calls.{left-behind}
-use Rattle.table.proofs.Calls.{over-within, over-take}
+use Rattle.table_text.proofs.Calls.{over-within, over-take}
 use Rattle.definitions.specs.Programs.{lentWords, groupBytes, answerText, reptableRefusals, Reptable}
 use Rattle.reptable.specs.Tabulated.{room, Tabulated}
 use Rattle.reptable.proofs.Finished.{accepts, never-refused}

@@ -21,8 +21,8 @@ use Rattle.definitions.specs.Programs.{lentWords, groupBytes, tableBytes, repta
 use Rattle.definitions.proofs.Refusals.{None, first-none, none-first, first-behind, first-rest, Unrefused}
 use Rattle.definitions.proofs.Unique.{repcheck-unique}
 use Rattle.clifford.proofs.Calls.{passes-check}
-use Rattle.table.proofs.Pieces.{newlines-table, tableText-pieces}
-use Rattle.table.proofs.Calls.{writable-parts, said-first}
+use Rattle.table_text.proofs.Pieces.{newlines-table, tableText-pieces}
+use Rattle.table_text.proofs.Calls.{writable-parts, said-first}
 use Rattle.reptable.proofs.Finished.{accepts, table-writable, table-lent}
 
 module _ {g : Bytes} (f : First (buildRefusals g lentWords) 0) (R : Relations) (s : Says g R) where

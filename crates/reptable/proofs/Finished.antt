@@ -19,8 +19,8 @@ use Rattle.definitions.specs.Answers.{First, presentationRefusals, short, build
 use Rattle.definitions.proofs.Refusals.{first-unique, first-none, none-first, none-back, Unrefused, build-unrefused}
 use Rattle.clifford.proofs.Theorem.{accepted, accepted-is, table-words}
 use Rattle.clifford.proofs.Calls as said
-use Rattle.assembly.proofs.Stated as stated
-use Rattle.table.proofs.Calls.{writable-whole}
+use Rattle.levels.proofs.Stated as stated
+use Rattle.table_text.proofs.Calls.{writable-whole}
 use Rattle.definitions.specs.Programs.{lentWords}
 use Rattle.reptable.specs.Tabulated.{room}
 use Rattle.reptable.proofs.Values.{table-small}

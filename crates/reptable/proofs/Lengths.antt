@@ -17,9 +17,9 @@ use Rattle.definitions.specs.Presentation.{lineWords}
 use Rattle.definitions.specs.Table.{lineCount, tableText, writable}
 use Rattle.definitions.proofs.Rendering.{decimal-nine}
 use Rattle.numbers.proofs.Bools.{and-left, and-right}
-use Rattle.table.specs.Pieces.{separatorOf, pieces}
-use Rattle.table.proofs.Pieces.{pieces-nil, pieces-cons, names, tableText-pieces}
-use Rattle.table.proofs.Calls.{writable-parts}
+use Rattle.table_text.specs.Pieces.{separatorOf, pieces}
+use Rattle.table_text.proofs.Pieces.{pieces-nil, pieces-cons, names, tableText-pieces}
+use Rattle.table_text.proofs.Calls.{writable-parts}
 
 pieces-length : (i : ℕ) (vs : List ℕ) → small vs ≡ true → length (pieces i vs) ≤ 10 * length vs
 unfolding small all

@@ -26,10 +26,10 @@ use Rattle.numbers.proofs.Bools.{and-left, and-right, and-intro}
 use Rattle.clifford.specs.Stands.{Restricts}
 use Rattle.clifford.specs.Accepted.{Accepted}
 use Rattle.clifford.proofs.Standing.{Standing, standing, restricts, setting}
-use Rattle.assembly.specs.Built.{degreeIn, Small}
-use Rattle.assembly.proofs.Room.{order-le, degree-le, reps-le}
-use Rattle.assembly.proofs.Words.{column-below}
-use Rattle.assembly.proofs.Standing.{ref-in}
+use Rattle.levels.specs.Built.{degreeIn, WithinCeilings}
+use Rattle.levels.proofs.Room.{order-le, degree-le, reps-le}
+use Rattle.levels.proofs.Words.{column-below}
+use Rattle.levels.proofs.Standing.{ref-in}
 
 -- ---- Lists of values
 
@@ -108,7 +108,7 @@ module _ (A : Accepted) where
 
     -- ---- Lines
 
-    line-small : Small A → (r g c : ℕ) → r < length L → g < n → c < d r → small (lineOf (suc k) r (D r) g c) ≡ true
+    line-small : WithinCeilings A → (r g c : ℕ) → r < length L → g < n → c < d r → small (lineOf (suc k) r (D r) g c) ≡ true
     unfolding lineOf
     line-small S r g c h a b =
         let few = S .few in
@@ -126,10 +126,10 @@ module _ (A : Accepted) where
         nothing : small [] ≡ true
         nothing = unfold small all in refl
 
-    level-small : Small A → small (levelWords n (suc k) L) ≡ true
+    level-small : WithinCeilings A → small (levelWords n (suc k) L) ≡ true
     unfolding levelWords repWords
     level-small S = small-blocks (length L) _ (λ r h. small-blocks n _ (λ g a. small-blocks (d r) _ (λ c b. line-small S r g c h a b)))
 
-  pub table-small : Small A → small (tableOf (A .C .P)) ≡ true
+  pub table-small : WithinCeilings A → small (tableOf (A .C .P)) ≡ true
   unfolding tableOf tableWith
   table-small S = small-blocks n _ (λ k l. level-small k l S)

@@ -34,7 +34,7 @@ fn tabulate(text: &[u8], out: &mut [u8]) -> Counted
     chieftables::write_table::write_table(&words[..8 * count], out)
 }
 
-// The same for the bytes of a file, of which there may be too many.
+// Writes the text of the table that the bytes of a file ask for, of which there may be too many.
 fn tabulate_file(bytes: &[u8], out: &mut [u8]) -> Counted
     requires { ⌜ room ≤ length (now out) ⌝ }
     ensures { λ r. ⌜ Tabulated (reptableRefusals (now (bytes .entry))) (now (bytes .entry)) (r .answer) (take (r .count) (now (out .exit))) ⌝ }

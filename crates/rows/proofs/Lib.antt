@@ -1,5 +1,5 @@
 -- Laws of rows.
 pub mod Pairs
-pub mod Laws
+pub mod Forms
 pub mod Parts
 pub mod Said

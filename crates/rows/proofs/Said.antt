@@ -17,7 +17,7 @@ use Rattle.definitions.specs.Presentation.{NF, toNF, trivial, Presentation, Val
 use Rattle.numbers.proofs.Bools.{cond-lt, cond-ge}
 use Rattle.group.specs.Context.{Context}
 use Rattle.group.proofs.Rows.{toNF-valid}
-use Rattle.rows.specs.Rows.{Ready, Reads}
+use Rattle.rows.specs.Rows.{Ranged, Reads}
 
 unfoldable pub said : ℕ → List ℕ → List (List ℕ) → Presentation
 said m ps ws = record {
@@ -27,7 +27,7 @@ said m ps ws = record {
   w = λ k j. cond (ltb j m) (cond (ltb k j) (toNF (suc k) (getD ws (pairNumber j k) [])) (trivial (suc k))) (trivial (suc k));
 }
 
-module _ (m : ℕ) (ps : List ℕ) (ws : List (List ℕ)) (r : Ready m ps ws) where
+module _ (m : ℕ) (ps : List ℕ) (ws : List (List ℕ)) (r : Ranged m ps ws) where
   abbrev P : Presentation
   P = said m ps ws
 

@@ -1,7 +1,7 @@
 -- Presentations as the code holds them: a prime for each generator, and a row of exponents for each pair of generators.
 --
 --   Small i primes x              the first i exponents of a row are below their primes
---   Ready m primes words          primes and words of the first m generators are in range
+--   Ranged m primes words          primes and words of the first m generators are in range
 --   Reads P m primes words        they are those of the presentation P
 --   Generator k r                 r is the row of generator k
 --   Single k a r                  r has exponent a of generator k, and no other
@@ -21,7 +21,7 @@ use Rattle.definitions.specs.Presentation.{maxGenerators, Presentation, toNF, p
 pub record Small (i : ℕ) (primes x : List ℕ) : Type 0 where
   pub below : (k : ℕ) → k < i → getD x k 0 < getD primes k 0
 
-pub record Ready (m : ℕ) (primes : List ℕ) (words : List (List ℕ)) : Type 0 where
+pub record Ranged (m : ℕ) (primes : List ℕ) (words : List (List ℕ)) : Type 0 where
   pub few : m ≤ maxGenerators
   pub two : (k : ℕ) → k < m → 1 < getD primes k 0
   pub bounded : (k : ℕ) → k < m → getD primes k 0 ≤ largest

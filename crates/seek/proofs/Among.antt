@@ -40,15 +40,15 @@ module _ {s : Scope} {T : List ℕ} {i : ℕ} {D : Listed} (M : Among s T (suc i
   pub among-whole : all (wholeBlock (levelAt (s .gens) T i) (repIn T D)) (cuts (levelAt (s .gens) T i) (repIn T D)) ≡ true
   among-whole = subst (λ n. all (wholeBlock (levelAt n T i) Rp) (cuts (levelAt n T i) Rp) ≡ true) (sym e) here
     where
-      e : s .gens ≡ M .P .n
+      e : s .gens ≡ M .presented .n
       e = M .formed .gens-are
 
-      F : Found (M .P .n) T (suc i) (M .r) D
+      F : Found (M .presented .n) T (suc i) (M .r) D
       F = subst (λ n. Found n T (suc i) (M .r) D) e (M .found)
 
-      here : all (wholeBlock (levelAt (M .P .n) T i) Rp) (cuts (levelAt (M .P .n) T i) Rp) ≡ true
+      here : all (wholeBlock (levelAt (M .presented .n) T i) Rp) (cuts (levelAt (M .presented .n) T i) Rp) ≡ true
       here = unfold blocksWhole in (
-          let Q : Presentation = M .P in
+          let Q : Presentation = M .presented in
           let X : Rep = repOf (levelAt (Q .n) T (suc i)) (M .r) in
           let w = wellFormed Q (s .m) T (M .formed .formed) i (F .level .1) (M .r) (F .listed) in
           let b = and-right (matricesValid Q (s .m) T (suc i) X) (blocksWhole Q (s .m) T (suc i) X) (and-left _ (targetsListed Q (s .m) T (suc i) X) w) in

@@ -10,7 +10,7 @@ use Rattle.definitions.specs.declared.Entry.{Entry}
 use Rattle.definitions.specs.Monomial.{col}
 use Rattle.definitions.specs.Table.{REF, ROW, EXP, wordAt, repAt}
 use Rattle.level.specs.declared.Listed.{Listed}
-use Rattle.level.proofs.Laws.{col-matrixIn}
+use Rattle.level.proofs.Columns.{col-matrixIn}
 use Rattle.seek.specs.Among.{repIn}
 
 pub ref-at : (T : List ℕ) (l d c : ℕ) → repAt T l d .ref 0 c ≡ wordAt T (l + c) REF

@@ -23,7 +23,7 @@ use Rattle.heads.proofs.Order.{split-one, complete-split, complete-room, comple
 use Rattle.level.specs.declared.Listed.{Listed}
 use Rattle.level.specs.Stored.{listedIn}
 use Rattle.seek.specs.declared.Scope.{Scope}
-use Rattle.seek.specs.Seek.{Whole, Found, Fits}
+use Rattle.seek.specs.Seek.{Whole, Found, HasLines}
 use Rattle.seek.proofs.Halves.{line-there, lines-there}
 
 module _ (s : Scope) (T : List ℕ) (W : Whole s T) where
@@ -108,7 +108,7 @@ module _ (s : Scope) (T : List ℕ) (W : Whole s T) where
 
 -- ---- One that is found
 
-pub found-fits : {n : ℕ} {T : List ℕ} {k r : ℕ} {D : Listed} → Found n T k r D → (i : ℕ) → i < n → Fits T i D
+pub found-fits : {n : ℕ} {T : List ℕ} {k r : ℕ} {D : Listed} → Found n T k r D → (i : ℕ) → i < n → HasLines T i D
 found-fits {n} {T} {k} {r} {D} F i l =
     let e : suc i * D .deg ≤ n * D .deg = mul-le-mul-right (D .deg) l in
     record {

@@ -20,8 +20,8 @@ abbrev pub repIn : List ℕ → Listed → Rep
 repIn T D = repAt T (D .line) (D .deg)
 
 pub record Among (s : Scope) (T : List ℕ) (i : ℕ) (D : Listed) : Type 0 where
-  pub P : Presentation
-  pub formed : Formed P s T
+  pub presented : Presentation
+  pub formed : Formed presented s T
   pub r : ℕ
   pub found : Found (s .gens) T i r D
 

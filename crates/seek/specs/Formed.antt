@@ -12,7 +12,7 @@ use Prim.Native.Nat.{ℕ, _≤_, _<_}
 use lib.ListN.{getD}
 use Rattle.definitions.specs.Presentation.{maxModulus, Presentation, order}
 use Rattle.definitions.specs.Judgement.{malformed}
-use Rattle.rows.specs.Rows.{Ready, Reads}
+use Rattle.rows.specs.Rows.{Ranged, Reads}
 use Rattle.seek.specs.declared.Scope.{Scope}
 use Rattle.seek.specs.Seek.{Whole}
 
@@ -32,7 +32,7 @@ pub record Ordered (P : Presentation) (s : Scope) (orders : List ℕ) : Type 0 w
 -- a presentation that the code holds in rows
 pub record Posed (P : Presentation) (s : Scope) (rows : List (List ℕ)) (primes T : List ℕ) : Type 0 where
   pub formed : Formed P s T
-  pub ready : Ready (s .gens) primes rows
+  pub ready : Ranged (s .gens) primes rows
   pub reads : Reads P (s .gens) primes rows
 
 pub record TellsOf (s : Scope) (rows : List (List ℕ)) (primes T : List ℕ) (q : Presentation → Bool) (r : Bool) : Type 0 where

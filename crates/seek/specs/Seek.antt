@@ -3,7 +3,7 @@
 --   Whole s T            the lines of T are those of a complete table with so many generators
 --   Found n T i r D      D is representation r of level i
 --   Follows n T D        and another stands behind it on its level
---   Fits T i D           the lines of D for the generators up to i stand in the words
+--   HasLines T i D           the lines of D for the generators up to i stand in the words
 use mathlib.Core.Path.{_≡_}
 use mathlib.Core.Bool.{true}
 use mathlib.Core.List.{List}
@@ -37,7 +37,7 @@ pub record Follows (n : ℕ) (T : List ℕ) (D : Listed) : Type 0 where
   pub here : Found n T i r D
   pub more : suc r < length (levelAt n T i)
 
-pub record Fits (T : List ℕ) (i : ℕ) (D : Listed) : Type 0 where
+pub record HasLines (T : List ℕ) (i : ℕ) (D : Listed) : Type 0 where
   pub positive : 0 < D .deg
   pub first : 8 * (D .line + D .deg) ≤ length T
   pub top : 8 * (D .line + i * D .deg + D .deg) ≤ length T

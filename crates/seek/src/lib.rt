@@ -50,7 +50,7 @@ fn stands_before(words: &[u32], i: u32, r: usize, l: usize) -> bool
 }
 
 // The line behind all lines before representation r of level i.
-pub fn find(words: &[u32], lines: usize, i: u32, r: usize) -> usize
+fn find(words: &[u32], lines: usize, i: u32, r: usize) -> usize
     requires { ⌜ (lines ≡ lineCount (now words)) × Splits (now words) i r ⌝ }
     ensures { λ x. ⌜ Split (now (words .entry)) i r x ⌝ }
 {

@@ -30,12 +30,12 @@ module _ (low : Level) (D : Rep) (low-pos : (r : ℕ) → r < length low → 0 <
   ref c = D .ref 0 c
 
   -- what a whole block is
-  pub record Whole (o : ℕ) : Type 0 where
+  pub record WholeAt (o : ℕ) : Type 0 where
     pub listed : D .ref 0 o < length low
     pub fits : o + repOf low (ref o) .deg ≤ D .deg
     pub same : (c : ℕ) → c < repOf low (D .ref 0 o) .deg → D .ref 0 (o + c) ≡ D .ref 0 o
 
-  pub is-whole : (o : ℕ) → wholeBlock low D o ≡ true → Whole o
+  pub is-whole : (o : ℕ) → wholeBlock low D o ≡ true → WholeAt o
   unfolding wholeBlock
   is-whole o h =
       let w : ℕ = repOf low (ref o) .deg in

@@ -28,7 +28,7 @@ use Rattle.group.specs.Models.{Hom, Satisfies, Model}
 use Rattle.group.proofs.Values.{value-trivial}
 use Rattle.group.proofs.Sound.{sound}
 use Rattle.group.proofs.Level.{level, conjNf}
-use Rattle.group.proofs.Group.{Test, Tested}
+use Rattle.group.proofs.Group.{Test, TestedContext}
 use Rattle.group.proofs.Order.{inverse, inverse-left}
 use Rattle.monomial.specs.Maps.{Map, maps}
 use Rattle.monomial.specs.Families.{Separated, Family}
@@ -150,7 +150,7 @@ module _ (C : Context) (tests : (k : ℕ) → k < C .P .n → Test C k) (m : ℕ
   abbrev L : Level
   L = levelAt (C .P .n) table i
 
-  abbrev T : Tested
+  abbrev T : TestedContext
   T = record { context = C; n = C .P .n; tests = tests }
 
   abbrev X : Type 0

@@ -22,7 +22,7 @@ use Rattle.group.specs.Context.{Context}
 use Rattle.monomial.proofs.Frames.{entry-path}
 use Rattle.separation.specs.Relations.{topRelations}
 use Rattle.separation.proofs.Cutting.{all-both, cut, cut-at}
-use Rattle.separation.proofs.Within.{Within, within-mul, within-power, within-value, within-same}
+use Rattle.separation.proofs.Within.{WithinMatrix, within-mul, within-power, within-value, within-same}
 use Rattle.separation.proofs.Walk.{valid-parts, valid-columns, whole-at, acts-at}
 
 module _ (C : Context) (m : ℕ) (table : List ℕ) (formed : Judgement.malformed (C .P) m table ≡ false) (restrictions : Judgement.restrictionFails (C .P) m table ≡ false) where
@@ -70,7 +70,7 @@ module _ (C : Context) (m : ℕ) (table : List ℕ) (formed : Judgement.malforme
 
     module _ (o : ℕ) (t : passing o ≡ true) where
       abbrev W : Matrix → Matrix → Type 0
-      W = Within m o (below o .deg) (D .deg) (fits o t)
+      W = WithinMatrix m o (below o .deg) (D .deg) (fits o t)
 
       generator-within : (g : ℕ) → g < suc i → W (D .matrix g) (below o .matrix g)
       unfolding passing Judgement.blockRestricts sameEntry

@@ -25,7 +25,7 @@ use Rattle.numbers.proofs.Prime.{Units}
 use Rattle.group.specs.Context.{Context, Nf}
 use Rattle.group.proofs.Values.{power-zero, value-suc}
 use Rattle.group.proofs.Level.{level, conjNf, low}
-use Rattle.group.proofs.Group.{Test, Tested}
+use Rattle.group.proofs.Group.{Test, TestedContext}
 use Rattle.monomial.specs.Maps.{Map, maps}
 use Rattle.monomial.specs.Families.{Family}
 use Rattle.monomial.specs.Over.{At, Over}
@@ -70,7 +70,7 @@ module _ (W : Two) where
   abbrev pub Rp : ℕ → Rep
   Rp r = repOf High r
 
-  abbrev pub T : Tested
+  abbrev pub T : TestedContext
   T = record { context = C; n = C .P .n; tests = tests }
 
   abbrev pub S : Extension (level (W .C) (W .i)) (level (W .C) (suc (W .i))) (conjNf (W .C) (W .i)) (conjNf (W .C) (suc (W .i))) (W .i) (W .C .P .n)

@@ -1,6 +1,6 @@
 -- A matrix that acts within a block of columns as a smaller one.
 --
---   Within m o M N            columns o, o + 1, .. of M act as those of N
+--   WithinMatrix m o M N            columns o, o + 1, .. of M act as those of N
 --   within-one, within-mul, within-power, within-value      products act as products
 --   same-within               what is equal in every block is equal
 use mathlib.Core.Path.{_≡_, sym, _∙_, ap, subst}
@@ -19,13 +19,13 @@ use Rattle.numbers.proofs.Blocks.{length-table}
 use Rattle.monomial.proofs.Frames.{col-map, col-table}
 
 module _ (m o w d : ℕ) (fits : o + w ≤ d) where
-  pub record Within (M N : Matrix) : Type 0 where
+  pub record WithinMatrix (M N : Matrix) : Type 0 where
     pub size : length M ≡ d
     pub size′ : length N ≡ w
     pub inside : (c : ℕ) → c < w → col N c .row < w
     pub acts : (c : ℕ) → c < w → col M (o + c) ≡ entry (o + col N c .row) (col N c .exp)
 
-  pub within-one : Within (identity d) (identity w)
+  pub within-one : WithinMatrix (identity d) (identity w)
   unfolding identity
   within-one = record {
     size = length-table _ d;
@@ -34,7 +34,7 @@ module _ (m o w d : ℕ) (fits : o + w ≤ d) where
     acts = λ c l. col-table (λ k. entry k 0) d (o + c) (omega arith) ∙ ap (λ (x : Entry). entry (o + x .row) (x .exp)) (sym (col-table (λ k. entry k 0) w c l));
   }
 
-  pub within-mul : (M M′ N N′ : Matrix) → Within M N → Within M′ N′ → Within (product m M M′) (product m N N′)
+  pub within-mul : (M M′ N N′ : Matrix) → WithinMatrix M N → WithinMatrix M′ N′ → WithinMatrix (product m M M′) (product m N N′)
   unfolding product act
   within-mul M M′ N N′ p q = record {
     size = length-map M′ (act m M) ∙ q .size;
@@ -50,18 +50,18 @@ module _ (m o w d : ℕ) (fits : o + w ≤ d) where
       small : (c : ℕ) → c < w → col (product m N N′) c ≡ entry (col N (col N′ c .row) .row) ((col N (col N′ c .row) .exp + col N′ c .exp) % m)
       small c l = col-map (act m N) N′ c (subst (λ z. c < z) (sym (q .size′)) l)
 
-  pub within-power : (M N : Matrix) → Within M N → (k : ℕ) → Within (power (matrices m d) M k) (power (matrices m w) N k)
+  pub within-power : (M N : Matrix) → WithinMatrix M N → (k : ℕ) → WithinMatrix (power (matrices m d) M k) (power (matrices m w) N k)
   unfolding power
   within-power M N p zero = within-one
   within-power M N p (suc k) = within-mul M _ N _ p (within-power M N p k)
 
-  pub within-value : (M N : ℕ → Matrix) (i : ℕ) → ((k : ℕ) → k < i → Within (M k) (N k)) → (x : NF i) → Within (value (matrices m d) M i x) (value (matrices m w) N i x)
+  pub within-value : (M N : ℕ → Matrix) (i : ℕ) → ((k : ℕ) → k < i → WithinMatrix (M k) (N k)) → (x : NF i) → WithinMatrix (value (matrices m d) M i x) (value (matrices m w) N i x)
   unfolding value
   within-value M N zero h x = within-one
   within-value M N (suc i) h x = within-mul _ _ _ _ (within-power (M i) (N i) (h i (omega arith)) (x .0)) (within-value M N i (λ k l. h k (omega arith)) (x .1))
 
   -- equal small matrices: equal entries of the block
-  pub within-same : (M M′ N N′ : Matrix) → Within M N → Within M′ N′ → sameMatrix m N N′ ≡ true → (c : ℕ) → c < w → sameEntry m (col M (o + c)) (col M′ (o + c)) ≡ true
+  pub within-same : (M M′ N N′ : Matrix) → WithinMatrix M N → WithinMatrix M′ N′ → sameMatrix m N N′ ≡ true → (c : ℕ) → c < w → sameEntry m (col M (o + c)) (col M′ (o + c)) ≡ true
   unfolding sameMatrix sameEntry
   within-same M M′ N N′ p q h c l =
       let t = allBelow-elim (length N) _ (and-right (eqb (length N) (length N′)) _ h) c (subst (λ z. c < z) (sym (p .size′)) l) in

@@ -18,7 +18,7 @@ use Rattle.definitions.specs.Presentation.{maxOrder}
 use Rattle.numbers.proofs.Bools.{cond-eq, cond-ne}
 use Rattle.formulas.specs.Formulas.{made, start, around}
 use Rattle.survey.specs.declared.Frame.{Frame}
-use Rattle.survey.specs.Below.{targetOf, sourceIn, leaderIn, madeIn, numberIn, aroundIn, closingIn, leadingIn, Stands}
+use Rattle.survey.specs.Below.{targetOf, sourceIn, leaderIn, madeIn, numberIn, aroundIn, closingIn, leadingIn, LevelStands}
 
 module _ (f : Frame) (W : List ℕ) where
   abbrev τ : ℕ → ℕ
@@ -75,7 +75,7 @@ module _ (f : Frame) (W : List ℕ) where
   number-small h zero = omega (arith, number-zero)
   number-small h (suc r) = omega (arith, ap (numberIn f W) (sym (add-one r)) ∙ number-next r, number-small h r, made-small h r)
 
-  pub number-fits : Stands f W → (r : ℕ) → r ≤ f .reps → numberIn f W r ≤ 268435456
+  pub number-fits : LevelStands f W → (r : ℕ) → r ≤ f .reps → numberIn f W r ≤ 268435456
   number-fits S r l =
       let a : r * f .p ≤ maxOrder * f .p = mul-le-mul-right (f .p) (omega (arith, S .few)) in
       omega (arith, number-small (S .prime .0) r, S .prime .1, a)

@@ -7,22 +7,19 @@
 --   located-degree, located-matrix, located-column      its degree, a matrix, column 0
 --   located-target             where an intertwiner leads it
 --   orbits                     the orbits of the generator on top
---   Filled, filled-none, filled-more      an array filled up to an index
 use mathlib.Core.Path.{_≡_, refl, ap, sym, _∙_, subst}
 use Prim.Native.Nat.{ℕ, _+_, _*_, _<_, _≤_}
 use native.Mathlib.Numerals.{add-one}
 use native.Mathlib.Omega.{arith}
 use native.Mathlib.Nat.{mul-le-mul-right}
 use mathlib.Core.List.{List}
-use native.Mathlib.Decide.{ℕ-discrete}
-use lib.ListN.{length, getD, set}
-use lib.Seq.{getD-set-same, getD-set-other}
+use lib.ListN.{length}
 use Rattle.numbers.proofs.Orbits.{Orbits}
 use Rattle.level.specs.declared.Listed.{Listed}
 use Rattle.level.specs.Stored.{matrixIn, Below, lineIn, generatorIn, targetIn, Stored}
 use Rattle.definitions.specs.Monomial.{entry}
 use Rattle.survey.specs.declared.Frame.{Frame}
-use Rattle.survey.specs.Below.{firstOf, degOf, matrixOf, targetOf, Stands, Located}
+use Rattle.survey.specs.Below.{firstOf, degOf, matrixOf, targetOf, LevelStands, Located}
 
 module _ (f : Frame) (W : List ℕ) where
   pub first-zero : firstOf f W 0 ≡ f .base
@@ -33,7 +30,7 @@ module _ (f : Frame) (W : List ℕ) where
   unfolding firstOf
   first-next r = ap (firstOf f W) (add-one r)
 
-  module _ (S : Stands f W) where
+  module _ (S : LevelStands f W) where
     pub matrix-room : (g r : ℕ) → g < f .gens → r < f .reps → 8 * matrixOf f W g r + 8 ≤ length W
     matrix-room g r a b = let h : 8 * (matrixOf f W g r + degOf f W r) ≤ length W = S .valid r b g a .fits in omega (arith, S .wide r b .0)
 
@@ -86,19 +83,3 @@ module _ {f : Frame} {W : List ℕ} {r : ℕ} {D : Listed} (L : Located f W r D)
       let t : x ≡ targetOf f W j r = e ∙ ap (λ (E : Listed). targetIn W E j) (L .is) in
       let q = L .stands .target r (L .listed) j a b in
       (t, subst (λ y. y < f .reps) (sym t) (q .0), located-degree ∙ sym (q .1) ∙ ap (degOf f W) (sym t))
-
--- ---- Arrays
-
--- an array filled up to r
-abbrev pub Filled : List ℕ → (ℕ → ℕ) → ℕ → Type 0
-Filled a g r = (k : ℕ) → k < r → getD a k 0 ≡ g k
-
-pub filled-none : (a : List ℕ) (g : ℕ → ℕ) → Filled a g 0
-filled-none a g k l = absurd (omega arith)
-
-pub filled-more : (a : List ℕ) (g : ℕ → ℕ) (r x : ℕ) → r < length a → x ≡ g r → Filled a g r → Filled (set a r x) g (r + 1)
-filled-more a g r x l e h k m = go (ℕ-discrete k r)
-  where
-    go : Dec (k ≡ r) → getD (set a r x) k 0 ≡ g k
-    go (yes q) = ap (λ z. getD (set a r x) z 0) q ∙ getD-set-same a r x 0 l ∙ e ∙ ap g (sym q)
-    go (no q) = getD-set-other a r k x 0 q ∙ h k (omega arith)

@@ -1,4 +1,5 @@
--- Laws of a level that stands in words.
+-- Laws of a level that stands in words, and of what is noted of it.
+pub mod Notes
 pub mod Level
 pub mod Marking
 pub mod Counting

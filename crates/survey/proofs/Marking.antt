@@ -19,10 +19,12 @@ use Rattle.numbers.proofs.Lists.{iter-zero}
 use Rattle.numbers.proofs.Searches.{least-least}
 use Rattle.numbers.proofs.Orbits.{leader, position, leader-least, leader-iter, leader-leader, leader-fixed, position-below, position-back, iter-below}
 use Rattle.survey.specs.declared.Frame.{Frame}
-use Rattle.survey.specs.Below.{targetOf, leaderIn, positionIn, Stands, Array, Marked, MarkedTo}
+use Rattle.survey.specs.Notes.{leaders, positions, Marked}
+use Rattle.survey.specs.Below.{targetOf, leaderIn, positionIn, LevelStands, Array, MarkedTo}
+use Rattle.fields.proofs.Rows.{field-long}
 use Rattle.survey.proofs.Level.{orbits}
 
-module _ (f : Frame) (W : List ℕ) (S : Stands f W) where
+module _ (f : Frame) (W : List ℕ) (S : LevelStands f W) where
   abbrev τ : ℕ → ℕ
   τ = targetOf f W (f .top)
 
@@ -85,9 +87,25 @@ module _ (f : Frame) (W : List ℕ) (S : Stands f W) where
     at-position : (q k : ℕ) → q < f .reps → lead q ≡ r → pos q ≡ k → q ≡ iter τ k r
     at-position q k l e e′ = sym (pos-back q l) ∙ ap (λ z. iter τ (pos q) z) e ∙ ap (λ z. iter τ z r) e′
 
-    pub marking-step : (k : ℕ) (a b a′ b′ : List ℕ) → k < f .p → MarkedTo f W a b r k → Marked a b (f .reps) r (iter τ k r) k a′ b′ → MarkedTo f W a′ b′ r (k + 1)
-    marking-step k a b a′ b′ hk M N = go (ℕ-discrete (getD a (iter τ k r) 0) (f .reps))
+    pub marking-step : (k : ℕ) (n n′ : List ℕ) → k < f .p → MarkedTo f W (leaders n) (positions n) r k → Marked (f .reps) r (iter τ k r) k n n′
+        → MarkedTo f W (leaders n′) (positions n′) r (k + 1)
+    marking-step k n n′ hk M N = go (ℕ-discrete (getD a (iter τ k r) 0) (f .reps))
       where
+        a : List ℕ
+        a = leaders n
+
+        b : List ℕ
+        b = positions n
+
+        a′ : List ℕ
+        a′ = leaders n′
+
+        b′ : List ℕ
+        b′ = positions n′
+
+        long : (f .reps ≤ length a′) × (f .reps ≤ length b′)
+        long = (omega (arith, field-long 5 1 1 n n′ (N .len), M .long .0), omega (arith, field-long 5 2 2 n n′ (N .len), M .long .1))
+
         q₀ : ℕ
         q₀ = iter τ k r
 
@@ -102,7 +120,7 @@ module _ (f : Frame) (W : List ℕ) (S : Stands f W) where
 
         go : Dec (getD a q₀ 0 ≡ f .reps) → MarkedTo f W a′ b′ r (k + 1)
         go (yes u) = record {
-          long = (omega (arith, N .lengths .0, M .long .0), omega (arith, N .lengths .1, M .long .1));
+          long = long;
           earlier = λ q l h. let n : ¬ (q ≡ q₀) = λ e. omega (arith, ap lead e, member k) in (keep q n .0 ∙ M .earlier q l h .0, keep q n .1 ∙ M .earlier q l h .1);
           these = λ q l e h. pick q l e h (ℕ-discrete (pos q) k);
           later = λ q l e h. keep q (λ e′. omega (arith, ap pos e′, here)) .0 ∙ M .later q l e (omega arith);
@@ -132,7 +150,7 @@ module _ (f : Frame) (W : List ℕ) (S : Stands f W) where
                 let n : ¬ (q ≡ q₀) = λ e′. z (ap pos e′ ∙ here) in
                 (keep q n .0 ∙ t .0, keep q n .1 ∙ t .1)
         go (no u) = record {
-          long = (omega (arith, N .lengths .0, M .long .0), omega (arith, N .lengths .1, M .long .1));
+          long = long;
           earlier = λ q l h. (is-a q ∙ M .earlier q l h .0, is-b q ∙ M .earlier q l h .1);
           these = λ q l e h. let t = rest M q l e h (other q l e) in (is-a q ∙ t .0, is-b q ∙ t .1);
           later = λ q l e h. is-a q ∙ M .later q l e (omega arith);

@@ -1,22 +1,27 @@
 -- A level that stands in words, and what is known of it before the next level is written.
 --
+--   lowOf f W                  the lines up to the end of the level, in words that go on
 --   firstOf, degOf, matrixOf, targetOf      where representation r begins, its degree, the line of a generator, where an
 --                              intertwiner leads
 --   sourceIn                   the level, as the formulas ask for it
---   Stands f W                 the lines of a level stand in W as a build leaves them: bounds, valid matrices, targets of one
+--   LevelStands f W                 the lines of a level stand in W as a build leaves them: bounds, valid matrices, targets of one
 --                              degree, and orbits of the generator on top that close after p steps
 --   listedOf, Located r D      representation r by its first line and degree; D is that one
 --   Rows                       exponents of words in range
 --   Array                      an array that holds a function below the number of representations
 --   Leading                    one that holds it at the least of each orbit, and is below the modulus
 --   Fixing                     what the generator on top fixes is led to what it fixes
+--   Cycles, Cycling            generator j moves the blocks of an orbit around, each once; so do all above the one on top
+--   Fixed, Leads               the generator on top fixes r; r is the least of an orbit that moves
+--   Sound                      what is asked of a level before the next is made
 --   madeIn, numberIn, aroundIn, closingIn, leadingIn      the formulas, of this level
---   MarkedTo, Marked, Turned   orbits while they are marked; a step along one
+--   Lines, Orbited, Surveyed   notes that hold the first lines; and the orbits; and all that the next level is made with
+--   MarkedTo, Marking, CarriedOn       orbits while they are marked; a step along one
 use mathlib.Core.Path.{_≡_}
 use Prim.Native.Nat.{ℕ, zero, suc, _+_, _*_, _/_, _≤_, _<_}
 use mathlib.Core.List.{List, []}
 use mathlib.Core.Bool.{cond}
-use lib.ListN.{length, getD, set}
+use lib.ListN.{length, getD, take}
 use lib.Dec.{eqb}
 use Rattle.definitions.specs.Lists.{iter}
 use Rattle.definitions.specs.Presentation.{maxGenerators, maxOrder, maxModulus, toNF, pairNumber}
@@ -25,11 +30,16 @@ use Rattle.definitions.specs.Monomial.{entry, less, act}
 use Rattle.definitions.specs.Table.{DEG, REF, wordAt}
 use Rattle.numbers.proofs.Prime.{Units}
 use Rattle.numbers.proofs.Orbits.{leaderOf, positionOf}
-use Rattle.formulas.specs.Formulas.{Source, walk, made, start, around}
+use Rattle.formulas.specs.Formulas.{Source, walk, made, start, around, shift, blockAt}
 use Rattle.level.specs.Stored.{matrixIn, Below, Holds}
 use Rattle.level.specs.declared.Listed.{Listed}
+use Rattle.survey.specs.Notes.{firsts, leaders, positions, numbers, shifts}
 use Rattle.survey.specs.declared.Frame.{Frame}
 use Rattle.survey.specs.declared.Carried.{Carried}
+
+-- the lines up to the end of the level, in words that go on
+abbrev pub lowOf : Frame → List ℕ → List ℕ
+lowOf f W = take (8 * f .end) W
 
 module _ (f : Frame) (W : List ℕ) where
   unfoldable pub firstOf : ℕ → ℕ
@@ -45,6 +55,10 @@ module _ (f : Frame) (W : List ℕ) where
 
   abbrev pub targetOf : ℕ → ℕ → ℕ
   targetOf j r = wordAt W (matrixOf j r) REF
+
+  -- the generator on top fixes r
+  abbrev pub Fixed : ℕ → Type 0
+  Fixed r = targetOf (f .top) r ≡ r
 
   abbrev pub listedOf : ℕ → Listed
   listedOf r = record { line = firstOf r; deg = degOf r }
@@ -86,7 +100,7 @@ module _ (f : Frame) (W : List ℕ) where
   unfoldable pub leadingIn : List ℕ → ℕ → ℕ
   leadingIn u r = cond (eqb (leaderIn r) r) (closingIn u r) 0
 
-  pub record Stands : Type 0 where
+  pub record LevelStands : Type 0 where
     pub few : 2 * f .reps ≤ maxOrder
     pub gens : (f .top < f .gens) × (f .gens ≤ maxGenerators)
     pub prime : (1 < f .p) × (2 * f .p ≤ maxOrder)
@@ -102,7 +116,7 @@ module _ (f : Frame) (W : List ℕ) where
 
   -- D is representation r of the level
   pub record Located (r : ℕ) (D : Listed) : Type 0 where
-    pub stands : Stands
+    pub stands : LevelStands
     pub listed : r < f .reps
     pub is : D ≡ listedOf r
 
@@ -123,8 +137,42 @@ module _ (f : Frame) (W : List ℕ) where
   pub record Fixing : Type 0 where
     pub stays : (r : ℕ) → r < f .reps → targetOf (f .top) r ≡ r → (j : ℕ) → f .top < j → j < f .gens → targetOf (f .top) (targetOf j r) ≡ targetOf j r
 
+  -- from block 0 on, p steps of generator j visit every block of the orbit of r, and none twice
+  pub record Cycles (rows : List (List ℕ)) (j r : ℕ) : Type 0 where
+    pub visits : (b : ℕ) → b < f .p → (t : ℕ) × (t < f .p) × (blockAt (sourceIn rows) j r t ≡ b)
+    pub once : (t t′ : ℕ) → t < f .p → t′ < f .p → blockAt (sourceIn rows) j r t ≡ blockAt (sourceIn rows) j r t′ → t ≡ t′
+
+  -- the least of every orbit that moves is so for every generator above the one on top
+  abbrev pub Cycling : List (List ℕ) → Type 0
+  Cycling rows = (r : ℕ) → r < f .reps → ¬ (targetOf (f .top) r ≡ r) → leaderIn r ≡ r → (j : ℕ) → f .top < j → j < f .gens → Cycles rows j r
+
+  pub record Sound (rows : List (List ℕ)) : Type 0 where
+    pub stands : LevelStands
+    pub words : Rows rows
+    pub cycles : Cycling rows
+    pub fixes : Fixing
+
+  -- r is the least of an orbit that moves
+  pub record Leads (r : ℕ) : Type 0 where
+    pub listed : r < f .reps
+    pub moves : ¬ Fixed r
+    pub led : leaderIn r ≡ r
+
+  -- ---- Notes
+
   abbrev pub Lines : List ℕ → Type 0
   Lines first = Array first firstOf
+
+  pub record Orbited (notes : List ℕ) : Type 0 where
+    pub lines : Lines (firsts notes)
+    pub leaders-are : Array (leaders notes) leaderIn
+    pub places-are : Array (positions notes) positionIn
+
+  pub record Surveyed (rows : List (List ℕ)) (notes : List ℕ) : Type 0 where
+    pub sound : Sound rows
+    pub orbited : Orbited notes
+    pub numbers-are : Array (numbers notes) (start (sourceIn rows))
+    pub shifts-are : Leading (shifts notes) (shift (sourceIn rows))
 
   -- ---- Orbits while they are marked
 
@@ -136,16 +184,16 @@ module _ (f : Frame) (W : List ℕ) where
     pub later : (q : ℕ) → q < f .reps → leaderIn q ≡ r → k ≤ positionIn q → getD leaders q 0 ≡ f .reps
     pub others : (q : ℕ) → q < f .reps → r < leaderIn q → getD leaders q 0 ≡ f .reps
 
+  -- the same in notes that have kept their first lines
+  pub record Marking (notes₀ notes : List ℕ) (r k : ℕ) : Type 0 where
+    pub marks : MarkedTo (leaders notes) (positions notes) r k
+    pub lines : firsts notes ≡ firsts notes₀
+    pub len : length notes ≡ length notes₀
+
 -- an entry taken one step along the orbit
-pub record Turned (f : Frame) (W : List ℕ) (d : ℕ) (s t : Carried) : Type 0 where
+pub record CarriedOn (f : Frame) (W : List ℕ) (d : ℕ) (s t : Carried) : Type 0 where
   pub rep-is : t .rep ≡ targetOf f W (f .top) (s .rep)
   pub rep-below : t .rep < f .reps
   pub same-degree : d ≡ degOf f W (t .rep)
   pub entry-is : t .x ≡ act (f .m) (sourceIn f W [] .matrix (s .rep) (f .top)) (s .x)
   pub entry-below : Below (f .m) d (t .x)
-
--- one member marked, unless it was
-pub record Marked (leaders places : List ℕ) (reps r q k : ℕ) (leaders′ places′ : List ℕ) : Type 0 where
-  pub lengths : (length leaders′ ≡ length leaders) × (length places′ ≡ length places)
-  pub fresh : getD leaders q 0 ≡ reps → (leaders′ ≡ set leaders q r) × (places′ ≡ set places q k)
-  pub stale : ¬ (getD leaders q 0 ≡ reps) → (leaders′ ≡ leaders) × (places′ ≡ places)

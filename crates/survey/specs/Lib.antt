@@ -1,2 +1,3 @@
--- A level of a table as it stands in words.
+-- A level that stands in words, and what is noted of it.
+pub mod Notes
 pub mod Below

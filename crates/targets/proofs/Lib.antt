@@ -1,2 +1,2 @@
 -- Laws of constants and targets.
-pub mod Laws
+pub mod Targets

@@ -3,12 +3,12 @@ use Prim.Native.Nat.{_-_}
 use native.Mathlib.Omega.{arith}
 use borrow.Author.Tests.{not-true, not-false}
 use denote.Ref.{now}
-use Rattle.check_blocks.proofs.Blocks.{among-within, Going, going-none, going-whole, going-all, going-fails, going-more}
+use Rattle.check_blocks.proofs.Blocks.{among-within, CutTo, going-none, going-whole, going-all, going-fails, going-more}
 use Rattle.check_blocks.proofs.blocks_act.Statement.{statement}
 use Rattle.check_blocks.proofs.blocks_act.Tie as tie
 
 abbrev Inv-loop : tie.InvT-loop
-Inv-loop words s i near d o₀ o = Going s words i d o
+Inv-loop words s i near d o₀ o = CutTo s words i d o
 
 abbrev μ-loop : tie.MeasureT-loop
 μ-loop words s i near d o₀ o = d .deg - o

@@ -56,7 +56,7 @@ blocks-act-requires : tie.Need-blocks-act-requires Inv-loop μ-loop
 blocks-act-requires c κs =
     let z = c .before .before .before .before .before in
     let (P, formed) = z .pre .0 in
-    (record { P = P; formed = formed; r = c .loop .r; found = c .loop .inv .0 }, z .pre .1)
+    (record { presented = P; formed = formed; r = c .loop .r; found = c .loop .inv .0 }, z .pre .1)
 
 returns : tie.Need-returns Inv-loop μ-loop
 returns c =

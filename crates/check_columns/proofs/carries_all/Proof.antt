@@ -10,8 +10,8 @@ use native.Mathlib.Omega.{arith}
 use lib.ListN.{length, getD}
 use denote.Ref.{now}
 use Rattle.level.specs.declared.Listed.{Listed}
-use Rattle.level.proofs.Laws.{stored-fewer}
-use Rattle.relations.specs.Kept.{Kept}
+use Rattle.level.proofs.Columns.{stored-fewer}
+use Rattle.relations.specs.Kept.{MatricesStored}
 use Rattle.check_columns.specs.Relates.{Carries}
 use Rattle.check_columns.proofs.Carrying.{Rising, rising-none, rising-more, rising-all, says-word, says-quiet, led-is}
 use Rattle.check_columns.proofs.carries_all.Statement.{statement}
@@ -94,7 +94,7 @@ commutes-requires c κs =
     let L = R .leads (lo .loop .j) (lo .loop .inv .from) (omega arith) in
     let e = led-is (now (a .words)) (now (a .firsts)) (a .g) (a .d) (lo .loop .j) (ra .rep-at .ensures) (up .up .ensures) (ta .target .ensures) in (
       R .kept,
-      subst (Kept (a .s) (now (a .words))) (sym e) (L .kept),
+      subst (MatricesStored (a .s) (now (a .words))) (sym e) (L .kept),
       ap (λ (E : Listed). E .deg) e ∙ L .degree,
       lo .loop .inv .from,
       omega arith,
@@ -133,7 +133,7 @@ carries-requires c κs =
     let L = R .leads (lo .loop .j) (lo .loop .inv .from) (omega arith) in
     let e = led-is (now (a .words)) (now (a .firsts)) (a .g) (a .d) (lo .loop .j) (ra .rep-at .ensures) (up .up .ensures) (ta .target .ensures) in (
       R .kept,
-      subst (Kept (a .s) (now (a .words))) (sym e) (L .kept),
+      subst (MatricesStored (a .s) (now (a .words))) (sym e) (L .kept),
       ap (λ (E : Listed). E .deg) e ∙ L .degree,
       lo .loop .inv .from,
       omega arith,

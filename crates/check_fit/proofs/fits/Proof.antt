@@ -1,4 +1,4 @@
--- `fits`: the modulus, the heads, the squares, and then level by level.
+-- `fits`: the modulus, level 1, and then level by level.
 use borrow.Author.Needs.{needs}
 use borrow.Author.Tests.{not-false}
 use mathlib.Core.Path.{sym, _∙_, ap, subst}
@@ -6,10 +6,8 @@ use mathlib.Core.Bool.{false≢true}
 use native.Mathlib.Omega.{arith}
 use lib.ListN.{getD}
 use denote.Ref.{now}
-use Rattle.heads.proofs.Going.{heads-whole}
-use Rattle.check_heads.specs.Places.{ordersIn}
-use Rattle.check_form.proofs.Form.{form-whole}
-use Rattle.check_blocks.specs.Squares.{AddsUp}
+use Rattle.check_fit.specs.Fit.{LevelsFit}
+use Rattle.check_fit.proofs.First.{started}
 use Rattle.check_fit.proofs.Yes.{levels-pass}
 use Rattle.check_fit.proofs.fits.Statement.{statement}
 use Rattle.check_fit.proofs.fits.Tie as tie
@@ -33,83 +31,75 @@ returns c = λ e. absurd (false≢true e)
 returns-2 : tie.Need-returns-2
 returns-2 c = λ e. absurd (false≢true e)
 
-heads-requires : tie.Need-heads-requires
-heads-requires c κs =
-    let z = c .before .before .before .before .before .before .before in
-    z .pre .0
+element-copy-out-level-one : tie.Need-element-copy-out-level-one
+element-copy-out-level-one c = search needs
+
+level-one-requires : tie.Need-level-one-requires
+level-one-requires c κs =
+    let z = c .before .before .before .before .before .before .before .before in
+    (z .pre .0, z .pre .1)
 
 returns-3 : tie.Need-returns-3
 returns-3 c = λ e. absurd (false≢true e)
 
-squares-hold-requires : tie.Need-squares-hold-requires
-squares-hold-requires c κs =
-    let he = c .before in
-    let z = he .before .before .before .before .before .before .before .before in
-    let a = z .args in
-    form-whole (a .s) (now (a .orders)) (now (a .words)) (z .pre .0) (sym (he .heads .ensures) ∙ not-false (he .heads .result) (c .if3 .left))
-
 returns-4 : tie.Need-returns-4
-returns-4 c = λ e. absurd (false≢true e)
+returns-4 c =
+    let at-if3 = c .before .before in
+    let at-level-one = at-if3 .before in
+    let at-if2 = at-level-one .before .before in
+    let at-if1 = at-if2 .before .before in
+    let at-up = at-if1 .before .before .before in
+    let z = at-up .before .before in
+    λ e.
+    let a = z .args in
+    let orders = now (a .orders) in
+    let primes = now (a .primes) in
+    let F = at-level-one .level-one .ensures (not-false (at-level-one .level-one .result) (at-if3 .if3 .left)) in
+    let S = started primes F (omega (arith, at-if2 .if2 .left)) (z .pre .1, z .pre .2) in
+    levels-pass (F .lines) (F .whole) (subst (LevelsFit (a .s) (now (a .words)) (now (a .rows)) primes orders) (sym (c .if4 .taken)) (S .fits))
+    (ap (λ k. getD orders k 0) (sym (at-up .up .ensures)) ∙ at-if1 .if1 .left)
 
 small-fits-requires : tie.Need-small-fits-requires
 small-fits-requires c κs =
-    let if3 = c .before .before .before .before in
-    let he = if3 .before in
-    let if2 = he .before in
-    let z = if2 .before .before .before .before .before .before .before in
-    let a = z .args in (
-      form-whole (a .s) (now (a .orders)) (now (a .words)) (z .pre .0) (sym (he .heads .ensures) ∙ not-false (he .heads .result) (if3 .if3 .left)),
-      omega (arith, if2 .if2 .left),
-      z .pre .1,
-      z .pre .2,
-    )
+    let at-if3 = c .before .before .before .before in
+    let at-level-one = at-if3 .before in
+    let at-if2 = at-level-one .before .before in
+    let z = at-if2 .before .before .before .before .before .before .before in
+    let F = at-level-one .level-one .ensures (not-false (at-level-one .level-one .result) (at-if3 .if3 .left)) in
+    started (now (z .args .primes)) F (omega (arith, at-if2 .if2 .left)) (z .pre .1, z .pre .2)
 
 returns-5 : tie.Need-returns-5
-returns-5 c = λ e.
-    let if4 = c .before .before .before in
-    let sh = if4 .before in
-    let if3 = sh .before in
-    let he = if3 .before in
-    let if1 = he .before .before .before in
-    let up = if1 .before .before .before in
-    let z = up .before .before in
-    let a = z .args in
-    let T = now (a .words) in
-    let orders = now (a .orders) in
-    let h = sym (he .heads .ensures) ∙ not-false (he .heads .result) (if3 .if3 .left) in
-    levels-pass (heads-whole (a .s .gens) T (ordersIn orders) h) (form-whole (a .s) orders T (z .pre .0) h)
-    (subst (AddsUp (a .s) orders T) (not-false (sh .squares-hold .result) (if4 .if4 .left)) (sh .squares-hold .ensures)) (c .small-fits .ensures e)
-    (ap (λ k. getD orders k 0) (sym (up .up .ensures)) ∙ if1 .if1 .left)
+returns-5 c =
+    let at-if3 = c .before .before .before .before .before in
+    let at-level-one = at-if3 .before in
+    let at-if1 = at-level-one .before .before .before .before in
+    let at-up = at-if1 .before .before .before in
+    let z = at-up .before .before in
+    λ e.
+    let F = at-level-one .level-one .ensures (not-false (at-level-one .level-one .result) (at-if3 .if3 .left)) in
+    levels-pass (F .lines) (F .whole) (c .small-fits .ensures e)
+    (ap (λ k. getD (now (z .args .orders)) k 0) (sym (at-up .up .ensures)) ∙ at-if1 .if1 .left)
 
 large-fits-requires : tie.Need-large-fits-requires
 large-fits-requires c κs =
-    let if3 = c .before .before .before .before in
-    let he = if3 .before in
-    let if2 = he .before in
-    let z = if2 .before .before .before .before .before .before .before in
-    let a = z .args in (
-      form-whole (a .s) (now (a .orders)) (now (a .words)) (z .pre .0) (sym (he .heads .ensures) ∙ not-false (he .heads .result) (if3 .if3 .left)),
-      omega (arith, if2 .if2 .left),
-      z .pre .1,
-      z .pre .2,
-    )
+    let at-if3 = c .before .before .before .before in
+    let at-level-one = at-if3 .before in
+    let at-if2 = at-level-one .before .before in
+    let z = at-if2 .before .before .before .before .before .before .before in
+    let F = at-level-one .level-one .ensures (not-false (at-level-one .level-one .result) (at-if3 .if3 .left)) in
+    started (now (z .args .primes)) F (omega (arith, at-if2 .if2 .left)) (z .pre .1, z .pre .2)
 
 returns-6 : tie.Need-returns-6
-returns-6 c = λ e.
-    let if4 = c .before .before .before in
-    let sh = if4 .before in
-    let if3 = sh .before in
-    let he = if3 .before in
-    let if1 = he .before .before .before in
-    let up = if1 .before .before .before in
-    let z = up .before .before in
-    let a = z .args in
-    let T = now (a .words) in
-    let orders = now (a .orders) in
-    let h = sym (he .heads .ensures) ∙ not-false (he .heads .result) (if3 .if3 .left) in
-    levels-pass (heads-whole (a .s .gens) T (ordersIn orders) h) (form-whole (a .s) orders T (z .pre .0) h)
-    (subst (AddsUp (a .s) orders T) (not-false (sh .squares-hold .result) (if4 .if4 .left)) (sh .squares-hold .ensures)) (c .large-fits .ensures e)
-    (ap (λ k. getD orders k 0) (sym (up .up .ensures)) ∙ if1 .if1 .left)
+returns-6 c =
+    let at-if3 = c .before .before .before .before .before in
+    let at-level-one = at-if3 .before in
+    let at-if1 = at-level-one .before .before .before .before in
+    let at-up = at-if1 .before .before .before in
+    let z = at-up .before .before in
+    λ e.
+    let F = at-level-one .level-one .ensures (not-false (at-level-one .level-one .result) (at-if3 .if3 .left)) in
+    levels-pass (F .lines) (F .whole) (c .large-fits .ensures e)
+    (ap (λ k. getD (now (z .args .orders)) k 0) (sym (at-up .up .ensures)) ∙ at-if1 .if1 .left)
 
 pub fits-spec : {M : Type 1} → statement M
 fits-spec =
@@ -120,9 +110,9 @@ fits-spec =
     element-copy-out-if1
     returns
     returns-2
-    heads-requires
+    element-copy-out-level-one
+    level-one-requires
     returns-3
-    squares-hold-requires
     returns-4
     small-fits-requires
     returns-5

@@ -1,49 +1,122 @@
 -- `level_compares` goes through the representations of the level.
 use borrow.Author.Needs.{needs}
-use borrow.Author.Count.{below-more}
 use borrow.Author.Tests.{not-false}
-use mathlib.Core.Path.{refl, subst}
+use borrow.Author.Count.{below-more}
+use mathlib.Core.Path.{_≡_, refl}
 use mathlib.Core.Bool.{false≢true}
 use Prim.Native.Nat.{ℕ, suc, _-_, _<_}
 use native.Mathlib.Omega.{arith}
+use lib.ListN.{length}
 use denote.Ref.{now}
+use Rattle.definitions.specs.Table.{levelAt}
+use Rattle.seek.proofs.Seek.{found-fits}
+use Rattle.claims.proofs.Claims.{Claims, claims-none, claims-found, claims-all}
 use Rattle.compare.specs.Blocks.{RepFits}
-use Rattle.compare.proofs.Staged.{found-inside, high-at, high-place}
+use Rattle.compare.proofs.Staged.{high-at, high-place}
+use Rattle.check_single.specs.Power.{PowerHolds}
 use Rattle.check_fit.specs.Fit.{repAtLevel}
-use Rattle.check_fit.proofs.Level.{high-is}
+use Rattle.check_fit.proofs.Level.{high-inside, high-kept, high-fits, high-power}
 use Rattle.check_fit.proofs.level_compares.Statement.{statement}
 use Rattle.check_fit.proofs.level_compares.Tie as tie
 
 abbrev Inv-loop : tie.InvT-loop
-Inv-loop words firsts s g above r₀ r = (q : ℕ) → q < r → RepFits s words g (repAtLevel s words (suc (g .top)) q)
+Inv-loop words firsts rows s g marks₀ slots₀ part above r₀ marks slots r =
+    ((q : ℕ) → q < r → RepFits s words g (repAtLevel s words (suc (g .top)) q))
+    × ((q : ℕ) → q < r → PowerHolds s words rows g (repAtLevel s words (suc (g .top)) q))
+    × Claims (g .top) (g .p) part (levelAt (s .gens) words (suc (g .top))) r marks slots × (length marks ≡ length marks₀) × (length slots ≡ length slots₀)
 
 abbrev μ-loop : tie.MeasureT-loop
-μ-loop words firsts s g above r₀ r = above - r
-
-loop-holds : tie.Need-loop-holds Inv-loop μ-loop
-loop-holds c = λ q l. absurd (omega arith)
-
-add-rep-at : tie.Need-add-rep-at Inv-loop μ-loop
-add-rep-at c =
-    let lo = c .before .before in
-    let z = lo .before .before .before in
-    omega (arith, high-place (z .pre) (lo .loop .r) (omega arith) .0, z .good)
-
-rep-at-requires : tie.Need-rep-at-requires Inv-loop μ-loop
-rep-at-requires c κs =
-    let lo = c .before .before in
-    let z = lo .before .before .before in
-    high-place (z .pre) (lo .loop .r) (omega arith)
-
-rep-fits-requires : tie.Need-rep-fits-requires Inv-loop μ-loop
-rep-fits-requires c κs =
-    let lo = c .before .before .before in
-    let z = lo .before .before .before in
-    let S = z .pre in
-    (S, found-inside (S .whole) (S .short) (high-at S (lo .loop .r) (omega arith) (c .rep-at .ensures) refl))
+μ-loop words firsts rows s g marks₀ slots₀ part above r₀ marks slots r = above - r
 
 returns : tie.Need-returns Inv-loop μ-loop
 returns c = λ e. absurd (false≢true e)
+
+div-part : tie.Need-div-part Inv-loop μ-loop
+div-part c = search needs
+
+returns-2 : tie.Need-returns-2 Inv-loop μ-loop
+returns-2 c = λ e. absurd (false≢true e)
+
+loop-holds : tie.Need-loop-holds Inv-loop μ-loop
+loop-holds c =
+    let z = c .before .before .before .before .before .before .before .before .before in
+    let a = z .args in
+    ((λ q l. absurd (omega arith)), (λ q l. absurd (omega arith)), claims-none (a .g .top) (a .g .p) _ _ _ _, refl, refl)
+
+add-rep-at : tie.Need-add-rep-at Inv-loop μ-loop
+add-rep-at c =
+    let at-loop = c .before .before in
+    let z = at-loop .before .before .before .before .before .before .before .before .before .before in
+    omega (arith, high-place (z .pre) (at-loop .loop .r) (omega arith) .0, z .good)
+
+rep-at-requires : tie.Need-rep-at-requires Inv-loop μ-loop
+rep-at-requires c κs =
+    let at-loop = c .before .before in
+    let z = at-loop .before .before .before .before .before .before .before .before .before .before in
+    high-place (z .pre) (at-loop .loop .r) (omega arith)
+
+rep-fits-requires : tie.Need-rep-fits-requires Inv-loop μ-loop
+rep-fits-requires c κs =
+    let at-loop = c .before .before .before in
+    let z = at-loop .before .before .before .before .before .before .before .before .before .before in
+    (z .pre, high-inside (z .pre) (at-loop .loop .r) (omega arith) (c .rep-at .ensures))
+
+same-length : tie.Need-same-length Inv-loop μ-loop
+same-length c =
+    let at-loop = c .before .before .before .before .before in
+    at-loop .loop .inv .3
+
+same-length-2 : tie.Need-same-length-2 Inv-loop μ-loop
+same-length-2 c =
+    let at-loop = c .before .before .before .before .before in
+    at-loop .loop .inv .4
+
+returns-3 : tie.Need-returns-3 Inv-loop μ-loop
+returns-3 c = λ e. absurd (false≢true e)
+
+power-holds-requires : tie.Need-power-holds-requires Inv-loop μ-loop
+power-holds-requires c κs =
+    let at-rep-fits = c .before in
+    let at-rep-at = at-rep-fits .before in
+    let at-loop = at-rep-at .before .before .before in
+    let z = at-loop .before .before .before .before .before .before .before .before .before .before in (
+      high-kept (z .pre) (at-loop .loop .r) (omega arith) (at-rep-at .rep-at .ensures)
+          (at-rep-fits .rep-fits .ensures (not-false (at-rep-fits .rep-fits .result) (c .if3 .left))),
+      z .pre .level .1,
+      z .pre .modulus .1,
+    )
+
+same-length-3 : tie.Need-same-length-3 Inv-loop μ-loop
+same-length-3 c =
+    let at-loop = c .before .before .before .before .before .before .before in
+    at-loop .loop .inv .3
+
+same-length-4 : tie.Need-same-length-4 Inv-loop μ-loop
+same-length-4 c =
+    let at-loop = c .before .before .before .before .before .before .before in
+    at-loop .loop .inv .4
+
+returns-4 : tie.Need-returns-4 Inv-loop μ-loop
+returns-4 c = λ e. absurd (false≢true e)
+
+claim-requires : tie.Need-claim-requires Inv-loop μ-loop
+claim-requires c κs =
+    let at-rep-at = c .before .before .before .before .before .before in
+    let at-loop = at-rep-at .before .before .before in
+    let at-if2 = at-loop .before in
+    let z = at-if2 .before .before .before .before .before .before .before .before .before in (
+      found-fits (high-at (z .pre) (at-loop .loop .r) (omega arith) (at-rep-at .rep-at .ensures) refl) (z .args .g .top) (z .pre .level .1),
+      omega (arith, at-if2 .if2 .left),
+    )
+
+same-length-5 : tie.Need-same-length-5 Inv-loop μ-loop
+same-length-5 c = search needs
+
+same-length-6 : tie.Need-same-length-6 Inv-loop μ-loop
+same-length-6 c = search needs
+
+returns-5 : tie.Need-returns-5 Inv-loop μ-loop
+returns-5 c = λ e. absurd (false≢true e)
 
 add-r : tie.Need-add-r Inv-loop μ-loop
 add-r c = search needs
@@ -52,21 +125,59 @@ loop-less : tie.Need-loop-less Inv-loop μ-loop
 loop-less c = omega arith
 
 loop-again : tie.Need-loop-again Inv-loop μ-loop
-loop-again c =
-    let rf = c .before in
-    let ra = rf .before in
-    let lo = ra .before .before .before in
-    let z = lo .before .before .before in
-    let a = z .args in
-    let T = now (a .words) in
-    below-more (λ q. RepFits (a .s) T (a .g) (repAtLevel (a .s) T (suc (a .g .top)) q)) (lo .loop .r) (lo .loop .inv)
-    (subst (RepFits (a .s) T (a .g)) (high-is (z .pre) (lo .loop .r) (omega arith) (ra .rep-at .ensures))
-    (rf .rep-fits .ensures (not-false (rf .rep-fits .result) (c .if1 .left))))
+loop-again c = (
+  let at-if3 = c .before .before .before .before .before .before .before .before .before .before in
+      let at-rep-fits = at-if3 .before in
+      let at-rep-at = at-rep-fits .before in
+      let at-loop = at-rep-at .before .before .before in
+      let z = at-loop .before .before .before .before .before .before .before .before .before .before in
+      let a = z .args in
+      let T = now (a .words) in
+      let F = at-rep-fits .rep-fits .ensures (not-false (at-rep-fits .rep-fits .result) (at-if3 .if3 .left)) in
+      below-more (λ q. RepFits (a .s) T (a .g) (repAtLevel (a .s) T (suc (a .g .top)) q)) (at-loop .loop .r) (at-loop .loop .inv .0)
+      (high-fits (z .pre) (at-loop .loop .r) (omega arith) (at-rep-at .rep-at .ensures) F),
+  let at-if4 = c .before .before .before .before .before .before .before .before in
+      let at-power-holds = at-if4 .before in
+      let at-rep-at = at-power-holds .before .before .before in
+      let at-loop = at-rep-at .before .before .before in
+      let z = at-loop .before .before .before .before .before .before .before .before .before .before in
+      let a = z .args in
+      let T = now (a .words) in
+      let H = at-power-holds .power-holds .ensures (not-false (at-power-holds .power-holds .result) (at-if4 .if4 .left)) in
+      below-more (λ q. PowerHolds (a .s) T (now (a .rows)) (a .g) (repAtLevel (a .s) T (suc (a .g .top)) q)) (at-loop .loop .r) (at-loop .loop .inv .1)
+      (high-power (z .pre) (at-loop .loop .r) (omega arith) (at-rep-at .rep-at .ensures) H),
+  let at-claim = c .before .before .before .before .before in
+      let at-rep-at = at-claim .before .before .before .before .before .before .before in
+      let at-loop-test = at-rep-at .before .before in
+      let at-loop = at-loop-test .before in
+      let z = at-loop .before .before .before .before .before .before .before .before .before .before in
+      let C = at-claim .claim .ensures (not-false (at-claim .claim .result) (c .if5 .left)) in
+      claims-found (high-at (z .pre) (at-loop .loop .r) (omega (arith, at-loop-test .loop-test)) (at-rep-at .rep-at .ensures) refl) (at-loop .loop .inv .2) C,
+  search needs,
+  search needs,
+)
 
-returns-2 : tie.Need-returns-2 Inv-loop μ-loop
-returns-2 c = λ e.
-    let lo = c .before in
-    record { each = λ r l. lo .loop .inv r (omega arith) }
+same-length-7 : tie.Need-same-length-7 Inv-loop μ-loop
+same-length-7 c =
+    let at-loop = c .before in
+    at-loop .loop .inv .3
+
+same-length-8 : tie.Need-same-length-8 Inv-loop μ-loop
+same-length-8 c =
+    let at-loop = c .before in
+    at-loop .loop .inv .4
+
+returns-6 : tie.Need-returns-6 Inv-loop μ-loop
+returns-6 c =
+    let at-loop = c .before in
+    let z = at-loop .before .before .before .before .before .before .before .before .before .before in
+    λ e.
+    let l = at-loop .loop in
+    record {
+      each = λ r h. l .inv .0 r (omega arith);
+      powers = λ r h. l .inv .1 r (omega arith);
+      unshared = claims-all (l .inv .2) (omega (arith, z .pre .high .counts));
+    }
 
 pub level-compares-spec : {M : Type 1} → statement M
 level-compares-spec =
@@ -74,12 +185,27 @@ level-compares-spec =
     (tie.spec
     Inv-loop
     μ-loop
+    returns
+    div-part
+    returns-2
     loop-holds
     add-rep-at
     rep-at-requires
     rep-fits-requires
-    returns
+    same-length
+    same-length-2
+    returns-3
+    power-holds-requires
+    same-length-3
+    same-length-4
+    returns-4
+    claim-requires
+    same-length-5
+    same-length-6
+    returns-5
     add-r
     loop-less
     loop-again
-    returns-2)
+    same-length-7
+    same-length-8
+    returns-6)

@@ -1,93 +1,125 @@
 -- `upper_levels_fit` goes from level to level.
 use borrow.Author.Needs.{needs}
 use borrow.Author.Tests.{not-false}
-use mathlib.Core.Path.{_∙_, ap}
+use mathlib.Core.Path.{_∙_, ap, subst}
 use mathlib.Core.Bool.{false≢true}
-use Prim.Native.Nat.{_-_}
+use Prim.Native.Nat.{suc, _-_}
 use native.Mathlib.Omega.{arith}
+use native.Mathlib.Numerals.{add-one}
 use lib.ListN.{getD}
 use denote.Ref.{now}
+use Rattle.commuting.specs.Commuting.{Quiet}
 use Rattle.check_fit.proofs.Levels.{Reaching, reaching-none, reaching-staged, reaching-more, reaching-all}
 use Rattle.check_fit.proofs.upper_levels_fit.Statement.{statement}
 use Rattle.check_fit.proofs.upper_levels_fit.Tie as tie
 
 abbrev Inv-loop : tie.InvT-loop
-Inv-loop words rows primes s firsts₀ many gens low₀ below₀ i₀ firsts low below i = Reaching s words rows primes firsts₀ firsts low below i
+Inv-loop words rows primes orders s firsts₀ many gens reach low₀ below₀ i₀ firsts low below i = Reaching s words rows primes orders firsts₀ firsts low below i
 
 abbrev μ-loop : tie.MeasureT-loop
-μ-loop words rows primes s firsts₀ many gens low₀ below₀ i₀ firsts low below i = gens - i
-
-loop-holds : tie.Need-loop-holds Inv-loop μ-loop
-loop-holds c =
-    let z = c .before .before in
-    reaching-none (z .pre)
-
-add-high : tie.Need-add-high Inv-loop μ-loop
-add-high c =
-    let lo = c .before in
-    let z = lo .before .before .before in
-    omega (arith, lo .loop .inv .listed .room, lo .loop .inv .size, z .good)
-
-add-first-lines : tie.Need-add-first-lines Inv-loop μ-loop
-add-first-lines c =
-    let z = c .before .before .before .before in
-    omega (arith, z .pre .whole .few)
-
-first-lines-requires : tie.Need-first-lines-requires Inv-loop μ-loop
-first-lines-requires c κs =
-    let lo = c .before .before in
-    let z = lo .before .before .before in
-    (z .pre .whole, z .pre .short, omega arith, omega arith, lo .loop .inv .listed .room)
-
-same-length : tie.Need-same-length Inv-loop μ-loop
-same-length c =
-    let fl = c .before .before .before in
-    let lo = fl .before .before .before in
-    fl .first-lines .ensures .size ∙ lo .loop .inv .size
-
-returns : tie.Need-returns Inv-loop μ-loop
-returns c =
-    let fl = c .before .before .before in
-    let lo = fl .before .before .before in
-    ((λ e. absurd (false≢true e)), fl .first-lines .ensures .size ∙ lo .loop .inv .size)
+μ-loop words rows primes orders s firsts₀ many gens reach low₀ below₀ i₀ firsts low below i = gens - i
 
 up-requires : tie.Need-up-requires Inv-loop μ-loop
 up-requires c κs = search needs
 
-mul-t19 : tie.Need-mul-t19 Inv-loop μ-loop
-mul-t19 c =
-    let z = c .before .before .before .before .before .before .before .before .before .before in
+reaches-requires : tie.Need-reaches-requires Inv-loop μ-loop
+reaches-requires c κs =
+    let z = c .before .before .before in
     omega (arith, c .up .ensures, z .pre .whole .few)
 
-element-copy-out-t15 : tie.Need-element-copy-out-t15 Inv-loop μ-loop
-element-copy-out-t15 c =
-    let z = c .before .before .before .before .before .before .before .before .before .before in
-    omega (arith, c .up .ensures, z .pre .whole .few)
+loop-holds : tie.Need-loop-holds Inv-loop μ-loop
+loop-holds c =
+    let z = c .before .before .before .before in
+    reaching-none (z .pre)
+
+add-high : tie.Need-add-high Inv-loop μ-loop
+add-high c =
+    let at-loop = c .before in
+    let z = at-loop .before .before .before .before .before in
+    omega (arith, at-loop .loop .inv .listed .room, at-loop .loop .inv .size, z .good)
+
+up-requires-2 : tie.Need-up-requires-2 Inv-loop μ-loop
+up-requires-2 c κs = search needs
+
+add-first-lines : tie.Need-add-first-lines Inv-loop μ-loop
+add-first-lines c =
+    let z = c .before .before .before .before .before .before .before in
+    omega (arith, z .pre .whole .few, c .up2 .ensures)
+
+add-first-lines-2 : tie.Need-add-first-lines-2 Inv-loop μ-loop
+add-first-lines-2 c =
+    let z = c .before .before .before .before .before .before .before in
+    omega (arith, z .pre .whole .few, c .up2 .ensures)
+
+mul-first-lines : tie.Need-mul-first-lines Inv-loop μ-loop
+mul-first-lines c =
+    let z = c .before .before .before .before .before .before .before in
+    omega (arith, z .pre .whole .few, c .up2 .ensures)
+
+element-copy-out-first-lines : tie.Need-element-copy-out-first-lines Inv-loop μ-loop
+element-copy-out-first-lines c =
+    let z = c .before .before .before .before .before .before .before in
+    omega (arith, z .pre .whole .few, c .up2 .ensures)
+
+first-lines-requires : tie.Need-first-lines-requires Inv-loop μ-loop
+first-lines-requires c κs =
+    let at-loop = c .before .before .before .before in
+    let z = at-loop .before .before .before .before .before in
+    (z .pre .whole, z .pre .short, omega arith, omega arith, at-loop .loop .inv .listed .room)
+
+same-length : tie.Need-same-length Inv-loop μ-loop
+same-length c =
+    let at-first-lines = c .before .before .before in
+    let at-loop = at-first-lines .before .before .before .before .before in
+    at-first-lines .first-lines .ensures .size ∙ at-loop .loop .inv .size
+
+returns : tie.Need-returns Inv-loop μ-loop
+returns c =
+    let at-first-lines = c .before .before .before in
+    let at-loop = at-first-lines .before .before .before .before .before in
+    ((λ e. absurd (false≢true e)), at-first-lines .first-lines .ensures .size ∙ at-loop .loop .inv .size)
+
+mul-t21 : tie.Need-mul-t21 Inv-loop μ-loop
+mul-t21 c =
+    let at-up2 = c .before .before .before .before .before .before in
+    let z = at-up2 .before .before .before .before .before .before .before in
+    omega (arith, at-up2 .up2 .ensures, z .pre .whole .few)
+
+element-copy-out-t25 : tie.Need-element-copy-out-t25 Inv-loop μ-loop
+element-copy-out-t25 c =
+    let at-up2 = c .before .before .before .before .before .before in
+    let z = at-up2 .before .before .before .before .before .before .before in
+    omega (arith, at-up2 .up2 .ensures, z .pre .whole .few)
 
 level-fits-requires : tie.Need-level-fits-requires Inv-loop μ-loop
 level-fits-requires c κs =
-    let up = c .before .before in
-    let if1 = up .before in
-    let fl = if1 .before .before .before in
-    let lo = fl .before .before .before in
-    let z = lo .before .before .before in
-    reaching-staged (z .pre) (lo .loop .inv) (omega arith) (fl .first-lines .ensures) (if1 .if1 .left) (getD (now (z .args .primes)) (up .up .result) 0)
+    let at-if1 = c .before .before .before in
+    let at-first-lines = at-if1 .before .before .before in
+    let at-up2 = at-first-lines .before .before .before in
+    let at-loop = at-up2 .before .before in
+    let at-reaches = at-loop .before in
+    let at-up = at-reaches .before in
+    let z = at-up .before .before .before in (
+      reaching-staged (z .pre) (at-loop .loop .inv) (omega arith) (at-first-lines .first-lines .ensures) (at-if1 .if1 .left)
+          (getD (now (z .args .primes)) (at-up2 .up2 .result) 0),
+      subst (λ n. Quiet n (now (z .args .rows)) (at-reaches .reaches .result)) (at-up .up .ensures) (at-reaches .reaches .ensures),
+    )
 
 same-length-2 : tie.Need-same-length-2 Inv-loop μ-loop
 same-length-2 c =
-    let fl = c .before .before .before .before .before .before .before .before in
-    let lo = fl .before .before .before in
-    fl .first-lines .ensures .size ∙ lo .loop .inv .size
+    let at-first-lines = c .before .before .before .before .before .before .before .before in
+    let at-loop = at-first-lines .before .before .before .before .before in
+    at-first-lines .first-lines .ensures .size ∙ at-loop .loop .inv .size
 
 returns-2 : tie.Need-returns-2 Inv-loop μ-loop
 returns-2 c =
-    let fl = c .before .before .before .before .before .before .before .before in
-    let lo = fl .before .before .before in
-    ((λ e. absurd (false≢true e)), fl .first-lines .ensures .size ∙ lo .loop .inv .size)
+    let at-first-lines = c .before .before .before .before .before .before .before .before in
+    let at-loop = at-first-lines .before .before .before .before .before in
+    ((λ e. absurd (false≢true e)), at-first-lines .first-lines .ensures .size ∙ at-loop .loop .inv .size)
 
 add-i : tie.Need-add-i Inv-loop μ-loop
 add-i c =
-    let z = c .before .before .before .before .before .before .before .before .before .before .before .before .before .before in
+    let z = c .before .before .before .before .before .before .before .before .before .before .before .before .before .before .before .before .before .before in
     omega (arith, z .pre .whole .few)
 
 loop-less : tie.Need-loop-less Inv-loop μ-loop
@@ -95,27 +127,29 @@ loop-less c = omega arith
 
 loop-again : tie.Need-loop-again Inv-loop μ-loop
 loop-again c =
-    let lf = c .before in
-    let up = lf .before .before .before in
-    let if1 = up .before in
-    let fl = if1 .before .before .before in
-    let lo = fl .before .before .before in
-    let z = lo .before .before .before in
+    let at-level-fits = c .before in
+    let at-if1 = at-level-fits .before .before .before .before in
+    let at-first-lines = at-if1 .before .before .before in
+    let at-up2 = at-first-lines .before .before .before in
+    let at-loop = at-up2 .before .before in
+    let z = at-loop .before .before .before .before .before in
     let primes = now (z .args .primes) in
-    reaching-more (z .pre) (lo .loop .inv) (omega arith) (fl .first-lines .ensures) (if1 .if1 .left) (getD primes (up .up .result) 0)
-    (ap (λ k. getD primes k 0) (up .up .ensures))
-    (lf .level-fits .ensures (not-false (lf .level-fits .result) (c .if2 .left)))
+    let orders = now (z .args .orders) in
+    reaching-more (z .pre) (at-loop .loop .inv) (omega arith) (at-first-lines .first-lines .ensures) (at-if1 .if1 .left)
+    (getD primes (at-up2 .up2 .result) 0)
+    (ap (λ k. getD primes k 0) (at-up2 .up2 .ensures)) (ap (λ k. getD orders k 0) (add-one (at-up2 .up2 .result) ∙ ap suc (at-up2 .up2 .ensures)))
+    (at-level-fits .level-fits .ensures (not-false (at-level-fits .level-fits .result) (c .if2 .left)))
 
 same-length-3 : tie.Need-same-length-3 Inv-loop μ-loop
 same-length-3 c =
-    let lo = c .before in
-    lo .loop .inv .size
+    let at-loop = c .before in
+    at-loop .loop .inv .size
 
 returns-3 : tie.Need-returns-3 Inv-loop μ-loop
 returns-3 c =
-    let lo = c .before in
-    let z = lo .before .before .before in
-    ((λ e. reaching-all (z .pre) (lo .loop .inv) (omega arith)), lo .loop .inv .size)
+    let at-loop = c .before in
+    let z = at-loop .before .before .before .before .before in
+    ((λ e. reaching-all (z .pre) (at-loop .loop .inv) (omega arith)), at-loop .loop .inv .size)
 
 pub upper-levels-fit-spec : {M : Type 1} → statement M
 upper-levels-fit-spec =
@@ -123,15 +157,20 @@ upper-levels-fit-spec =
     (tie.spec
     Inv-loop
     μ-loop
+    up-requires
+    reaches-requires
     loop-holds
     add-high
+    up-requires-2
     add-first-lines
+    add-first-lines-2
+    mul-first-lines
+    element-copy-out-first-lines
     first-lines-requires
     same-length
     returns
-    up-requires
-    mul-t19
-    element-copy-out-t15
+    mul-t21
+    element-copy-out-t25
     level-fits-requires
     same-length-2
     returns-2

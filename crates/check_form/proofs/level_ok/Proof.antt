@@ -6,13 +6,13 @@ use lib.ListN.{length}
 use borrow.Author.Tests.{not-true, not-false}
 use denote.Ref.{now}
 use Rattle.definitions.specs.Table.{levelAt}
-use Rattle.check_form.proofs.Form.{Reading, reading-first, reading-next, reading-follows, reading-fits, reading-fails, reading-last}
+use Rattle.check_form.proofs.Form.{ReadUpTo, reading-first, reading-next, reading-follows, reading-fits, reading-fails, reading-last}
 use Rattle.check_form.proofs.Form.{over-there, over-some}
 use Rattle.check_form.proofs.level_ok.Statement.{statement}
 use Rattle.check_form.proofs.level_ok.Tie as tie
 
 abbrev Inv-loop : tie.InvT-loop
-Inv-loop words s i low many last near d₀ r₀ d r = (r ≤ last) × Reading s words i r d
+Inv-loop words s i low many last near d₀ r₀ d r = (r ≤ last) × ReadUpTo s words i r d
 
 abbrev μ-loop : tie.MeasureT-loop
 μ-loop words s i low many last near d₀ r₀ d r = last - r

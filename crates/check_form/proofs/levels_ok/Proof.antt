@@ -6,13 +6,13 @@ use borrow.Author.Tests.{not-true, not-false}
 use denote.Ref.{now}
 use native.Mathlib.Numerals.{add-one}
 use Rattle.numbers.proofs.Tested.{Tested, tested-none, tested-more, tested-all, tested-fails}
-use Rattle.check_form.specs.Form.{levelOk, Over}
+use Rattle.check_form.specs.Form.{levelOk, LevelOver}
 use Rattle.check_form.proofs.Form.{over-first, over-next}
 use Rattle.check_form.proofs.levels_ok.Statement.{statement}
 use Rattle.check_form.proofs.levels_ok.Tie as tie
 
 abbrev Inv-loop : tie.InvT-loop
-Inv-loop words s low₀ i₀ low i = Over s words i low × Tested (levelOk (s .gens) (s .m) words) i
+Inv-loop words s low₀ i₀ low i = LevelOver s words i low × Tested (levelOk (s .gens) (s .m) words) i
 
 abbrev μ-loop : tie.MeasureT-loop
 μ-loop words s low₀ i₀ low i = s .gens - i
@@ -60,7 +60,7 @@ loop-again c =
     let count-of = c .before .before .count-of in
     let loop = k .before .before .loop in
     let next = over-next (a .args .s) (now (a .args .words)) (a .pre) (loop .i) (count-of .result) (k .if1 .taken) (count-of .ensures) in (
-      subst (λ k. Over (a .args .s) (now (a .args .words)) k (count-of .result)) (sym (add-one (loop .i))) next,
+      subst (λ k. LevelOver (a .args .s) (now (a .args .words)) k (count-of .result)) (sym (add-one (loop .i))) next,
       tested-more (loop .inv .1) (sym (level-ok .ensures) ∙ not-false (level-ok .result) (c .if2 .left)),
     )
 

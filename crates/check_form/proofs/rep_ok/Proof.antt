@@ -3,7 +3,7 @@ use mathlib.Core.Path.{sym, _∙_}
 use native.Mathlib.Omega.{arith}
 use borrow.Author.Tests.{not-true, not-false}
 use denote.Ref.{now}
-use Rattle.level.proofs.Laws.{matrix-inside}
+use Rattle.level.proofs.Columns.{matrix-inside}
 use Rattle.check_form.proofs.Form.{body-matrices, body-blocks, body-refs, body-targets}
 use Rattle.check_form.proofs.rep_ok.Statement.{statement}
 use Rattle.check_form.proofs.rep_ok.Tie as tie

@@ -7,7 +7,7 @@ use denote.Ref.{now}
 use Rattle.definitions.specs.Lists.{allBelow}
 use Rattle.numbers.proofs.Tested.{Tested, tested-none, tested-more, tested-all, tested-fails}
 use Rattle.heads.specs.Walk.{matrixHeads}
-use Rattle.level.proofs.Laws.{matrix-inside}
+use Rattle.level.proofs.Columns.{matrix-inside}
 use Rattle.check_heads.proofs.rep_heads.Statement.{statement}
 use Rattle.check_heads.proofs.rep_heads.Tie as tie
 

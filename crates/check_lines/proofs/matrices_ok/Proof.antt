@@ -6,7 +6,7 @@ use borrow.Author.Tests.{not-true, not-false}
 use Rattle.definitions.specs.Monomial.{valid}
 use Rattle.numbers.proofs.Tested.{Tested, tested-none, tested-more, tested-all, tested-fails}
 use Rattle.level.specs.Stored.{generatorIn}
-use Rattle.level.proofs.Laws.{matrix-inside}
+use Rattle.level.proofs.Columns.{matrix-inside}
 use Rattle.check_lines.proofs.matrices_ok.Statement.{statement}
 use Rattle.check_lines.proofs.matrices_ok.Tie as tie
 

@@ -4,7 +4,7 @@ use Prim.Native.Nat.{_-_}
 use native.Mathlib.Omega.{arith}
 use borrow.Author.Tests.{not-true, not-false}
 use Rattle.numbers.proofs.Tested.{Tested, tested-none, tested-more, tested-all, tested-fails}
-use Rattle.level.proofs.Laws.{matrix-inside}
+use Rattle.level.proofs.Columns.{matrix-inside}
 use Rattle.check_lines.specs.Lines.{refsAs}
 use Rattle.check_lines.proofs.refs_equal.Statement.{statement}
 use Rattle.check_lines.proofs.refs_equal.Tie as tie

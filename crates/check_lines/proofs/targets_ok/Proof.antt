@@ -7,7 +7,7 @@ use borrow.Author.Tests.{not-true, not-false}
 use denote.Ref.{now}
 use Rattle.numbers.proofs.Tested.{Tested, tested-more, tested-all, tested-fails}
 use mathlib.Core.Bool.{_||_}
-use Rattle.level.proofs.Laws.{matrix-inside}
+use Rattle.level.proofs.Columns.{matrix-inside}
 use Rattle.check_lines.specs.Lines.{targetOk}
 use Rattle.check_lines.proofs.Lines.{above-none, above-is}
 use Rattle.check_lines.proofs.targets_ok.Statement.{statement}

@@ -39,7 +39,7 @@ loop-holds c = (c .found .ensures, passed-none)
 holds-requires : tie.Need-holds-requires Inv-loop μ-loop
 holds-requires c κs =
     let (P, posed) = c .before .before .before .before .pre .0 in
-    record { P = P; formed = posed .formed; r = c .loop .r; found = c .loop .inv .0 }
+    record { presented = P; formed = posed .formed; r = c .loop .r; found = c .loop .inv .0 }
 
 returns : tie.Need-returns Inv-loop μ-loop
 returns c =

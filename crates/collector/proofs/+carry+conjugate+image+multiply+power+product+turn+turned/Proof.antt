@@ -10,9 +10,9 @@ use lib.ListN.{length}
 use denote.Ref.{now}
 use Rattle.definitions.specs.Presentation.{maxGenerators}
 use Rattle.rows.specs.Rows.{Small, Top}
-use Rattle.rows.proofs.Laws.{small-below, ready-below, prime-fits}
+use Rattle.rows.proofs.Forms.{small-below, ready-below, prime-fits}
 use Rattle.rows.proofs.Parts.{kept-all, mixed-kept}
-use Rattle.commuting.specs.Commuting.{Moved, Reach}
+use Rattle.commuting.specs.Commuting.{KeepsFrom, Reach}
 use Rattle.commuting.proofs.Skips.{quiet-below, moved-reach}
 use Rattle.collector.specs.Products.{Product, Power}
 use Rattle.collector.proofs.Steps.{Turning, turning-start, turning-more, turned-done, turned-fixed, turned-same}
@@ -232,7 +232,7 @@ conjugate-returns t c =
     let k = z .args .k in
     let j = z .args .j in
     let x = z .args .t6 in
-    conjugate-none j ps ws x k (z .pre .1 .2) (subst (Moved ws k j x) (c .if1 .taken) (c .before .moved .ensures)) (z .pre .1 .3)
+    conjugate-none j ps ws x k (z .pre .1 .2) (subst (KeepsFrom ws k j x) (c .if1 .taken) (c .before .moved .ensures)) (z .pre .1 .3)
 
 conjugate-sub-l : (t : ℕ) → conjugate-lts.Need-sub-l (conjugate-claims t) (conjugate-at t) conjugate.Post
 conjugate-sub-l t c = search needs

@@ -3,7 +3,7 @@ use mathlib.Core.Path.{subst}
 use lib.ListN.{set, replicate}
 use Rattle.definitions.specs.Presentation.{maxGenerators}
 use Rattle.rows.specs.Rows.{Single}
-use Rattle.rows.proofs.Laws.{single-row}
+use Rattle.rows.proofs.Forms.{single-row}
 use borrow.Author.Needs.{needs}
 use Rattle.collector.proofs.multiple.Statement.{statement}
 use Rattle.collector.proofs.multiple.Tie as tie

@@ -8,13 +8,13 @@ use lib.ListN.{getD}
 use borrow.Author.Tests.{not-false}
 use denote.Ref.{now}
 use Rattle.definitions.specs.Presentation.{maxGenerators}
-use Rattle.commuting.specs.Commuting.{Moved}
+use Rattle.commuting.specs.Commuting.{KeepsFrom}
 use Rattle.commuting.proofs.Skips.{moved-reach, moved-all, moved-more}
 use Rattle.commuting.proofs.moved.Statement.{statement}
 use Rattle.commuting.proofs.moved.Tie as tie
 
 abbrev Inv-loop : tie.InvT-loop
-Inv-loop words reach k j x first m₀ m = (k ≤ j) × (j < maxGenerators) × (m ≤ k) × Moved words k j x m
+Inv-loop words reach k j x first m₀ m = (k ≤ j) × (j < maxGenerators) × (m ≤ k) × KeepsFrom words k j x m
 
 abbrev μ-loop : tie.MeasureT-loop
 μ-loop words reach k j x first m₀ m = m
@@ -35,8 +35,8 @@ loop-holds c =
       search needs,
       search needs,
       ⊎-elim (λ w. omega arith) (λ w. omega arith) (c .if1 .came),
-      ⊎-elim (λ w. subst (Moved ws k j x) (sym (w .1)) (moved-reach ws j k (getD (now (z .args .reach)) j 0) x (search needs) (omega (arith, w .0 .taken)) (z .pre .2)))
-          (λ w. subst (Moved ws k j x) (sym (w .1)) (moved-all ws j k x)) (c .if1 .came),
+      ⊎-elim (λ w. subst (KeepsFrom ws k j x) (sym (w .1)) (moved-reach ws j k (getD (now (z .args .reach)) j 0) x (search needs) (omega (arith, w .0 .taken)) (z .pre .2)))
+          (λ w. subst (KeepsFrom ws k j x) (sym (w .1)) (moved-all ws j k x)) (c .if1 .came),
     )
 
 sub-stays : tie.Need-sub-stays Inv-loop μ-loop
@@ -73,7 +73,7 @@ returns-2 : tie.Need-returns-2 Inv-loop μ-loop
 returns-2 c =
     let z = c .before .before .before .before in
     let e : c .before .loop .m ≡ 0 = omega arith in
-    subst (Moved (now (z .args .words)) (z .args .k) (z .args .j) (z .args .t5)) e (c .before .loop .inv .3)
+    subst (KeepsFrom (now (z .args .words)) (z .args .k) (z .args .j) (z .args .t5)) e (c .before .loop .inv .3)
 
 pub moved-spec : {M : Type 1} → statement M
 moved-spec =

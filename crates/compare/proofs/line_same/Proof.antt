@@ -1,7 +1,8 @@
--- `line_same` compares the reference, the row and the exponent.
+-- `line_same` compares the reference, then the row and the exponent at once.
 use borrow.Author.Needs.{needs}
 use borrow.Author.Tests.{eqb-true}
 use mathlib.Core.Path.{sym, _∙_}
+use native.Mathlib.Omega.{arith}
 use denote.Ref.{now}
 use Rattle.compare.proofs.Shifted.{never, line-same}
 use Rattle.compare.proofs.line_same.Statement.{statement}
@@ -13,26 +14,34 @@ word-at-requires c κs = search needs
 returns : tie.Need-returns
 returns c = never
 
-entry-at-requires : tie.Need-entry-at-requires
-entry-at-requires c κs = search needs
+two-at-requires : tie.Need-two-at-requires
+two-at-requires c κs =
+    let z = c .before .before .before in
+    (z .pre .0, omega arith)
 
-entry-at-requires-2 : tie.Need-entry-at-requires-2
-entry-at-requires-2 c κs = search needs
+two-at-requires-2 : tie.Need-two-at-requires-2
+two-at-requires-2 c κs =
+    let z = c .before .before .before .before in
+    (z .pre .1, omega arith)
 
 returns-2 : tie.Need-returns-2
-returns-2 c = never
-
-returns-3 : tie.Need-returns-3
-returns-3 c = λ e.
-    let if2 = c .before .before in
-    let ea2 = if2 .before .before .before in
-    let ea = ea2 .before in
-    let if1 = ea .before in
-    let wa = if1 .before in
-    let z = wa .before .before in
+returns-2 c =
+    let at-two-at = c .before in
+    let at-if1 = at-two-at .before in
+    let at-word-at = at-if1 .before in
+    let z = at-word-at .before .before in
+    λ e.
     let a = z .args in
-    line-same (now (a .words)) (a .at) (a .src) (a .x) (ea .entry-at .result) (ea2 .entry-at2 .result)
-    (sym (wa .word-at .ensures) ∙ if1 .if1 .left) (ea .entry-at .ensures) (ea2 .entry-at2 .ensures) (if2 .if2 .left) (eqb-true _ _ e)
+    line-same (now (a .words)) (a .at) (a .src) (a .x) (at-two-at .two-at .result) (c .two-at2 .result)
+    (sym (at-word-at .word-at .ensures) ∙ at-if1 .if1 .left) (at-two-at .two-at .ensures) (c .two-at2 .ensures)
+    (eqb-true (at-two-at .two-at .result) (c .two-at2 .result) e)
 
 pub line-same-spec : {M : Type 1} → statement M
-line-same-spec = tie.close (tie.spec word-at-requires returns entry-at-requires entry-at-requires-2 returns-2 returns-3)
+line-same-spec =
+    tie.close
+    (tie.spec
+    word-at-requires
+    returns
+    two-at-requires
+    two-at-requires-2
+    returns-2)

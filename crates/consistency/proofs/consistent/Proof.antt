@@ -8,16 +8,16 @@ use denote.Ref.{now}
 use borrow.Author.Tests.{not-true, not-false}
 use Rattle.definitions.specs.Lists.{allBelow}
 use Rattle.definitions.specs.Consistency.{levelTest}
-use Rattle.consistency.specs.Answers.{Answer}
+use Rattle.consistency.specs.Answers.{TestAnswer}
 use Rattle.commuting.proofs.Skips.{quiet-below, central-below}
-use Rattle.rows.proofs.Laws.{ready-below}
+use Rattle.rows.proofs.Forms.{ready-below}
 use Rattle.consistency.proofs.Answers.{answer-none, answer-more, answer-fails}
 use Rattle.consistency.proofs.Relations.{decides}
 use Rattle.consistency.proofs.consistent.Statement.{statement}
 use Rattle.consistency.proofs.consistent.Tie as tie
 
 abbrev Inv-loop : tie.InvT-loop
-Inv-loop primes words n reach rise i₀ i = (i ≤ n) × Answer n primes words (λ P. allBelow i (levelTest P)) true
+Inv-loop primes words n reach rise i₀ i = (i ≤ n) × TestAnswer n primes words (λ P. allBelow i (levelTest P)) true
 
 abbrev μ-loop : tie.MeasureT-loop
 μ-loop primes words n reach rise i₀ i = n - i
@@ -77,7 +77,7 @@ returns-2 c =
     let n = z .args .n in
     let l = c .before .loop in
     let e : l .i ≡ n = omega arith in
-    decides n ps ws true (subst (λ i. Answer n ps ws (λ P. allBelow i (levelTest P)) true) e (l .inv .1))
+    decides n ps ws true (subst (λ i. TestAnswer n ps ws (λ P. allBelow i (levelTest P)) true) e (l .inv .1))
 
 pub consistent-spec : {M : Type 1} → statement M
 consistent-spec =

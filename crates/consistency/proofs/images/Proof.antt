@@ -6,7 +6,7 @@ use lib.ListN.{length, length-set}
 use denote.Ref.{now}
 use Rattle.definitions.specs.Presentation.{maxGenerators}
 use Rattle.consistency.specs.Images.{Images}
-use Rattle.rows.proofs.Laws.{ready-below, small-generator}
+use Rattle.rows.proofs.Forms.{ready-below, small-generator}
 use Rattle.consistency.proofs.Values.{images-none, images-more}
 use borrow.Author.Needs.{needs}
 use Rattle.consistency.proofs.images.Statement.{statement}

@@ -3,7 +3,7 @@ use Prim.Native.Nat.{suc}
 use native.Mathlib.Omega.{arith}
 use denote.Ref.{now}
 use Rattle.commuting.proofs.Skips.{quiet-below}
-use Rattle.rows.proofs.Laws.{ready-below, small-generator}
+use Rattle.rows.proofs.Forms.{ready-below, small-generator}
 use Rattle.consistency.proofs.Answers.{word-small, inner-at}
 use borrow.Author.Needs.{needs}
 use Rattle.consistency.proofs.is_inner_at.Statement.{statement}

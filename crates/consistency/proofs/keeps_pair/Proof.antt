@@ -18,7 +18,7 @@ returns c =
     let ps = now (z .args .primes) in
     let ws = now (z .args .words) in
     let i = z .args .i in
-    commutator-low i ps ws (z .args .k) (omega (arith, z .pre .4, z .pre .5)) (z .pre .2 .at (z .args .k) (omega (arith, z .pre .4, z .pre .5)) .at i (c .if1 .taken)) (z .args .j) (z .pre .4) (z .pre .5)
+    commutator-low i ps ws (z .args .k) (omega (arith, z .pre .1 .1, z .pre .1 .2)) (z .pre .0 .2 .at (z .args .k) (omega (arith, z .pre .1 .1, z .pre .1 .2)) .at i (c .if1 .taken)) (z .args .j) (z .pre .1 .1) (z .pre .1 .2)
 
 mul-if2 : tie.Need-mul-if2
 mul-if2 c = search needs
@@ -32,7 +32,7 @@ returns-2 c =
     let ps = now (z .args .primes) in
     let ws = now (z .args .words) in
     let i = z .args .i in
-    commutator-high i ps ws (z .args .j) (z .pre .5) (z .pre .2 .at (z .args .j) (omega (arith, z .pre .5)) .at i (c .if2 .taken)) (z .args .k) (z .pre .4)
+    commutator-high i ps ws (z .args .j) (z .pre .1 .2) (z .pre .0 .2 .at (z .args .j) (omega (arith, z .pre .1 .2)) .at i (c .if2 .taken)) (z .args .k) (z .pre .1 .1)
 
 keeps-commutator-requires : tie.Need-keeps-commutator-requires
 keeps-commutator-requires c κs = search needs

@@ -3,7 +3,7 @@ use Prim.Native.Nat.{suc}
 use native.Mathlib.Omega.{arith}
 use denote.Ref.{now}
 use Rattle.commuting.proofs.Skips.{quiet-below}
-use Rattle.rows.proofs.Laws.{ready-below}
+use Rattle.rows.proofs.Forms.{ready-below}
 use Rattle.consistency.proofs.Answers.{power-kept}
 use borrow.Author.Needs.{needs}
 use Rattle.consistency.proofs.keeps_power.Statement.{statement}

@@ -5,7 +5,7 @@ use native.Mathlib.Omega.{arith}
 use denote.Ref.{now}
 use Rattle.consistency.specs.Images.{Value}
 use Rattle.commuting.proofs.Skips.{quiet-below}
-use Rattle.rows.proofs.Laws.{ready-below}
+use Rattle.rows.proofs.Forms.{ready-below}
 use Rattle.consistency.proofs.Values.{value-none, value-more}
 use borrow.Author.Needs.{needs}
 use Rattle.consistency.proofs.value.Statement.{statement}

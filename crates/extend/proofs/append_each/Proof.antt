@@ -1,40 +1,38 @@
 -- `append_each` appends the extensions one behind the other.
-use mathlib.Core.Path.{_≡_, ap}
-use Prim.Native.Nat.{suc, _+_, _*_, _-_, _≤_, _<_}
+use mathlib.Core.Path.{_≡_, sym, ap, subst}
+use Prim.Native.Nat.{_*_, _-_, _≤_, _<_}
 use native.Mathlib.Omega.{arith}
-use lib.ListN.{length, take}
 use denote.Ref.{now}
 use borrow.Author.Needs.{needs}
-use Rattle.survey.specs.Below.{degOf, sourceIn}
 use Rattle.definitions.specs.Lists.{blocks}
-use Rattle.definitions.specs.Table.{repWords}
-use Rattle.formulas.specs.Formulas.{extensionAt}
 use Rattle.text.proofs.Writing.{wrote-as}
-use Rattle.lines.proofs.Appending.{Going, going-none, going-more, going-room}
-use Rattle.extend.specs.Extending.{extensionsWords}
-use Rattle.extend.proofs.Laws.{rep-length, extensions-length}
+use Rattle.lines.proofs.Appending.{Going, going-more, going-even, space-none}
+use Rattle.survey.specs.Below.{lowOf}
+use Rattle.extend.specs.Extending.{Extends, extensionWords, extensionsWords}
+use Rattle.extend.proofs.Extensions.{extension-length}
 use Rattle.extend.proofs.append_each.Statement.{statement}
 use Rattle.extend.proofs.append_each.Tie as tie
 
 abbrev Inv-loop : tie.InvT-loop
-Inv-loop words₀ rows to by f o at rep r pos₀ p k₀ words pos k = (k ≤ p) × (p ≡ f .p) × Going (f .end) (λ j. repWords (f .gens) (suc (f .top)) (rep + j) (extensionAt (sourceIn f (take (8 * f .end) words₀) rows) r j)) words₀ at k words pos
+Inv-loop words₀ rows targets f o at pos₀ p k₀ words pos k =
+    (k ≤ p) × (p ≡ f .p) × Going (f .end) (extensionWords f (lowOf f words₀) rows (o .rep)) words₀ at k words pos
 
 abbrev μ-loop : tie.MeasureT-loop
-μ-loop words₀ rows to by f o at rep r pos₀ p k₀ words pos k = p - k
+μ-loop words₀ rows targets f o at pos₀ p k₀ words pos k = p - k
 
 loop-holds : tie.Need-loop-holds Inv-loop μ-loop
-loop-holds c = let z = c .before .before .before in (search needs, search needs, going-none (z .pre .3) (omega (arith, z .pre .4)))
-
-add-append-extension : tie.Need-add-append-extension Inv-loop μ-loop
-add-append-extension c = let z = c .before .before .before .before .before .before in omega (arith, z .pre .2, z .pre .0 .stands .prime .1)
+loop-holds c = let z = c .before .before in (search needs, search needs, space-none (z .pre .1))
 
 append-extension-requires : tie.Need-append-extension-requires Inv-loop μ-loop
-append-extension-requires c κs = let z = c .before .before .before .before .before .before in
+append-extension-requires c κs = let z = c .before .before .before .before .before in
     let l = c .before .before .loop in
+    let f = z .args .f in
+    let E = z .pre .0 in
     let G = l .inv .2 in
-    let less-than : l .k < z .args .f .p = search needs in
-    let room : 8 * l .pos + 8 * (z .args .f .gens * degOf (z .args .f) (take (8 * z .args .f .end) (now (z .args .words))) (z .args .r)) ≤ length (l .words) = omega (arith, going-room (z .args .f .p) G less-than (omega (arith, extensions-length (z .args .f) (take (8 * z .args .f .end) (now (z .args .words))) (now (z .args .rows)) (z .args .rep) (z .args .r), z .pre .4)), rep-length (z .args .f) (take (8 * z .args .f .end) (now (z .args .words))) (now (z .args .rows)) (z .args .rep + l .k) (z .args .r) (l .k)) in
-    rw (G .below) (z .pre .0, z .pre .1, less-than, G .from, room)
+    let less : l .k < f .p = search needs in (
+      (subst (λ W. Extends f W (now (z .args .rows)) (now (z .args .targets)) (z .args .o)) (sym (G .below)) E, less),
+      going-even (f .p) (8 * (f .gens * z .args .o .source .deg)) (extension-length E) G less (z .pre .1 .room),
+    )
 
 add-k : tie.Need-add-k Inv-loop μ-loop
 add-k c = search needs
@@ -51,10 +49,12 @@ same-length c = c .before .loop .inv .2 .len
 
 returns : tie.Need-returns Inv-loop μ-loop
 unfolding extensionsWords
-returns c = let z = c .before .before .before .before .before in
+returns c = let z = c .before .before .before .before in
     let l = c .before .loop in
-    let e : l .k ≡ z .args .f .p = omega arith in
-    wrote-as (l .inv .2 .wrote) (ap (λ n. blocks n (λ j. repWords (z .args .f .gens) (suc (z .args .f .top)) (z .args .rep + j) (extensionAt (sourceIn (z .args .f) (take (8 * z .args .f .end) (now (z .args .words))) (now (z .args .rows))) (z .args .r) j))) e)
+    let f = z .args .f in
+    let e : l .k ≡ f .p = omega arith in
+    let W = lowOf f (now (z .args .words)) in
+    wrote-as (l .inv .2 .wrote) (ap (λ n. blocks n (extensionWords f W (now (z .args .rows)) (z .args .o .rep))) e)
 
 pub append-each-spec : {M : Type 1} → statement M
 append-each-spec =
@@ -63,7 +63,6 @@ append-each-spec =
     Inv-loop
     μ-loop
     loop-holds
-    add-append-extension
     append-extension-requires
     add-k
     loop-less

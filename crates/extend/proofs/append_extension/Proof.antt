@@ -1,14 +1,21 @@
--- `append_extension` goes by the degree.
-use mathlib.Core.Path.{sym, _∙_}
-use Rattle.survey.proofs.Level.{located-degree}
+-- `append_extension` appends the generators; where the degree is 1 it is written out.
+use mathlib.Core.Path.{_≡_, subst}
+use Prim.Native.Nat.{_+_, _*_, _≤_}
+use lib.ListN.{length}
+use denote.Ref.{now}
+use Rattle.survey.specs.Below.{lowOf}
+use Rattle.extend.specs.Extending.{Extends}
+use Rattle.extend.proofs.Extensions.{origin-single}
 use borrow.Author.Needs.{needs}
 use Rattle.extend.proofs.append_extension.Statement.{statement}
 use Rattle.extend.proofs.append_extension.Tie as tie
 
-append-singles-requires : tie.Need-append-singles-requires
-append-singles-requires c κs = let z = c .before .before .before .before .before .before .before in
-    let one = sym (located-degree (z .pre .1 .source-is)) ∙ c .before .if1 .taken in
-    (z .pre .0, z .pre .1, z .pre .2, z .pre .3, z .pre .4, one)
+append-generators-requires : tie.Need-append-generators-requires
+append-generators-requires c κs = let z = c .before .before .before .before .before .before in
+    let a = z .args in
+    let one : a .o .source .deg ≡ 1 = c .before .if1 .taken in
+    let E = subst (Extends (a .f) (lowOf (a .f) (now (a .words))) (now (a .rows)) (now (a .targets))) (origin-single (a .o) one) (z .pre .0 .0) in
+    ((E, z .pre .0 .1), record { from = z .pre .1 .from; room = subst (λ d. 8 * a .at + 8 * (a .f .gens * d) ≤ length (now (a .words))) one (z .pre .1 .room) })
 
 same-length : tie.Need-same-length
 same-length c = search needs
@@ -16,8 +23,8 @@ same-length c = search needs
 returns : tie.Need-returns
 returns c = search needs
 
-append-matrices-requires : tie.Need-append-matrices-requires
-append-matrices-requires c κs = c .before .before .before .before .before .before .before .pre
+append-generators-requires-2 : tie.Need-append-generators-requires-2
+append-generators-requires-2 c κs = search needs
 
 same-length-2 : tie.Need-same-length-2
 same-length-2 c = search needs
@@ -29,9 +36,4 @@ pub append-extension-spec : {M : Type 1} → statement M
 append-extension-spec =
     tie.close
     (tie.spec
-    append-singles-requires
-    same-length
-    returns
-    append-matrices-requires
-    same-length-2
-    returns-2)
+    append-generators-requires same-length returns append-generators-requires-2 same-length-2 returns-2)

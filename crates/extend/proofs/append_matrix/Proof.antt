@@ -1,109 +1,53 @@
 -- `append_matrix` appends the lines of one matrix of the level below, shifted.
-use mathlib.Core.Path.{refl, sym, ap, _∙_, subst}
-use Prim.Native.Nat.{suc, _*_, _≤_}
 use native.Mathlib.Omega.{arith}
-use native.Mathlib.Numerals.{add-one}
-use native.Mathlib.Nat.{le-refl}
-use lib.ListN.{take}
 use denote.Ref.{now}
 use Rattle.text.proofs.Writing.{wrote-as}
-use Rattle.level.specs.declared.Listed.{Listed}
-use Rattle.level.specs.Stored.{Holds, lineIn}
-use Rattle.survey.proofs.Level.{located-stored, located-line, located-degree}
-use Rattle.extend.proofs.Laws.{origin-below, origin-factor, reference-ready, reference-is, matrix-lines, factor-small}
+use Rattle.survey.specs.Below.{lowOf}
+use Rattle.survey.proofs.Level.{located-line}
+use Rattle.extend.proofs.Extensions.{piece-copied, piece-lines}
 use borrow.Author.Needs.{needs}
 use Rattle.extend.proofs.append_matrix.Statement.{statement}
 use Rattle.extend.proofs.append_matrix.Tie as tie
 
 factor-requires : tie.Need-factor-requires
-factor-requires c κs = let z = c .before .before .before in
-    let f = z .args .f in
-    let g = z .args .g in
-    let k = z .args .k in
-    let r = z .args .r in
-    let W = take (8 * f .end) (now (z .args .words)) in
-    let rows = now (z .args .rows) in
-    let L = z .pre .1 .source-is in
-    (z .pre .0 .stands .modulus .1, origin-below f W rows r (z .args .o) k (z .pre .1) (z .pre .0 .stands) (z .pre .2))
+factor-requires c κs = let z = c .before .before in
+    let C = z .pre .0 .0 in
+    (C .located .stands .modulus .1, C .factor-below (z .args .k) (z .pre .0 .1))
 
-reference-requires : tie.Need-reference-requires
-reference-requires c κs = let z = c .before .before .before .before in
-    let f = z .args .f in
-    let g = z .args .g in
-    let k = z .args .k in
-    let r = z .args .r in
-    let W = take (8 * f .end) (now (z .args .words)) in
-    let rows = now (z .args .rows) in
-    let L = z .pre .1 .source-is in
-    reference-ready f W rows (now (z .args .to)) (now (z .args .by)) r g k (z .pre .0) (z .pre .3) (z .pre .2)
+add-t12 : tie.Need-add-t12
+add-t12 c = omega (arith, c .before .before .before .before .pre .0 .0 .located .stands .gens)
+
+add-t13 : tie.Need-add-t13
+add-t13 c = let z = c .before .before .before .before .before in
+    let C = z .pre .0 .0 in
+    omega (arith, C .number-small, C .located .stands .prime, z .pre .0 .1)
+
+add-t14 : tie.Need-add-t14
+add-t14 c = let z = c .before .before .before .before .before in omega (arith, z .pre .0 .2, z .pre .0 .0 .located .stands .gens)
 
 matrix-line-requires : tie.Need-matrix-line-requires
-matrix-line-requires c κs = let z = c .before .before .before .before .before .before in
-    let f = z .args .f in
-    let g = z .args .g in
-    let k = z .args .k in
-    let r = z .args .r in
-    let W = take (8 * f .end) (now (z .args .words)) in
-    let rows = now (z .args .rows) in
-    let L = z .pre .1 .source-is in
-    located-line L g (omega (arith, z .pre .3))
-
-add-t17 : tie.Need-add-t17
-add-t17 c = search needs
-
-add-t18 : tie.Need-add-t18
-add-t18 c = search needs
+matrix-line-requires c κs = let z = c .before .before .before .before .before in
+    located-line (z .pre .0 .0 .located) (z .args .g) (omega (arith, z .pre .0 .2))
 
 append-block-requires : tie.Need-append-block-requires
-append-block-requires c κs = let factor′ = c .before .before .before .before .before .factor in
-    let z = c .before .before .before .before .before .before .before .before .before in
-    let f = z .args .f in
-    let g = z .args .g in
-    let k = z .args .k in
-    let r = z .args .r in
-    let W = take (8 * f .end) (now (z .args .words)) in
-    let rows = now (z .args .rows) in
-    let L = z .pre .1 .source-is in
-    let d = located-degree L in
-    let small : z .args .o .source .deg ≤ 65536 = subst (λ x. x ≤ 65536) (sym d) (factor-small (f .p) _ 65536 (z .pre .0 .stands .prime .0)
-    (z .pre .0 .stands .wide r (z .pre .0 .listed) .1)) in (
-      (factor′ .ensures .1, z .pre .4, omega (arith, d, z .pre .5), omega (arith, small), omega (arith, small)),
-      subst (λ a. Holds (f .m) W a (z .args .o .source .deg)) (sym (c .before .before .matrix-line .ensures)) (located-stored L (suc g)
-          (z .pre .3) .holds g (le-refl _)),
-    )
+append-block-requires c κs = let z = c .before .before .before .before .before .before .before in
+    let src = c .before .matrix-line .ensures in
+    let by = c .before .before .before .before .factor .ensures .1 in
+    (piece-copied (z .pre .0 .0) (z .args .g) (z .pre .0 .2) src by, z .pre .1)
 
 same-length : tie.Need-same-length
 same-length c = search needs
 
 returns : tie.Need-returns
-returns c = let matrix-line′ = c .before .before .before .before .before .matrix-line in
-    let reference′ = c .before .before .before .before .before .before .before .reference in
-    let factor′ = c .before .before .before .before .before .before .before .before .factor in
-    let z = c .before .before .before .before .before .before .before .before .before .before .before .before in
-    let f = z .args .f in
-    let g = z .args .g in
-    let k = z .args .k in
-    let r = z .args .r in
-    let W = take (8 * f .end) (now (z .args .words)) in
-    let rows = now (z .args .rows) in
-    let L = z .pre .1 .source-is in
-    let o = z .args .o in
-    let src = matrix-line′ .ensures ∙ ap (λ (E : Listed). lineIn E g) (L .is) in
-    let c′ = factor′ .ensures .0 ∙ origin-factor f W rows r o k (z .pre .1) g in
-    wrote-as (c .before .before .append-block .ensures) (matrix-lines f W rows _ (z .args .rep) r k g _ _ _ (add-one _) refl (located-degree L)
-    (add-one _)
-    (λ y. reference′ .ensures ∙ reference-is f W rows (now (z .args .to)) (now (z .args .by)) r (z .pre .0) g k y (z .pre .3))
-    (located-degree L) src c′)
+returns c = let made = c .before .before .before .before in
+    let z = made .before .before .before .before .before .before in
+    let a = z .args in
+    let src = made .matrix-line .ensures in
+    let by = made .before .before .before .factor .ensures .0 in
+    wrote-as (c .before .before .append-block .ensures) (piece-lines (a .f) (lowOf (a .f) (now (a .words))) (a .o) (a .k) (a .g) (a .x) src by)
 
 pub append-matrix-spec : {M : Type 1} → statement M
 append-matrix-spec =
     tie.close
     (tie.spec
-    factor-requires
-    reference-requires
-    matrix-line-requires
-    add-t17
-    add-t18
-    append-block-requires
-    same-length
-    returns)
+    factor-requires add-t12 add-t13 add-t14 matrix-line-requires append-block-requires same-length returns)

@@ -9,7 +9,7 @@ use Rattle.text.proofs.Writing.{wrote-as}
 use Rattle.lines.specs.Lines.{headLine}
 use Rattle.lines.proofs.Appending.{Going, going-none, going-more, going-line}
 use Rattle.first.specs.Roots.{rootLine, rootWords}
-use Rattle.first.proofs.Laws.{root-line, rootLine-length}
+use Rattle.first.proofs.Lines.{root-line, rootLine-length}
 use Rattle.first.proofs.append_root.Statement.{statement}
 use Rattle.first.proofs.append_root.Tie as tie
 

@@ -6,7 +6,7 @@ use native.Mathlib.Nat.{div-le-self}
 use borrow.Author.Needs.{needs}
 use Rattle.numbers.proofs.Bools.{cond-eq, cond-ne}
 use Rattle.first.specs.Roots.{rootExp}
-use Rattle.first.proofs.Laws.{product-fits}
+use Rattle.first.proofs.Lines.{product-fits}
 use Rattle.first.proofs.exponent.Statement.{statement}
 use Rattle.first.proofs.exponent.Tie as tie
 use Rattle.definitions.specs.Presentation.{maxModulus}

@@ -9,7 +9,7 @@ use Rattle.definitions.specs.Lists.{blocks}
 use Rattle.text.proofs.Writing.{wrote-as}
 use Rattle.lines.proofs.Appending.{Going, going-none, going-more, going-room}
 use Rattle.first.specs.Roots.{rootWords, firstWords}
-use Rattle.first.proofs.Laws.{rootWords-length, firstWords-length}
+use Rattle.first.proofs.Lines.{rootWords-length, firstWords-length}
 use Rattle.first.proofs.first_level.Statement.{statement}
 use Rattle.first.proofs.first_level.Tie as tie
 

@@ -8,7 +8,7 @@ use denote.Ref.{now}
 use borrow.Author.Needs.{needs}
 use Rattle.numbers.proofs.Bools.{cond-eq, cond-ne}
 use Rattle.first.specs.Roots.{rootRef}
-use Rattle.first.proofs.Laws.{word-read, product-fits}
+use Rattle.first.proofs.Lines.{word-read, product-fits}
 use Rattle.first.proofs.reference.Statement.{statement}
 use Rattle.first.proofs.reference.Tie as tie
 

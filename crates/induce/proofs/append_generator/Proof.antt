@@ -1,68 +1,107 @@
--- `append_generator`: below the one on top the blocks stay.
+-- `append_generator` finds scalars and reference, and appends.
 use mathlib.Core.Path.{sym}
-use Prim.Native.Nat.{_*_}
+use Prim.Native.Nat.{_≤_}
 use native.Mathlib.Omega.{arith}
-use lib.ListN.{take}
-use denote.Ref.{now}
 use lib.Seq.{length-take-le}
+use denote.Ref.{now}
 use Rattle.text.proofs.Writing.{wrote-as}
-use Rattle.survey.proofs.Level.{located-degree}
-use Rattle.induce.proofs.Parts.{stays}
+use Rattle.lines.proofs.Appending.{space-low}
+use Rattle.survey.specs.Below.{lowOf}
+use Rattle.induce.proofs.Generators.{stills-are, cells-are, scalars-small}
 use borrow.Author.Needs.{needs}
 use Rattle.induce.proofs.append_generator.Statement.{statement}
 use Rattle.induce.proofs.append_generator.Tie as tie
 
-mul-n : tie.Need-mul-n
-mul-n c = search needs
-
-slice-reshare-prefix-listed : tie.Need-slice-reshare-prefix-listed
-slice-reshare-prefix-listed c = search needs
-
-slice-aggregate-listed : tie.Need-slice-aggregate-listed
-slice-aggregate-listed c = let z = c .before .before .before .before .before .before .before .before in
-    sym (length-take-le _ (now (z .args .words)) (omega (arith, z .pre .2, z .pre .3)))
-
-listed-requires : tie.Need-listed-requires
-listed-requires c κs = let z = c .before .before .before .before .before .before .before .before in
-    (z .pre .0 .stands, z .pre .0 .lines, z .pre .0 .listed)
-
 append-below-requires : tie.Need-append-below-requires
-append-below-requires c κs = let listed′ = c .before .before .before .listed in
-    let z = c .before .before .before .before .before .before .before .before .before .before .before .before in
-    (z .pre .0 .stands, z .pre .0 .lines, z .pre .0 .listed, located-degree (listed′ .ensures), z .pre .0 .orbit-is, z .pre .1, z .pre .2, z .pre .3)
+append-below-requires c κs = let z = c .before .before .before .before .before .before .before in
+    (record { listing = record { rows = now (z .args .rows); known = z .pre .0 .0 }; degree = z .pre .1 .0; inside = z .pre .0 .1 }, z .pre .1 .1)
 
 same-length : tie.Need-same-length
 same-length c = search needs
 
-returns : tie.Need-returns
-returns c = let if1′ = c .before .before .before .before .if1 in
-    let z = c .before .before .before .before .before .before .before .before .before .before .before .before .before .before .before in
-    let W = take (8 * z .args .f .end) (now (z .args .words)) in
-    wrote-as (c .before .before .append-below .ensures) (stays (z .args .f) W (now (z .args .orbit)) (z .args .rep) (z .args .r) (z .args .g) (now
-    (z .args .shifts)) (now (z .args .scalars)) (z .args .x) (if1′ .taken))
-
-append-blocks-requires : tie.Need-append-blocks-requires
-append-blocks-requires c κs = let listed′ = c .before .before .before .listed in
-    let z = c .before .before .before .before .before .before .before .before .before .before .before .before in
-    (z .pre .0, located-degree (listed′ .ensures), z .pre .1, z .pre .2, z .pre .3)
-
 same-length-2 : tie.Need-same-length-2
 same-length-2 c = search needs
 
+returns : tie.Need-returns
+returns c = let s = c .before .before in
+    let z = s .before .before .before .before .before .before .before .before in
+    let a = z .args in
+    let are = stills-are (a .f) (lowOf (a .f) (now (a .words))) (now (a .rows)) (now (a .notes)) _ (a .i) (z .pre .0 .0) (a .g) in
+    (wrote-as (c .before .before .append-below .ensures) (are (s .before .before .before .if1 .taken) (z .pre .1 .0)), z .pre .0 .0)
+
+mul-n : tie.Need-mul-n
+mul-n c = let z = c .before .before .before .before .before .before in omega (arith, space-low (z .pre .1 .1))
+
+slice-reshare-prefix-induced-target : tie.Need-slice-reshare-prefix-induced-target
+slice-reshare-prefix-induced-target c = let z = c .before .before .before .before .before .before in space-low (z .pre .1 .1)
+
+slice-aggregate-induced-target : tie.Need-slice-aggregate-induced-target
+slice-aggregate-induced-target c = let z = c .before .before .before .before .before .before .before in
+    sym (length-take-le _ (now (z .args .words)) (space-low (z .pre .1 .1)))
+
+induced-target-requires : tie.Need-induced-target-requires
+induced-target-requires c κs = let z = c .before .before .before .before .before .before .before in
+    let I = z .pre .0 .0 in
+    ((now (z .args .rows), I .surveyed), I .leads .listed, z .pre .0 .1)
+
+slice-reshare-prefix-find-scalars : tie.Need-slice-reshare-prefix-find-scalars
+slice-reshare-prefix-find-scalars c = let z = c .before .before .before .before .before .before .before .before in space-low (z .pre .1 .1)
+
+slice-aggregate-find-scalars : tie.Need-slice-aggregate-find-scalars
+slice-aggregate-find-scalars c = let z = c .before .before .before .before .before .before .before .before .before in
+    sym (length-take-le _ (now (z .args .words)) (space-low (z .pre .1 .1)))
+
+find-scalars-requires : tie.Need-find-scalars-requires
+find-scalars-requires c κs = let s = c .before .before in
+    let z = s .before .before .before .before .before .before .before .before in
+    z .pre .0
+
+append-cells-requires : tie.Need-append-cells-requires
+append-cells-requires c κs = let s = c .before .before .before .before .before .before .before in
+    let z = s .before .before .before .before .before .before .before .before in
+    let a = z .args in
+    let E = c .before .before .before .before .find-scalars .ensures in
+    let small = scalars-small (a .f) (lowOf (a .f) (now (a .words))) (now (a .rows)) (now (a .notes)) _ (a .i) (E .0) (a .g) in (
+      record {
+        writing = record { listing = record { rows = now (a .rows); known = E .0 }; degree = z .pre .1 .0; inside = z .pre .0 .1 };
+        high = omega (arith, s .before .before .before .if1 .left);
+        scalars-below = λ above. small (E .1 above);
+      },
+      z .pre .1 .1,
+    )
+
+same-length-3 : tie.Need-same-length-3
+same-length-3 c = search needs
+
+same-length-4 : tie.Need-same-length-4
+same-length-4 c = search needs
+
 returns-2 : tie.Need-returns-2
-returns-2 c = search needs
+returns-2 c = let t = c .before .before .before .before .before .before .before in
+    let s = t .before .before .before in
+    let z = s .before .before .before .before .before .before .before .before in
+    let a = z .args in
+    let E = t .find-scalars .ensures in
+    let high : a .f .top ≤ a .g = omega (arith, s .before .before .before .if1 .left) in
+    let are = cells-are (a .f) (lowOf (a .f) (now (a .words))) (now (a .rows)) (now (a .notes)) _ (a .i) (E .0) (a .g) _ in
+    (wrote-as (c .before .before .append-cells .ensures) (are high (z .pre .0 .1) (z .pre .1 .0) (E .1) (s .induced-target .ensures)), E .0)
 
 pub append-generator-spec : {M : Type 1} → statement M
 append-generator-spec =
     tie.close
     (tie.spec
-    mul-n
-    slice-reshare-prefix-listed
-    slice-aggregate-listed
-    listed-requires
     append-below-requires
     same-length
-    returns
-    append-blocks-requires
     same-length-2
+    returns
+    mul-n
+    slice-reshare-prefix-induced-target
+    slice-aggregate-induced-target
+    induced-target-requires
+    slice-reshare-prefix-find-scalars
+    slice-aggregate-find-scalars
+    find-scalars-requires
+    append-cells-requires
+    same-length-3
+    same-length-4
     returns-2)

@@ -1,69 +1,68 @@
 -- `append_induction` appends its generators one behind the other.
-use mathlib.Core.Path.{_≡_, refl, sym, ap, _∙_}
-use Prim.Native.Nat.{suc, _+_, _*_, _-_, _≤_, _<_}
+use mathlib.Core.Path.{_≡_, refl, sym, ap, _∙_, subst}
+use Prim.Native.Nat.{_-_, _≤_, _<_}
 use native.Mathlib.Omega.{arith}
 use lib.ListN.{length}
-use denote.Ref.{now}
-use Rattle.survey.specs.Below.{degOf, sourceIn}
-use borrow.Author.Needs.{needs}
-use lib.ListN.{take}
 use lib.Seq.{length-take-le}
-use Rattle.text.proofs.Writing.{wrote-as}
+use denote.Ref.{now}
 use Rattle.definitions.specs.Lists.{blocks}
-use Rattle.definitions.specs.Table.{repWords}
-use Rattle.formulas.specs.Formulas.{inductionAt}
-use Rattle.lines.proofs.Appending.{Going, going-none, going-more, going-room}
-use Rattle.orbits.specs.Orbit.{Inducing}
-use Rattle.induce.specs.Inducing.{generatorWords}
-use Rattle.induce.proofs.Parts.{generator-length, induction-length, induction-words}
+use Rattle.text.proofs.Writing.{wrote-as}
+use Rattle.lines.proofs.Appending.{Going, going-more, going-even, space-none, space-low}
+use Rattle.survey.specs.Below.{lowOf}
+use Rattle.orbits.specs.Blocks.{Inducing}
+use Rattle.induce.specs.declared.Induction.{Induction}
+use Rattle.induce.specs.Inducing.{inducedWords}
+use Rattle.induce.proofs.Cells.{induced-length}
+use Rattle.induce.proofs.Generators.{induced-degree, induction-is, induction-room}
+use borrow.Author.Needs.{needs}
 use Rattle.induce.proofs.append_induction.Statement.{statement}
 use Rattle.induce.proofs.append_induction.Tie as tie
 
 abbrev Inv-loop : tie.InvT-loop
-Inv-loop words₀ first rows leaders places numbers shifts orbit c₀ f at r n rep pos₀ gens g₀ words c pos g = (g ≤ gens) × (gens ≡ f .gens) × (length c ≡ length c₀) × Going (f .end) (generatorWords f (take (8 * f .end) words₀) rows rep r) words₀ at g words pos
+Inv-loop words₀ rows notes blocks₀ f at r n i pos₀ gens g₀ words blocks₁ pos g = (g ≤ gens) × (gens ≡ f .gens) × (length blocks₁ ≡ length blocks₀)
+    × Inducing f (lowOf f words₀) rows notes blocks₁ (i .leader) × Going (f .end) (inducedWords f (lowOf f words₀) rows i) words₀ at g words pos
 
 abbrev μ-loop : tie.MeasureT-loop
-μ-loop words₀ first rows leaders places numbers shifts orbit c₀ f at r n rep pos₀ gens g₀ words c pos g = gens - g
+μ-loop words₀ rows notes blocks₀ f at r n i pos₀ gens g₀ words blocks₁ pos g = gens - g
 
 mul-n : tie.Need-mul-n Inv-loop μ-loop
-mul-n c = let z = c .before .before .before .before .before .before .before .before .before in omega (arith, z .pre .4, z .pre .5)
+mul-n c = let z = c .before .before .before .before in omega (arith, space-low (z .pre .1))
 
-slice-reshare-prefix-list-orbit : tie.Need-slice-reshare-prefix-list-orbit Inv-loop μ-loop
-slice-reshare-prefix-list-orbit c = let z = c .before .before .before .before .before .before .before .before .before in omega (arith, z .pre .4, z .pre .5)
+slice-reshare-prefix-find-induction : tie.Need-slice-reshare-prefix-find-induction Inv-loop μ-loop
+slice-reshare-prefix-find-induction c = let z = c .before .before .before .before in space-low (z .pre .1)
 
-slice-aggregate-list-orbit : tie.Need-slice-aggregate-list-orbit Inv-loop μ-loop
-slice-aggregate-list-orbit c = let z = c .before .before .before .before .before .before .before .before .before .before in sym (length-take-le _ (now (z .args .words)) (omega (arith, z .pre .4, z .pre .5)))
+slice-aggregate-find-induction : tie.Need-slice-aggregate-find-induction Inv-loop μ-loop
+slice-aggregate-find-induction c = let z = c .before .before .before .before .before in
+    sym (length-take-le _ (now (z .args .words)) (space-low (z .pre .1)))
 
-list-orbit-requires : tie.Need-list-orbit-requires Inv-loop μ-loop
-list-orbit-requires c κs = let z = c .before .before .before .before .before .before .before .before .before .before .before in let Y = z .pre .0 in (Y .stands, Y .lines, z .pre .1, z .pre .6)
-
-element-requires : tie.Need-element-requires Inv-loop μ-loop
-element-requires c κs = let z = c .before .before .before .before .before .before .before .before .before .before .before .before .before .before in omega (arith, z .pre .1, z .pre .0 .numbers-are .long)
+find-induction-requires : tie.Need-find-induction-requires Inv-loop μ-loop
+find-induction-requires c κs = let z = c .before .before .before .before .before .before in
+    ((now (z .args .rows), z .pre .0 .0), z .pre .0 .1 .listed, z .pre .0 .2)
 
 loop-holds : tie.Need-loop-holds Inv-loop μ-loop
-loop-holds c = let z = c .before .before .before .before .before .before .before .before .before .before .before .before .before .before .before in (search needs, search needs, refl, going-none (z .pre .4) (omega (arith, z .pre .5)))
+loop-holds c = let z = c .before .before .before .before .before .before .before .before .before in
+    let a = z .args in
+    let E = c .before .before .find-induction .ensures in
+    let I : Inducing (a .f) (lowOf (a .f) (now (a .words))) (now (a .rows)) (now (a .notes)) _ (a .r) =
+    record { surveyed = z .pre .0 .0; leads = z .pre .0 .1; orbit-is = E .1 } in
+    let leader = ap (λ (i : Induction). i .leader) (E .0) in
+    (search needs, search needs, refl, subst (Inducing (a .f) _ _ _ _) (sym leader) I, space-none (z .pre .1))
 
-append-one-requires : tie.Need-append-one-requires Inv-loop μ-loop
-append-one-requires c κs = let z = c .before .before .before .before .before .before .before .before .before .before .before .before .before .before .before .before .before .before .before .before in
-    let l = c .before .before .before .before .loop in
-    let Y = z .pre .0 in
-    let G = l .inv .3 in
-    let less-than : l .g < z .args .f .gens = search needs in
-    let room : 8 * l .pos + z .args .f .p * (8 * degOf (z .args .f) (take (8 * z .args .f .end) (now (z .args .words))) (z .args .r)) ≤ length (l .words) =
-    omega (arith, going-room (z .args .f .gens) G less-than (omega (arith, induction-length (z .args .f) (take (8 * z .args .f .end) (now (z .args .words))) (now (z .args .rows)) (c .before .before .before .before .before .element .result) (z .args .r), z .pre .5)), generator-length (z .args .f) (take (8 * z .args .f .end) (now (z .args .words))) (now (z .args .rows)) (z .args .r) (l .g) (c .before .before .before .before .before .element .result)) in
-    let I : Inducing (z .args .f) (take (8 * z .args .f .end) (now (z .args .words))) (now (z .args .rows)) (now (z .args .first)) (now (z .args .leaders)) (now (z .args .places)) (now (z .args .shifts)) (c .before .before .before .before .before .before .before .before .list-orbit .last .1 .1 .0) (z .args .r) = record {
-      stands = Y .stands;
-      lines = Y .lines;
-      words = Y .words;
-      leaders-are = Y .leaders-are;
-      places-are = Y .places-are;
-      shifts-are = Y .shifts-are;
-      listed = z .pre .1;
-      led = z .pre .3;
-      orbit-is = c .before .before .before .before .before .before .before .before .list-orbit .ensures;
-      cycles = Y .cycles (z .args .r) (z .pre .1) (z .pre .2) (z .pre .3);
-    } in
-    rw (G .below) (I, Y .numbers-are, less-than, omega (arith, l .inv .2, z .pre .7), G .from, room)
+append-generator-requires : tie.Need-append-generator-requires Inv-loop μ-loop
+append-generator-requires c κs = let s = c .before .before .before in
+    let l = s .loop in
+    let t = s .before .before .before in
+    let z = t .before .before .before .before .before .before .before in
+    let f = z .args .f in
+    let G = l .inv .4 in
+    let W = lowOf f (now (z .args .words)) in
+    let i = t .find-induction .result in
+    let E = t .find-induction .ensures .0 in
+    let less-than : l .g < f .gens = omega (arith, c .before .before .loop-test .taken, l .inv .1) in
+    let degree = induced-degree f W (now (z .args .notes)) i (z .args .r) E in
+    let room = induction-room f W (now (z .args .notes)) i (z .args .r) E (z .pre .1) in
+    let space = going-even (f .gens) _ (λ g. induced-length f W (now (z .args .rows)) i g degree) G less-than room in
+    rw (G .below) ((l .inv .3, less-than), (degree, space))
 
 add-g : tie.Need-add-g Inv-loop μ-loop
 add-g c = search needs
@@ -72,26 +71,29 @@ loop-less : tie.Need-loop-less Inv-loop μ-loop
 loop-less c = search needs
 
 loop-again : tie.Need-loop-again Inv-loop μ-loop
-loop-again c = let l = c .before .before .before .before .before .before .before .before .before .loop in
-    let G = l .inv .3 in
-    (search needs, search needs, search needs, going-more G (rw (G .below) at (c .before .before .before .before .append-one .ensures)))
+loop-again c = let l = c .before .before .before .before .before .before .before .before .loop in
+    let G = l .inv .4 in
+    let A = c .before .before .before .before .append-generator .ensures in
+    (search needs, search needs, search needs, rw (G .below) at (A .1), going-more G (rw (G .below) at (A .0)))
 
 same-length : tie.Need-same-length Inv-loop μ-loop
-same-length c = c .before .loop .inv .3 .len
+same-length c = c .before .loop .inv .4 .len
 
 same-length-2 : tie.Need-same-length-2 Inv-loop μ-loop
 same-length-2 c = search needs
 
-same-length-3 : tie.Need-same-length-3 Inv-loop μ-loop
-same-length-3 c = c .before .loop .inv .2
-
 returns : tie.Need-returns Inv-loop μ-loop
-returns c = let z = c .before .before .before .before .before .before .before .before .before .before .before .before .before .before .before .before .before in
-    let l = c .before .loop in
-    let e : l .g ≡ z .args .f .gens = omega arith in
-    let k = c .before .before .element .ensures ∙ z .pre .0 .numbers-are .at (z .args .r) (z .pre .1) in
-    wrote-as (l .inv .3 .wrote)
-    (ap (λ n. blocks n (generatorWords (z .args .f) (take (8 * z .args .f .end) (now (z .args .words))) (now (z .args .rows)) (c .before .before .element .result) (z .args .r))) e ∙ sym (induction-words (z .args .f) (take (8 * z .args .f .end) (now (z .args .words))) (now (z .args .rows)) (c .before .before .element .result) (z .args .r)) ∙ ap (λ x. repWords (z .args .f .gens) (suc (z .args .f .top)) x (inductionAt (sourceIn (z .args .f) (take (8 * z .args .f .end) (now (z .args .words))) (now (z .args .rows))) (z .args .r))) k)
+returns c = let s = c .before in
+    let l = s .loop in
+    let t = s .before .before .before in
+    let z = t .before .before .before .before .before .before .before in
+    let f = z .args .f in
+    let W = lowOf f (now (z .args .words)) in
+    let e : l .g ≡ f .gens = omega arith in
+    let i = t .find-induction .result in
+    let E = t .find-induction .ensures .0 in
+    let is = induction-is f W (now (z .args .notes)) i (z .args .r) E (now (z .args .rows)) (z .pre .0 .0) (z .pre .0 .1 .listed) in
+    wrote-as (l .inv .4 .wrote) (ap (λ n. blocks n (inducedWords f W (now (z .args .rows)) i)) e ∙ is)
 
 pub append-induction-spec : {M : Type 1} → statement M
 append-induction-spec =
@@ -100,16 +102,14 @@ append-induction-spec =
     Inv-loop
     μ-loop
     mul-n
-    slice-reshare-prefix-list-orbit
-    slice-aggregate-list-orbit
-    list-orbit-requires
-    element-requires
+    slice-reshare-prefix-find-induction
+    slice-aggregate-find-induction
+    find-induction-requires
     loop-holds
-    append-one-requires
+    append-generator-requires
     add-g
     loop-less
     loop-again
     same-length
     same-length-2
-    same-length-3
     returns)

@@ -3,39 +3,47 @@ use mathlib.Core.Path.{_≡_, sym, _∙_, subst}
 use Prim.Native.Nat.{_-_, _<_}
 use native.Mathlib.Omega.{arith}
 use denote.Ref.{now}
-use borrow.Author.Needs.{needs}
-use Rattle.induce.proofs.Cases.{by-low, by-next, by-last, by-above}
+use Rattle.orbits.proofs.Blocks.{listing-stands, scalar-inside}
+use Rattle.induce.proofs.Cases.{by-next, by-last, by-above}
 use Rattle.induce.proofs.block_by.Statement.{statement}
 use Rattle.induce.proofs.block_by.Tie as tie
 
-returns : tie.Need-returns
-returns c = let z = c .before .before .before .before in (by-low (z .args .f) (now (z .args .shifts)) (now (z .args .scalars)) (z .args .r) (z .args .g) (z .args .b) (omega (arith, c .if1 .taken)), z .pre .4)
+block-requires : tie.Need-block-requires
+block-requires c κs = let z = c .before .before .before .before in scalar-inside (z .pre .0 .1 .writing .listing .known) (z .args .b) (z .pre .1)
 
-element-requires : tie.Need-element-requires
-element-requires c κs = search needs
+returns : tie.Need-returns
+returns c = let z = c .before .before .before .before .before in
+    let a = z .args in
+    let above : a .f .top < a .g = omega (arith, c .before .if1 .taken) in
+    let e = c .block .ensures in
+    let small = z .pre .0 .1 .scalars-below above (a .b) (z .pre .1) in
+    (e ∙ by-above (a .f) (now (a .notes)) (now (a .blocks)) (a .i .leader) (a .g) (a .b) above, subst (λ x. x < a .f .m) (sym e) small)
+
+add-if2 : tie.Need-add-if2
+add-if2 c = let z = c .before .before .before .before in omega (arith, z .pre .1, listing-stands (z .pre .0 .1 .writing .listing) .prime .1)
+
+note-requires : tie.Need-note-requires
+note-requires c κs = let z = c .before .before .before .before .before .before in
+    let I = z .pre .0 .1 .writing .listing .known in
+    record { fields = omega arith; rows = omega (arith, I .leads .listed, I .surveyed .shifts-are .long) }
 
 returns-2 : tie.Need-returns-2
-returns-2 c = let z = c .before .before .before .before .before .before .before in
-    let above : z .args .f .top < z .args .g = omega (arith, c .before .if2 .taken) in
-    (c .element .ensures ∙ by-above (z .args .f) (now (z .args .shifts)) (now (z .args .scalars)) (z .args .r) (z .args .g) (z .args .b) above, subst (λ x. x < z .args .f .m) (sym (c .element .ensures)) (z .pre .6 above))
-
-add-if3 : tie.Need-add-if3
-add-if3 c = search needs
-
-element-requires-2 : tie.Need-element-requires-2
-element-requires-2 c κs = search needs
+returns-2 c = let z = c .before .before .before .before .before .before in
+    let a = z .args in
+    let on-top : a .g ≡ a .f .top = omega (arith, c .before .before .if1 .left, z .pre .0 .1 .high) in
+    let next = by-next (a .f) (now (a .notes)) (now (a .blocks)) (a .i .leader) (a .g) (a .b) on-top in
+    (next (omega (arith, c .if2 .taken)), listing-stands (z .pre .0 .1 .writing .listing) .modulus .0)
 
 returns-3 : tie.Need-returns-3
-returns-3 c = let z = c .before .before .before .before .before .before .before .before in
-    let on-top : z .args .g ≡ z .args .f .top = omega (arith, c .before .before .if2 .left, c .before .before .before .before .if1 .left) in
-    (by-next (z .args .f) (now (z .args .shifts)) (now (z .args .scalars)) (z .args .r) (z .args .g) (z .args .b) on-top (omega (arith, c .if3 .taken)), z .pre .4)
-
-returns-4 : tie.Need-returns-4
-returns-4 c = let z = c .before .before .before .before .before .before .before .before .before in
-    let on-top : z .args .g ≡ z .args .f .top = omega (arith, c .before .before .before .if2 .left, c .before .before .before .before .before .if1 .left) in
-    (c .element2 .ensures ∙ by-last (z .args .f) (now (z .args .shifts)) (now (z .args .scalars)) (z .args .r) (z .args .g) (z .args .b) on-top (omega (arith, c .before .if3 .left)), subst (λ x. x < z .args .f .m) (sym (c .element2 .ensures)) (z .pre .5))
+returns-3 c = let z = c .before .before .before .before .before .before .before in
+    let a = z .args in
+    let I = z .pre .0 .1 .writing .listing .known in
+    let on-top : a .g ≡ a .f .top = omega (arith, c .before .before .before .if1 .left, z .pre .0 .1 .high) in
+    let last = by-last (a .f) (now (a .notes)) (now (a .blocks)) (a .i .leader) (a .g) (a .b) on-top in
+    let e = c .note .ensures in
+    (e ∙ last (omega (arith, c .before .if2 .left)), subst (λ x. x < a .f .m) (sym e) (I .surveyed .shifts-are .below _ (I .leads .listed)))
 
 pub block-by-spec : {M : Type 1} → statement M
 block-by-spec =
     tie.close
-    (tie.spec returns element-requires returns-2 add-if3 element-requires-2 returns-3 returns-4)
+    (tie.spec block-requires returns add-if2 note-requires returns-2 returns-3)

@@ -2,7 +2,7 @@
 use mathlib.Core.Path.{sym}
 use native.Mathlib.Nat.{mod-eq-of-lt}
 use native.Mathlib.Omega.{arith}
-use Rattle.level.proofs.Laws.{mod-once}
+use Rattle.level.proofs.Columns.{mod-once}
 use borrow.Author.Needs.{needs}
 use Rattle.level.proofs.add_mod.Statement.{statement}
 use Rattle.level.proofs.add_mod.Tie as tie

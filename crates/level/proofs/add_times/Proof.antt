@@ -3,7 +3,7 @@ use mathlib.Core.Path.{_≡_, ap, ap₂, _∙_}
 use Prim.Native.Nat.{_+_, _*_, _%_}
 use native.Mathlib.Omega.{arith}
 use native.Mathlib.Nat.{mod-lt}
-use Rattle.level.proofs.Laws.{times-fit}
+use Rattle.level.proofs.Columns.{times-fit}
 use borrow.Author.Needs.{needs}
 use Rattle.level.proofs.add_times.Statement.{statement}
 use Rattle.level.proofs.add_times.Tie as tie

@@ -4,7 +4,7 @@ use Prim.Native.Nat.{_+_, _%_}
 use denote.Ref.{now}
 use Rattle.definitions.specs.declared.Entry.{Entry}
 use Rattle.definitions.specs.Monomial.{entry}
-use Rattle.level.proofs.Laws.{act-in}
+use Rattle.level.proofs.Columns.{act-in}
 use borrow.Author.Needs.{needs}
 use Rattle.level.proofs.apply.Statement.{statement}
 use Rattle.level.proofs.apply.Tie as tie

@@ -8,7 +8,7 @@ use Rattle.definitions.specs.Lists.{iter}
 use Rattle.definitions.specs.Monomial.{entry, act}
 use Rattle.numbers.proofs.Lists.{iter-zero}
 use Rattle.level.specs.Stored.{entryIn, matrixIn, Below}
-use Rattle.level.proofs.Laws.{iter-next, iter-once, iter-rest, iter-fixed, act-in, act-fixed}
+use Rattle.level.proofs.Columns.{iter-next, iter-once, iter-rest, iter-fixed, act-in, act-fixed}
 use borrow.Author.Needs.{needs}
 use Rattle.level.proofs.apply_times.Statement.{statement}
 use Rattle.level.proofs.apply_times.Tie as tie

@@ -11,7 +11,7 @@ use Rattle.definitions.specs.Monomial.{entry, act}
 use Rattle.numbers.proofs.Lists.{iter-zero}
 use Rattle.formulas.specs.Formulas.{plus}
 use Rattle.level.specs.Stored.{entryIn, matrixIn, Below, Holds, lineIn, generatorIn}
-use Rattle.level.proofs.Laws.{iter-next, iter-once, iter-rest, iter-fixed, act-in, plus-fixed}
+use Rattle.level.proofs.Columns.{iter-next, iter-once, iter-rest, iter-fixed, act-in, plus-fixed}
 use borrow.Author.Needs.{needs}
 use Rattle.level.proofs.scaled_times.Statement.{statement}
 use Rattle.level.proofs.scaled_times.Tie as tie

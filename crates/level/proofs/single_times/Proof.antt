@@ -8,7 +8,7 @@ use Rattle.definitions.specs.Lists.{iter}
 use Rattle.definitions.specs.Monomial.{entry, act}
 use Rattle.numbers.proofs.Lists.{iter-zero}
 use Rattle.level.specs.Stored.{entryIn, matrixIn}
-use Rattle.level.proofs.Laws.{iter-fixed, act-fixed}
+use Rattle.level.proofs.Columns.{iter-fixed, act-fixed}
 use Rattle.level.proofs.single_times.Statement.{statement}
 use Rattle.level.proofs.single_times.Tie as tie
 

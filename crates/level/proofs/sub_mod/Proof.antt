@@ -1,6 +1,6 @@
 -- `sub_mod`: a difference, or m more where it would be below 0.
 use native.Mathlib.Omega.{arith}
-use Rattle.level.proofs.Laws.{less-below, less-above}
+use Rattle.level.proofs.Columns.{less-below, less-above}
 use borrow.Author.Needs.{needs}
 use Rattle.level.proofs.sub_mod.Statement.{statement}
 use Rattle.level.proofs.sub_mod.Tie as tie

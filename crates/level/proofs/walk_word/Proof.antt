@@ -11,7 +11,7 @@ use Rattle.definitions.specs.Presentation.{toNF}
 use Rattle.definitions.specs.Monomial.{Matrix, act}
 use Rattle.formulas.specs.Formulas.{walk}
 use Rattle.level.specs.Stored.{matrixIn, Below}
-use Rattle.level.proofs.Laws.{walk-zero, walk-next}
+use Rattle.level.proofs.Columns.{walk-zero, walk-next}
 use Rattle.level.proofs.walk_word.Statement.{statement}
 use Rattle.level.proofs.walk_word.Tie as tie
 

@@ -10,14 +10,15 @@ use borrow.Author.Needs.{needs}
 use Rattle.clifford.specs.Accepted.{Accepted}
 use Rattle.text.specs.Writing.{Wrote}
 use Rattle.text.proofs.Writing.{wrote-length}
-use Rattle.assembly.specs.Built.{upTo}
+use Rattle.levels.specs.Built.{upTo}
 use Rattle.levels.specs.Given.{Given}
-use Rattle.levels.proofs.Stages.{Stage, first-asks, stage-one, stage-sound, stage-room, stage-next}
+use Rattle.levels.proofs.Stages.{BuiltTo, first-asks, stage-one, stage-asks, stage-next}
 use Rattle.levels.proofs.build_levels.Statement.{statement}
 use Rattle.levels.proofs.build_levels.Tie as tie
 
 abbrev Inv-loop : tie.InvT-loop
-Inv-loop words₀ rows primes n m reps₀ base₀ end₀ i₀ words reps base end i = (1 ≤ i) × (i ≤ n) × (length words ≡ length words₀) × ((A : Accepted) (have : ℕ) → Given rows primes n m have A → (w : List ℕ) → Stage A 1 base₀ reps₀ end₀ w words₀ → Stage A i base reps end w words)
+Inv-loop words₀ rows primes n m reps₀ base₀ end₀ i₀ words reps base end i = (1 ≤ i) × (i ≤ n) × (length words ≡ length words₀)
+    × ((A : Accepted) (have : ℕ) → Given rows primes n m have A → (w : List ℕ) → BuiltTo A 1 base₀ reps₀ end₀ w words₀ → BuiltTo A i base reps end w words)
 
 abbrev μ-loop : tie.MeasureT-loop
 μ-loop words₀ rows primes n m reps₀ base₀ end₀ i₀ words reps base end i = n - i
@@ -29,8 +30,7 @@ first-level-requires : tie.Need-first-level-requires Inv-loop μ-loop
 first-level-requires c κs = let z = c .before .before .before in first-asks (z .pre .0) (now (z .args .rows)) (now (z .args .primes)) (z .args .n) (z .args .m) (length (now (z .args .words))) (z .pre .1) _ refl
 
 loop-holds : tie.Need-loop-holds Inv-loop μ-loop
-loop-holds c = let z = c .before .before .before .before .before .before in
-    (search needs, omega (arith, z .pre .0 .positive, z .pre .1 .n-is), refl, λ A h G w S. S)
+loop-holds c = let z = c .before .before .before .before .before .before in (search needs, omega (arith, z .pre .0 .positive, z .pre .1 .n-is), refl, λ A h G w S. S)
 
 up-requires : tie.Need-up-requires Inv-loop μ-loop
 up-requires c κs = search needs
@@ -44,9 +44,15 @@ element-copy-out-t22 c = let z = c .before .before .before .before .before .befo
 next-level-requires : tie.Need-next-level-requires Inv-loop μ-loop
 next-level-requires c κs = let z = c .before .before .before .before .before .before .before .before .before .before .before in
     let l = c .before .before .before .before .loop in
+    let A = z .pre .0 in
+    let G = z .pre .1 in
+    let rows = now (z .args .rows) in
+    let primes = now (z .args .primes) in
+    let w = now (z .args .words) in
     let below : l .i < z .args .n = search needs in
-    let S = l .inv .3 (z .pre .0) _ (z .pre .1) (now (z .args .words)) (stage-one (z .pre .0) (now (z .args .rows)) (now (z .args .primes)) (z .args .n) (z .args .m) (length (now (z .args .words))) (z .pre .1) _ refl (now (z .args .words)) _ _ (c .before .before .before .before .before .before .before .first-level .ensures)) in
-    (stage-sound (z .pre .0) (now (z .args .rows)) (now (z .args .primes)) (z .args .n) (z .args .m) (length (now (z .args .words))) (z .pre .1) (l .i) (l .base) (l .reps) (l .end) _ (now (z .args .words)) (l .words) (l .inv .0) below (ap (λ t. getD (now (z .args .primes)) t 0) (c .before .before .up .ensures)) S, stage-room (z .pre .0) (now (z .args .rows)) (now (z .args .primes)) (z .args .n) (z .args .m) (length (now (z .args .words))) (z .pre .1) (l .i) (l .base) (l .reps) (l .end) _ (now (z .args .words)) (l .words) (l .inv .0) below (ap (λ t. getD (now (z .args .primes)) t 0) (c .before .before .up .ensures)) S (le-refl _))
+    let p = ap (λ t. getD primes t 0) (c .before .before .up .ensures) in
+    let S = l .inv .3 A _ G w (stage-one A rows primes (z .args .n) (z .args .m) (length w) G _ refl w _ _ (c .before .before .before .before .before .before .before .first-level .ensures)) in
+    stage-asks A rows primes (z .args .n) (z .args .m) (length w) G (l .i) (l .base) (l .reps) (l .end) _ w (l .words) (l .inv .0) below p S (le-refl _)
 
 add-i : tie.Need-add-i Inv-loop μ-loop
 add-i c = search needs
@@ -57,9 +63,16 @@ loop-less c = search needs
 loop-again : tie.Need-loop-again Inv-loop μ-loop
 loop-again c = let z = c .before .before .before .before .before .before .before .before .before .before .before .before .before .before in
     let l = c .before .before .before .before .before .before .before .loop in
+    let rows = now (z .args .rows) in
+    let primes = now (z .args .primes) in
     let below : l .i < z .args .n = search needs in
-    let E = c .before .before .next-level .ensures in
-    (search needs, search needs, search needs, λ A h G w S. stage-next A (now (z .args .rows)) (now (z .args .primes)) (z .args .n) (z .args .m) h G (l .i) (l .base) (l .reps) (l .end) _ w (l .words) (l .inv .0) below (ap (λ t. getD (now (z .args .primes)) t 0) (c .before .before .before .before .before .up .ensures)) (l .inv .3 A h G w S) _ _ _ (E .0) (E .1))
+    let p = ap (λ t. getD primes t 0) (c .before .before .before .before .before .up .ensures) in (
+      search needs,
+      search needs,
+      search needs,
+      λ A h G w S. stage-next A rows primes (z .args .n) (z .args .m) h G (l .i) (l .base) (l .reps) (l .end) _ w (l .words) (l .inv .0) below p
+          (l .inv .3 A h G w S) _ _ (c .before .before .next-level .ensures),
+    )
 
 same-length : tie.Need-same-length Inv-loop μ-loop
 same-length c = c .before .loop .inv .2 ∙ wrote-length (c .before .before .before .before .first-level .ensures)
@@ -67,24 +80,17 @@ same-length c = c .before .loop .inv .2 ∙ wrote-length (c .before .before .bef
 returns : tie.Need-returns Inv-loop μ-loop
 returns c = let z = c .before .before .before .before .before .before .before .before in
     let l = c .before .loop in
+    let rows = now (z .args .rows) in
+    let primes = now (z .args .primes) in
+    let w = now (z .args .words) in
     let e : l .i ≡ z .args .n = omega (arith, l .inv .1) in
-    λ A G. subst (λ k. Wrote (now (z .args .words)) 0 (upTo A k) (l .words) (8 * l .end)) (e ∙ G .n-is) (l .inv .3 A _ G (now (z .args .words)) (stage-one A (now (z .args .rows)) (now (z .args .primes)) (z .args .n) (z .args .m) (length (now (z .args .words))) G _ refl (now (z .args .words)) _ _ (c .before .before .before .before .first-level .ensures)) .wrote)
+    λ A G.
+    let S = stage-one A rows primes (z .args .n) (z .args .m) (length w) G _ refl w _ _ (c .before .before .before .before .first-level .ensures) in
+    subst (λ k. Wrote w 0 (upTo A k) (l .words) (8 * l .end)) (e ∙ G .n-is) (l .inv .3 A _ G w S .wrote)
 
 pub build-levels-spec : {M : Type 1} → statement M
 build-levels-spec =
     tie.close
     (tie.spec
-    Inv-loop
-    μ-loop
-    element-copy-out-reps
-    first-level-requires
-    loop-holds
-    up-requires
-    mul-t19
-    element-copy-out-t22
-    next-level-requires
-    add-i
-    loop-less
-    loop-again
-    same-length
-    returns)
+    Inv-loop μ-loop element-copy-out-reps first-level-requires loop-holds up-requires mul-t19 element-copy-out-t22
+    next-level-requires add-i loop-less loop-again same-length returns)

@@ -1,35 +1,19 @@
--- `large_level` makes arrays of 2064 words.
+-- `large_level` makes arrays for every level.
 use native.Mathlib.Omega.{arith}
 use borrow.Author.Needs.{needs}
 use Rattle.levels.proofs.large_level.Statement.{statement}
 use Rattle.levels.proofs.large_level.Tie as tie
 
-slice-aggregate-level-in : tie.Need-slice-aggregate-level-in
-slice-aggregate-level-in c = search needs
+slice-aggregate-append-level : tie.Need-slice-aggregate-append-level
+slice-aggregate-append-level c = search needs
 
-slice-aggregate-level-in-2 : tie.Need-slice-aggregate-level-in-2
-slice-aggregate-level-in-2 c = search needs
+slice-aggregate-append-level-2 : tie.Need-slice-aggregate-append-level-2
+slice-aggregate-append-level-2 c = search needs
 
-slice-aggregate-level-in-3 : tie.Need-slice-aggregate-level-in-3
-slice-aggregate-level-in-3 c = search needs
-
-slice-aggregate-level-in-4 : tie.Need-slice-aggregate-level-in-4
-slice-aggregate-level-in-4 c = search needs
-
-slice-aggregate-level-in-5 : tie.Need-slice-aggregate-level-in-5
-slice-aggregate-level-in-5 c = search needs
-
-slice-aggregate-level-in-6 : tie.Need-slice-aggregate-level-in-6
-slice-aggregate-level-in-6 c = search needs
-
-slice-aggregate-level-in-7 : tie.Need-slice-aggregate-level-in-7
-slice-aggregate-level-in-7 c = search needs
-
-level-in-requires : tie.Need-level-in-requires
-level-in-requires c κs = let z = c .before .before .before .before .before .before .before .before .before in
-    let a = z .pre .0 .stands .few in
-    let b = z .pre .0 .stands .prime .1 in
-    (z .pre .0, z .pre .1, omega (arith, a), omega (arith, a), omega (arith, a), omega (arith, a), omega (arith, a), omega (arith, b), omega (arith, b))
+append-level-requires : tie.Need-append-level-requires
+append-level-requires c κs = let z = c .before .before .before .before in
+    let S = z .pre .sound .stands in
+    (z .pre, record { notes-long = omega (arith, S .few); blocks-long = omega (arith, S .prime .1) })
 
 same-length : tie.Need-same-length
 same-length c = search needs
@@ -41,13 +25,4 @@ pub large-level-spec : {M : Type 1} → statement M
 large-level-spec =
     tie.close
     (tie.spec
-    slice-aggregate-level-in
-    slice-aggregate-level-in-2
-    slice-aggregate-level-in-3
-    slice-aggregate-level-in-4
-    slice-aggregate-level-in-5
-    slice-aggregate-level-in-6
-    slice-aggregate-level-in-7
-    level-in-requires
-    same-length
-    returns)
+    slice-aggregate-append-level slice-aggregate-append-level-2 append-level-requires same-length returns)

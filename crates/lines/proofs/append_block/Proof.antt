@@ -1,51 +1,60 @@
--- `append_block` appends a line for each column.
+-- `append_block` appends a line for each column, or one line where the degree is 1.
 use borrow.Author.Needs.{needs}
 use mathlib.Core.Path.{_≡_, sym}
 use mathlib.Core.List.{List}
-use Prim.Native.Nat.{ℕ, _+_, _*_, _%_, _≤_, _-_}
+use Prim.Native.Nat.{ℕ, _+_, _*_, _≤_, _-_}
 use native.Mathlib.Omega.{arith}
 use lib.ListN.{take}
 use lib.Seq.{length-take-le}
-use Rattle.definitions.specs.Monomial.{entry}
 use Rattle.lines.specs.declared.Head.{Head}
-use Rattle.level.specs.Stored.{entryIn}
-use Rattle.lines.specs.Lines.{headLine, blockLines}
-use Rattle.lines.proofs.Laws.{headLine-eight}
-use Rattle.lines.proofs.Appending.{Going, going-none, going-more, going-line}
+use Rattle.lines.specs.declared.Piece.{Piece}
+use Rattle.lines.specs.Lines.{headLine, blockEntry, blockLines}
+use Rattle.lines.proofs.Written.{headLine-eight}
+use Rattle.lines.proofs.Appending.{Going, going-more, going-low, going-line, space-none}
 use Rattle.lines.proofs.append_block.Statement.{statement}
 use Rattle.lines.proofs.append_block.Tie as tie
 
-turn : ℕ → Head → ℕ → ℕ → ℕ → List ℕ → ℕ → ℕ → List ℕ
-turn m h co ro c W src k = headLine h (co + k) (entry (ro + entryIn W (src + k) .row) ((entryIn W (src + k) .exp + c) % m))
+turn : ℕ → Head → Piece → List ℕ → ℕ → List ℕ
+turn m h b W k = headLine h (b .col + k) (blockEntry m b W k)
 
 abbrev Inv-loop : tie.InvT-loop
-Inv-loop words₀ low at h co ro src d c m n pos₀ k₀ words pos k = (k ≤ d) × Going low (turn m h co ro c (take (8 * low) words₀) src) words₀ at k words pos
+Inv-loop words₀ low at h b m deg n pos₀ k₀ words pos k = (k ≤ deg) × (deg ≡ b .deg) × Going low (turn m h b (take (8 * low) words₀)) words₀ at k words pos
 
 abbrev μ-loop : tie.MeasureT-loop
-μ-loop words₀ low at h co ro src d c m n pos₀ k₀ words pos k = d - k
+μ-loop words₀ low at h b m deg n pos₀ k₀ words pos k = deg - k
+
+append-line-requires : tie.Need-append-line-requires Inv-loop μ-loop
+append-line-requires c κs = let z = c .before .before .before in (z .pre .0, z .pre .1, c .before .if1 .taken)
+
+same-length : tie.Need-same-length Inv-loop μ-loop
+same-length c = search needs
+
+returns : tie.Need-returns Inv-loop μ-loop
+returns c = c .before .before .append-line .ensures
 
 mul-n : tie.Need-mul-n Inv-loop μ-loop
 mul-n c = search needs
 
 loop-holds : tie.Need-loop-holds Inv-loop μ-loop
-loop-holds c = (search needs, going-none (search needs) (omega arith))
+loop-holds c = (search needs, search needs, space-none (c .before .before .pre .1))
 
 slice-reshare-prefix-block-entry : tie.Need-slice-reshare-prefix-block-entry Inv-loop μ-loop
-slice-reshare-prefix-block-entry c = omega (arith, c .before .loop .inv .1 .len)
+slice-reshare-prefix-block-entry c = omega (arith, going-low (c .before .loop .inv .2))
 
 slice-aggregate-block-entry : tie.Need-slice-aggregate-block-entry Inv-loop μ-loop
-slice-aggregate-block-entry c = sym (length-take-le _ (c .before .before .loop .words) (omega (arith, c .before .before .loop .inv .1 .len)))
+slice-aggregate-block-entry c = let l = c .before .before .loop in sym (length-take-le _ (l .words) (going-low (l .inv .2)))
 
 block-entry-requires : tie.Need-block-entry-requires Inv-loop μ-loop
-block-entry-requires c κs = (search needs, rw (c .before .before .loop .inv .1 .below) (c .before .before .before .before .pre .1))
+block-entry-requires c κs = (rw (c .before .before .loop .inv .2 .below) (c .before .before .before .before .before .pre .0), search needs)
 
 add-put-line : tie.Need-add-put-line Inv-loop μ-loop
 add-put-line c = search needs
 
 put-line-requires : tie.Need-put-line-requires Inv-loop μ-loop
 unfolding turn
-put-line-requires c κs = let z = c .before .before .before .before .before .before in
-    going-line (z .args .d) (λ k. headLine-eight _ _ _) (c .before .before .before .before .loop .inv .1) (search needs) (z .pre .0 .2)
+put-line-requires c κs = let z = c .before .before .before .before .before .before .before .before in
+    let g = c .before .before .before .before .before .loop .inv .2 in
+    going-line (z .args .b .deg) (λ k. headLine-eight _ _ _) g (search needs) (z .pre .1 .room)
 
 add-k : tie.Need-add-k Inv-loop μ-loop
 add-k c = search needs
@@ -55,16 +64,19 @@ loop-less c = search needs
 
 loop-again : tie.Need-loop-again Inv-loop μ-loop
 unfolding turn
-loop-again c = let g = c .before .before .before .before .before .before .before .loop .inv .1 in
-    (search needs, going-more g (rw (c .before .before .before .before .block-entry .ensures, g .below) at (c .before .before .put-line .ensures)))
+loop-again c = let g = c .before .before .before .before .before .before .before .before .loop .inv .2 in
+    let x = c .before .before .before .before .before .block-entry .ensures in
+    (search needs, search needs, going-more g (rw (x, g .below) at (c .before .before .put-line .ensures)))
 
-same-length : tie.Need-same-length Inv-loop μ-loop
-same-length c = c .before .loop .inv .1 .len
+same-length-2 : tie.Need-same-length-2 Inv-loop μ-loop
+same-length-2 c = c .before .loop .inv .2 .len
 
-returns : tie.Need-returns Inv-loop μ-loop
+returns-2 : tie.Need-returns-2 Inv-loop μ-loop
 unfolding blockLines turn
-returns c = let e : c .before .loop .k ≡ c .before .before .before .args .d = omega arith in
-    rw e at (c .before .loop .inv .1 .wrote)
+returns-2 c = let z = c .before .before .before .before in
+    let l = c .before .loop in
+    let e : l .k ≡ z .args .b .deg = omega arith in
+    rw e at (l .inv .2 .wrote)
 
 pub append-block-spec : {M : Type 1} → statement M
 append-block-spec =
@@ -72,6 +84,9 @@ append-block-spec =
     (tie.spec
     Inv-loop
     μ-loop
+    append-line-requires
+    same-length
+    returns
     mul-n
     loop-holds
     slice-reshare-prefix-block-entry
@@ -82,5 +97,5 @@ append-block-spec =
     add-k
     loop-less
     loop-again
-    same-length
-    returns)
+    same-length-2
+    returns-2)

@@ -4,7 +4,7 @@ use native.Mathlib.Omega.{arith}
 use lib.ListN.{length-set}
 use denote.Ref.{now}
 use Rattle.lines.specs.Lines.{headLine}
-use Rattle.lines.proofs.Laws.{put-eight}
+use Rattle.lines.proofs.Written.{put-eight}
 use borrow.Author.Needs.{needs}
 use Rattle.lines.proofs.put_line.Statement.{statement}
 use Rattle.lines.proofs.put_line.Tie as tie

@@ -1,38 +1,56 @@
 -- `constant`: the closing constant stands at the end of the orbit.
 use mathlib.Core.Path.{sym, ap, _∙_, subst}
-use Prim.Native.Nat.{suc, _-_, _≤_, _<_}
+use Prim.Native.Nat.{suc, _≤_, _<_}
 use native.Mathlib.Omega.{arith}
 use lib.ListN.{getD}
 use denote.Ref.{now}
 use Rattle.numbers.proofs.Bools.{cond-lt, cond-ge}
-use borrow.Author.Needs.{needs}
+use Rattle.survey.specs.Notes.{leaders, positions, shifts}
+use Rattle.survey.proofs.Marking.{pos-below, lead-below}
+use Rattle.orbits.specs.Sides.{constantIn}
 use Rattle.orbits.proofs.constant.Statement.{statement}
 use Rattle.orbits.proofs.constant.Tie as tie
 
-element-requires : tie.Need-element-requires
-element-requires c κs = search needs
+note-requires : tie.Need-note-requires
+note-requires c κs = let z = c .before in
+    record { fields = omega arith; rows = omega (arith, z .pre .1, z .pre .0 .2 .orbited .places-are .long) }
 
 add-if1 : tie.Need-add-if1
-add-if1 c = search needs
+add-if1 c = let z = c .before .before in
+    let (W, rows, Y) = z .pre .0 in
+    let st = Y .sound .stands in
+    let h = z .pre .1 in
+    omega (arith, c .note .ensures, Y .orbited .places-are .at _ h, pos-below (z .args .f) W st _ h, st .prime .1)
 
 returns : tie.Need-returns
-returns c = let z = c .before .before .before .before .before .before in
-    let h : suc (getD (now (z .args .places)) (z .args .q) 0) < z .args .f .p = omega (arith, c .before .before .element .ensures, c .if1 .taken) in
-    (sym (cond-lt _ (z .args .f .p) 0 _ h), z .pre .3)
+unfolding constantIn
+returns c = let z = c .before .before .before .before in
+    let a = z .args in
+    let h : suc (getD (positions (now (a .notes))) (a .q) 0) < a .f .p = omega (arith, c .before .before .note .ensures, c .if1 .taken) in
+    (sym (cond-lt _ (a .f .p) 0 _ h), z .pre .0 .2 .sound .stands .modulus .0)
 
-element-requires-2 : tie.Need-element-requires-2
-element-requires-2 c κs = search needs
+note-requires-2 : tie.Need-note-requires-2
+note-requires-2 c κs = let z = c .before .before .before .before in
+    record { fields = omega arith; rows = omega (arith, z .pre .1, z .pre .0 .2 .orbited .leaders-are .long) }
 
-element-requires-3 : tie.Need-element-requires-3
-element-requires-3 c κs = search needs
+note-requires-3 : tie.Need-note-requires-3
+note-requires-3 c κs = let z = c .before .before .before .before .before in
+    let (W, rows, Y) = z .pre .0 in
+    let h = z .pre .1 in
+    let lead = lead-below (z .args .f) W (Y .sound .stands) (z .args .q) h in
+    record { fields = omega arith; rows = omega (arith, c .note2 .ensures, Y .orbited .leaders-are .at _ h, lead, h, Y .shifts-are .long) }
 
 returns-2 : tie.Need-returns-2
-returns-2 c = let z = c .before .before .before .before .before .before .before .before in
-    let h : z .args .f .p ≤ suc (getD (now (z .args .places)) (z .args .q) 0) = omega (arith, c .before .before .before .before .element .ensures, c .before .before .if1 .left) in
-    let e = c .element3 .ensures ∙ ap (λ l. getD (now (z .args .shifts)) l 0) (c .before .element2 .ensures) in
-    (e ∙ sym (cond-ge _ (z .args .f .p) 0 _ h), subst (λ x. x < z .args .f .m) (sym e) (z .pre .5))
+unfolding constantIn
+returns-2 c = let z = c .before .before .before .before .before .before in
+    let (W, rows, Y) = z .pre .0 in
+    let a = z .args in
+    let b = c .before .before .before .before .note .ensures in
+    let h : a .f .p ≤ suc (getD (positions (now (a .notes))) (a .q) 0) = omega (arith, b, c .before .before .if1 .left) in
+    let lead = lead-below (a .f) W (Y .sound .stands) (a .q) (z .pre .1) in
+    let l : getD (leaders (now (a .notes))) (a .q) 0 < a .f .reps = omega (arith, Y .orbited .leaders-are .at (a .q) (z .pre .1), lead, z .pre .1) in
+    let e = c .note3 .ensures ∙ ap (λ l. getD (shifts (now (a .notes))) l 0) (c .before .note2 .ensures) in
+    (e ∙ sym (cond-ge _ (a .f .p) 0 _ h), subst (λ x. x < a .f .m) (sym e) (Y .shifts-are .below _ l))
 
 pub constant-spec : {M : Type 1} → statement M
-constant-spec =
-    tie.close
-    (tie.spec element-requires add-if1 returns element-requires-2 element-requires-3 returns-2)
+constant-spec = tie.close (tie.spec note-requires add-if1 returns note-requires-2 note-requires-3 returns-2)

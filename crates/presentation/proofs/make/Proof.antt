@@ -32,10 +32,10 @@ use denote.Triple.Table.{entered}
 use denote.Triple.Walked.{says, Stays, stay-none, walkOf, goes-none, Walks, ends-at, walked, walk-meets}
 use denote.Exit.{yes}
 use Rattle.definitions.specs.Presentation.{maxGenerators, pairCount}
-use Rattle.presentation.specs.declared.Presentation.{Presentation}
+use Rattle.presentation.specs.declared.ReadPresentation.{ReadPresentation}
 use Rattle.presentation.proofs.Nested.{rows-same}
-use Rattle.presentation.proofs.Presentation as T
-use Rattle.presentation.proofs.Presentation.Laws as T′
+use Rattle.presentation.proofs.ReadPresentation as T
+use Rattle.presentation.proofs.ReadPresentation.Laws as T′
 use Rattle.presentation.proofs.make.Key.{name as #presentation·make}
 use Rattle.presentation.proofs.make as f
 use Rattle.presentation.proofs.make.Statement as stated
@@ -51,7 +51,7 @@ abbrev stayed : Stays (f.ended .signature .params) (f.ended .kept)
 stayed = (stay-none (λ _. usize) yes, (stay-none (λ _. Row) yes, (stay-none (λ _. Rows) yes, tt)))
 
 module _ {M : Type 1} (𝓤 : URA M) (H : Heap 𝓤) (A : Atoms 𝓤) (W : Given 𝓤 H A) (mem : Memory → SProp 𝓤) (run : Routine → Fun 𝓤) (n : ℕ) (ps : List ℕ) (ws : List (List ℕ)) where
-  abbrev h : Presentation
+  abbrev h : ReadPresentation
   h = record { n = n; primes = ps; words = ws }
 
   -- the parameters' machine values, and the struct's

@@ -34,10 +34,10 @@ use denote.Triple.Table.{entered}
 use denote.Triple.Walked.{says, Stays, stay-none, walkOf, goes-none, Walks, ends-at, walked, walk-meets}
 use denote.Exit.{yes}
 use Rattle.definitions.specs.Presentation.{maxGenerators, pairCount}
-use Rattle.presentation.specs.declared.Presentation.{Presentation}
+use Rattle.presentation.specs.declared.ReadPresentation.{ReadPresentation}
 use Rattle.presentation.proofs.Nested.{rows-same}
-use Rattle.presentation.proofs.Presentation as T
-use Rattle.presentation.proofs.Presentation.Laws as T′
+use Rattle.presentation.proofs.ReadPresentation as T
+use Rattle.presentation.proofs.ReadPresentation.Laws as T′
 use Rattle.presentation.proofs.words_of.Key.{name as #presentation·words-of}
 use Rattle.presentation.proofs.words_of as f
 use Rattle.presentation.proofs.words_of.Statement as stated
@@ -49,7 +49,7 @@ Rows = Array (Array u32 maxGenerators) pairCount
 abbrev stayed : Stays (f.ended .signature .params) (f.ended .kept)
 stayed = (stay-none (λ _. T.the-row) yes, tt)
 
-module _ {M : Type 1} (𝓤 : URA M) (H : Heap 𝓤) (A : Atoms 𝓤) (W : Given 𝓤 H A) (mem : Memory → SProp 𝓤) (run : Routine → Fun 𝓤) (h : Presentation) where
+module _ {M : Type 1} (𝓤 : URA M) (H : Heap 𝓤) (A : Atoms 𝓤) (W : Given 𝓤 H A) (mem : Memory → SProp 𝓤) (run : Routine → Fun 𝓤) (h : ReadPresentation) where
   abbrev mach : Val
   mach = LL.tuple-val T.the-type T′.the-laws (T.the-type .to h)
 

@@ -5,12 +5,12 @@ use Prim.Native.Nat.{_-_}
 use borrow.Author.Needs.{needs}
 use native.Mathlib.Omega.{arith}
 use Rattle.text.proofs.Reading.{byte-within}
-use Rattle.reader.proofs.Words.{Going, going-none, going-more, going-past, going-fails, going-stops, going-end, going-as}
+use Rattle.reader.proofs.Words.{ReadTo, going-none, going-more, going-past, going-fails, going-stops, going-end, going-as}
 use Rattle.reader.proofs.exponents.Statement.{statement}
 use Rattle.reader.proofs.exponents.Tie as tie
 
 abbrev Inv-loop : tie.InvT-loop
-Inv-loop text at n kept₀ next₀ k₀ kept next k = Going text at n k next kept
+Inv-loop text at n kept₀ next₀ k₀ kept next k = ReadTo text at n k next kept
 
 abbrev μ-loop : tie.MeasureT-loop
 μ-loop text at n kept₀ next₀ k₀ kept next k = n - k

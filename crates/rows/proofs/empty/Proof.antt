@@ -1,6 +1,6 @@
 -- `empty` meets its contract: the row is compared with zeros.
 use mathlib.Core.Path.{_∙_}
-use Rattle.rows.proofs.Laws.{empty-is}
+use Rattle.rows.proofs.Forms.{empty-is}
 use borrow.Author.Needs.{needs}
 use Rattle.rows.proofs.empty.Statement.{statement}
 use Rattle.rows.proofs.empty.Tie as tie

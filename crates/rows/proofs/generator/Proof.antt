@@ -1,5 +1,5 @@
 -- `generator` meets its contract: zeros, and a one at k.
-use Rattle.rows.proofs.Laws.{generator-row}
+use Rattle.rows.proofs.Forms.{generator-row}
 use borrow.Author.Needs.{needs}
 use Rattle.rows.proofs.generator.Statement.{statement}
 use Rattle.rows.proofs.generator.Tie as tie

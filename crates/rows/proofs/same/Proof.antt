@@ -4,7 +4,7 @@ use Prim.Native.Nat.{_≤_}
 use native.Mathlib.Omega.{arith}
 use Rattle.definitions.specs.Presentation.{maxGenerators, toNF}
 use Rattle.definitions.specs.Consistency.{sameForm}
-use Rattle.rows.proofs.Laws.{same-none, same-more, same-differs}
+use Rattle.rows.proofs.Forms.{same-none, same-more, same-differs}
 use borrow.Author.Needs.{needs}
 use Rattle.rows.proofs.same.Statement.{statement}
 use Rattle.rows.proofs.same.Tie as tie

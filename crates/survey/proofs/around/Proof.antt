@@ -9,7 +9,7 @@ use Rattle.definitions.specs.Lists.{iter}
 use Rattle.definitions.specs.Monomial.{act}
 use Rattle.numbers.proofs.Lists.{iter-zero}
 use Rattle.level.specs.Stored.{Below}
-use Rattle.level.proofs.Laws.{iter-next}
+use Rattle.level.proofs.Columns.{iter-next}
 use Rattle.survey.specs.Below.{degOf, targetOf, sourceIn, aroundIn}
 use Rattle.survey.proofs.Level.{located-degree, located-column}
 use Rattle.survey.proofs.Counting.{around-zero, around-next}

@@ -1,25 +1,32 @@
--- `clear` stores x below k.
-use mathlib.Core.Path.{_≡_, refl, sym, ap, _∙_, subst}
-use Prim.Native.Nat.{_+_, _-_, _≤_}
+-- `clear` stores `reps` for the leaders below k.
+use mathlib.Core.Path.{refl}
+use Prim.Native.Nat.{_-_, _≤_, _<_}
+use lib.ListN.{length}
 use native.Mathlib.Omega.{arith}
-use lib.ListN.{length, set, length-set}
 use denote.Ref.{now}
+use Rattle.fields.proofs.Rows.{Filled, filled-none, filled-put}
+use Rattle.survey.specs.Notes.{leaders, Beside}
+use Rattle.survey.proofs.Notes.{rows-stay, beside-none, beside-put}
 use borrow.Author.Needs.{needs}
-use Rattle.survey.proofs.Level.{Filled, filled-none, filled-more}
 use Rattle.survey.proofs.clear.Statement.{statement}
 use Rattle.survey.proofs.clear.Tie as tie
 
 abbrev Inv-loop : tie.InvT-loop
-Inv-loop a₀ n x k₀ a k = (k ≤ n) × (length a ≡ length a₀) × Filled a (λ j. x) k
+Inv-loop notes₀ reps k₀ notes k = (k ≤ reps) × Beside 1 notes₀ notes × Filled (leaders notes) (λ j. reps) k
 
 abbrev μ-loop : tie.MeasureT-loop
-μ-loop a₀ n x k₀ a k = n - k
+μ-loop notes₀ reps k₀ notes k = reps - k
 
 loop-holds : tie.Need-loop-holds Inv-loop μ-loop
-loop-holds c = (search needs, search needs, filled-none (now (c .before .args .a)) (λ j. c .before .args .x))
+loop-holds c = let a = now (c .before .args .notes) in (search needs, beside-none 1 a, filled-none (leaders a) (λ j. c .before .args .reps))
 
-store-requires : tie.Need-store-requires Inv-loop μ-loop
-store-requires c κs = omega (arith, c .before .before .loop .inv .1, c .before .before .before .before .pre)
+put-note-requires : tie.Need-put-note-requires Inv-loop μ-loop
+put-note-requires c κs = let z = c .before .before .before .before in
+    let l = c .before .before .loop in
+    record {
+      fields = omega arith;
+      rows = omega (arith, rows-stay (z .args .reps) 1 1 (now (z .args .notes)) (l .notes) (l .inv .1 .len) (z .pre));
+    }
 
 add-k : tie.Need-add-k Inv-loop μ-loop
 add-k c = search needs
@@ -30,28 +37,15 @@ loop-less c = search needs
 loop-again : tie.Need-loop-again Inv-loop μ-loop
 loop-again c = let z = c .before .before .before .before .before .before .before in
     let l = c .before .before .before .before .before .loop in
-    let e : c .before .before .store .last .0 ≡ set (l .a) (l .k) (z .args .x) = c .before .before .store .ensures in (
-      search needs,
-      ap length e ∙ length-set (l .a) (l .k) (z .args .x) ∙ l .inv .1,
-      subst (λ x. Filled x (λ j. z .args .x) (l .k + 1)) (sym e) (filled-more (l .a) (λ j. z .args .x) (l .k) (z .args .x) (omega (arith, l .inv .1, z .pre)) refl (l .inv .2)),
-    )
+    let P = c .before .before .put-note .ensures in
+    let room : l .k < length (leaders (l .notes)) = omega (arith, rows-stay (z .args .reps) 1 1 (now (z .args .notes)) (l .notes) (l .inv .1 .len) (z .pre)) in
+    (search needs, beside-put (l .inv .1) P, filled-put (λ j. z .args .reps) room refl P (l .inv .2))
 
 same-length : tie.Need-same-length Inv-loop μ-loop
-same-length c = c .before .loop .inv .1
+same-length c = c .before .loop .inv .1 .len
 
 returns : tie.Need-returns Inv-loop μ-loop
-returns c = let l = c .before .loop in (l .inv .1, λ k h. l .inv .2 k (omega arith))
+returns c = let l = c .before .loop in record { beside = l .inv .1; unmarked = λ q h. l .inv .2 q (omega arith) }
 
 pub clear-spec : {M : Type 1} → statement M
-clear-spec =
-    tie.close
-    (tie.spec
-    Inv-loop
-    μ-loop
-    loop-holds
-    store-requires
-    add-k
-    loop-less
-    loop-again
-    same-length
-    returns)
+clear-spec = tie.close (tie.spec Inv-loop μ-loop loop-holds put-note-requires add-k loop-less loop-again same-length returns)

@@ -1,36 +1,46 @@
 -- `count_numbers`: c is the sum of what the representations before r give.
-use Rattle.survey.specs.Below.{numberIn}
-use Rattle.survey.proofs.Level.{Filled, filled-none, filled-more}
-use Rattle.survey.proofs.Counting.{number-zero, number-next, number-fits}
-use mathlib.Core.Path.{_≡_, sym, ap, ap₂, _∙_, subst}
-use Prim.Native.Nat.{_+_, _-_, _≤_, _<_}
+use mathlib.Core.Path.{_≡_, sym, ap, ap₂, _∙_}
+use Prim.Native.Nat.{_+_, _-_, _≤_}
 use native.Mathlib.Omega.{arith}
-use lib.ListN.{length, set, length-set}
 use denote.Ref.{now}
+use Rattle.fields.proofs.Rows.{Filled, filled-none, filled-put}
+use Rattle.survey.specs.Notes.{numbers, Beside}
+use Rattle.survey.specs.Below.{numberIn}
+use Rattle.survey.proofs.Notes.{rows-stay, inside-orbited, beside-none, beside-put, orbited-beside}
+use Rattle.survey.proofs.Counting.{number-zero, number-next, number-fits}
 use borrow.Author.Needs.{needs}
 use Rattle.survey.proofs.count_numbers.Statement.{statement}
 use Rattle.survey.proofs.count_numbers.Tie as tie
 
 abbrev Inv-loop : tie.InvT-loop
-Inv-loop low first leaders numbers₀ f c₀ reps r₀ numbers c r = (r ≤ reps) × (reps ≡ f .reps) × (length numbers ≡ length numbers₀) × (c ≡ numberIn f low r) × Filled numbers (numberIn f low) r
+Inv-loop low notes₀ f c₀ reps r₀ notes c r = (r ≤ reps) × (reps ≡ f .reps) × Beside 3 notes₀ notes
+    × (c ≡ numberIn f low r) × Filled (numbers notes) (numberIn f low) r
 
 abbrev μ-loop : tie.MeasureT-loop
-μ-loop low first leaders numbers₀ f c₀ reps r₀ numbers c r = reps - r
+μ-loop low notes₀ f c₀ reps r₀ notes c r = reps - r
 
 loop-holds : tie.Need-loop-holds Inv-loop μ-loop
-loop-holds c = let z = c .before .before .before .before in
-    (search needs, search needs, search needs, number-zero (z .args .f) (now (z .args .low)), filled-none (now (z .args .numbers)) (numberIn (z .args .f) (now (z .args .low))))
+loop-holds c = let z = c .before .before in
+    let a = now (z .args .notes) in
+    let g = numberIn (z .args .f) (now (z .args .low)) in
+    (search needs, search needs, beside-none 3 a, number-zero (z .args .f) (now (z .args .low)), filled-none (numbers a) g)
 
-store-requires : tie.Need-store-requires Inv-loop μ-loop
-store-requires c κs = omega (arith, c .before .before .loop .inv .2, c .before .before .before .before .before .before .before .pre .3)
+put-note-requires : tie.Need-put-note-requires Inv-loop μ-loop
+put-note-requires c κs = let z = c .before .before .before .before .before in
+    let l = c .before .before .loop in
+    inside-orbited 3 (omega arith) (z .pre .1) (l .inv .2 .len) (l .r) (search needs)
 
 made-requires : tie.Need-made-requires Inv-loop μ-loop
-made-requires c κs = let z = c .before .before .before .before .before .before .before .before .before .before in (z .pre .0, z .pre .1, z .pre .2, search needs)
+made-requires c κs = let z = c .before .before .before .before .before .before .before .before .before in
+    let l = c .before .before .before .before .before .before .loop in
+    (z .pre .0, orbited-beside 3 (omega arith) (beside-put (l .inv .2) (c .before .before .before .put-note .ensures)) (z .pre .1), search needs)
 
 add-c : tie.Need-add-c Inv-loop μ-loop
-add-c c = let z = c .before .before .before .before .before .before .before .before .before .before .before in
-    let l = c .before .before .before .before .before .before .loop in
-    omega (arith, l .inv .3, c .made .ensures, number-next (z .args .f) (now (z .args .low)) (l .r), number-fits (z .args .f) (now (z .args .low)) (z .pre .0) (l .r + 1) (search needs))
+add-c c = let z = c .before .before .before .before .before .before .before .before .before .before in
+    let l = c .before .before .before .before .before .before .before .loop in
+    let W = now (z .args .low) in
+    let fits = number-fits (z .args .f) W (z .pre .0) (l .r + 1) (search needs) in
+    omega (arith, l .inv .3, c .made .ensures, number-next (z .args .f) W (l .r), fits)
 
 add-r : tie.Need-add-r Inv-loop μ-loop
 add-r c = search needs
@@ -39,38 +49,31 @@ loop-less : tie.Need-loop-less Inv-loop μ-loop
 loop-less c = search needs
 
 loop-again : tie.Need-loop-again Inv-loop μ-loop
-loop-again c = let z = c .before .before .before .before .before .before .before .before .before .before .before in
-    let l = c .before .before .before .before .before .before .loop in
-    let a : c .before .before .before .store .last .0 ≡ set (l .numbers) (l .r) (l .c) = c .before .before .before .store .ensures in
-    let room : l .r < length (l .numbers) = omega (arith, l .inv .2, z .pre .3) in (
+loop-again c = let z = c .before .before .before .before .before .before .before .before .before .before in
+    let l = c .before .before .before .before .before .before .before .loop in
+    let P = c .before .before .before .before .put-note .ensures in
+    let I = inside-orbited 3 (omega arith) (z .pre .1) (l .inv .2 .len) (l .r) (search needs) in (
       search needs,
       search needs,
-      ap length a ∙ length-set (l .numbers) (l .r) (l .c) ∙ l .inv .2,
+      beside-put (l .inv .2) P,
       ap₂ (λ x y. x + y) (l .inv .3) (c .made .ensures) ∙ sym (number-next (z .args .f) (now (z .args .low)) (l .r)),
-      subst (λ x. Filled x (numberIn (z .args .f) (now (z .args .low))) (l .r + 1)) (sym a) (filled-more (l .numbers) (numberIn (z .args .f) (now (z .args .low))) (l .r) (l .c) room (l .inv .3) (l .inv .4)),
+      filled-put (numberIn (z .args .f) (now (z .args .low))) (I .rows) (l .inv .3) P (l .inv .4),
     )
 
 same-length : tie.Need-same-length Inv-loop μ-loop
-same-length c = c .before .loop .inv .2
+same-length c = c .before .loop .inv .2 .len
 
 returns : tie.Need-returns Inv-loop μ-loop
-returns c = let z = c .before .before .before .before .before .before in
+returns c = let z = c .before .before .before .before in
     let l = c .before .loop in
     let e : l .r ≡ z .args .f .reps = omega arith in
-    (l .inv .3 ∙ ap (numberIn (z .args .f) (now (z .args .low))) e, record { long = omega (arith, l .inv .2, z .pre .3); at = λ k h. l .inv .4 k (omega (arith, e)) }, l .inv .2)
+    let long = rows-stay (z .args .f .reps) 0 3 (now (z .args .notes)) (l .notes) (l .inv .2 .len) (z .pre .1 .lines .long) in (
+      (l .inv .3 ∙ ap (numberIn (z .args .f) (now (z .args .low))) e, l .inv .2),
+      record { long = long; at = λ k h. l .inv .4 k (omega (arith, e)) },
+    )
 
 pub count-numbers-spec : {M : Type 1} → statement M
 count-numbers-spec =
     tie.close
     (tie.spec
-    Inv-loop
-    μ-loop
-    loop-holds
-    store-requires
-    made-requires
-    add-c
-    add-r
-    loop-less
-    loop-again
-    same-length
-    returns)
+    Inv-loop μ-loop loop-holds put-note-requires made-requires add-c add-r loop-less loop-again same-length returns)

@@ -1,24 +1,27 @@
--- `find_lines`: the array is filled up to r, and s is where r begins.
-use mathlib.Core.Path.{_≡_, sym, ap, _∙_, subst}
+-- `find_lines`: the first lines of the representations before r are noted, and s is where r begins.
+use mathlib.Core.Path.{_≡_, sym, ap, _∙_}
 use Prim.Native.Nat.{ℕ, _+_, _*_, _-_, _≤_, _<_}
 use native.Mathlib.Omega.{arith}
 use native.Mathlib.Nat.{le-refl}
-use lib.ListN.{length, set, length-set}
+use lib.ListN.{length}
 use denote.Ref.{now}
 use Rattle.definitions.specs.Table.{DEG, wordAt}
 use Rattle.level.specs.declared.Listed.{Listed}
+use Rattle.fields.proofs.Rows.{field-rows, Filled, filled-none, filled-put}
+use Rattle.survey.specs.Notes.{firsts}
 use Rattle.survey.specs.Below.{firstOf}
-use Rattle.survey.proofs.Level.{first-zero, first-next, first-room, first-below, located-line, Filled, filled-none, filled-more}
+use Rattle.survey.proofs.Notes.{rows-stay}
+use Rattle.survey.proofs.Level.{first-zero, first-next, first-room, first-below, located-line}
 use borrow.Author.Needs.{needs}
 use Rattle.survey.proofs.find_lines.Statement.{statement}
 use Rattle.survey.proofs.find_lines.Tie as tie
 
 abbrev Inv-loop : tie.InvT-loop
-Inv-loop low first₀ f s₀ reps r₀ first s r = (r ≤ reps) × (reps ≡ f .reps) × (length first ≡ length first₀) × (s ≡ firstOf f low r) × Filled first
-    (firstOf f low) r
+Inv-loop low notes₀ f s₀ reps r₀ notes s r = (r ≤ reps) × (reps ≡ f .reps) × (length notes ≡ length notes₀)
+    × (s ≡ firstOf f low r) × Filled (firsts notes) (firstOf f low) r
 
 abbrev μ-loop : tie.MeasureT-loop
-μ-loop low first₀ f s₀ reps r₀ first s r = reps - r
+μ-loop low notes₀ f s₀ reps r₀ notes s r = reps - r
 
 loop-holds : tie.Need-loop-holds Inv-loop μ-loop
 loop-holds c = let z = c .before .before in (
@@ -26,16 +29,19 @@ loop-holds c = let z = c .before .before in (
   search needs,
   search needs,
   sym (first-zero (z .args .f) (now (z .args .low))),
-  filled-none (now (z .args .first)) (firstOf (z .args .f) (now (z .args .low))),
+  filled-none (firsts (now (z .args .notes))) (firstOf (z .args .f) (now (z .args .low))),
 )
 
-cast-store : tie.Need-cast-store Inv-loop μ-loop
-cast-store c = let z = c .before .before .before .before .before in
+cast-put-note : tie.Need-cast-put-note Inv-loop μ-loop
+cast-put-note c = let z = c .before .before .before .before .before in
     let l = c .before .before .loop in
     omega (arith, l .inv .3, first-below (z .args .f) (now (z .args .low)) (z .pre .0) (l .r) (search needs), z .pre .0 .short)
 
-store-requires : tie.Need-store-requires Inv-loop μ-loop
-store-requires c κs = omega (arith, c .before .before .loop .inv .2, c .before .before .before .before .before .pre .1)
+put-note-requires : tie.Need-put-note-requires Inv-loop μ-loop
+put-note-requires c κs = let z = c .before .before .before .before .before in
+    let l = c .before .before .loop in
+    let long = field-rows 5 0 (z .args .f .reps) (now (z .args .notes)) (omega arith) (z .pre .1) in
+    record { fields = omega arith; rows = omega (arith, rows-stay (z .args .f .reps) 0 0 (now (z .args .notes)) (l .notes) (l .inv .2) long) }
 
 representation-requires : tie.Need-representation-requires Inv-loop μ-loop
 representation-requires c κs = let z = c .before .before .before .before .before .before .before .before in
@@ -60,14 +66,14 @@ loop-again c = let z = c .before .before .before .before .before .before .before
     let l = c .before .before .before .before .before .before .before .loop in
     let F : Listed → ℕ = λ d. d .line + z .args .f .gens * d .deg in
     let e = c .before .representation .ensures ∙ ap (λ s. record { line = s; deg = wordAt (now (z .args .low)) s DEG }) (l .inv .3) in
-    let a : c .before .before .before .before .store .last .0 ≡ set (l .first) (l .r) (l .s) = c .before .before .before .before .store .ensures in
-    let room : l .r < length (l .first) = omega (arith, l .inv .2, z .pre .1) in (
+    let P = c .before .before .before .before .put-note .ensures in
+    let long = field-rows 5 0 (z .args .f .reps) (now (z .args .notes)) (omega arith) (z .pre .1) in
+    let room : l .r < length (firsts (l .notes)) = omega (arith, rows-stay (z .args .f .reps) 0 0 (now (z .args .notes)) (l .notes) (l .inv .2) long) in (
       search needs,
       search needs,
-      ap length a ∙ length-set (l .first) (l .r) (l .s) ∙ l .inv .2,
+      P .len ∙ l .inv .2,
       c .matrix-line .ensures ∙ ap F e ∙ sym (first-next (z .args .f) (now (z .args .low)) (l .r)),
-      subst (λ x. Filled x (firstOf (z .args .f) (now (z .args .low))) (l .r + 1)) (sym a) (filled-more (l .first) _ (l .r) (l .s) room (l .inv .3)
-          (l .inv .4)),
+      filled-put (firstOf (z .args .f) (now (z .args .low))) room (l .inv .3) P (l .inv .4),
     )
 
 same-length : tie.Need-same-length Inv-loop μ-loop
@@ -77,21 +83,13 @@ returns : tie.Need-returns Inv-loop μ-loop
 returns c = let z = c .before .before .before .before in
     let l = c .before .loop in
     let e : l .r ≡ z .args .f .reps = omega arith in
-    (record { long = omega (arith, l .inv .2, z .pre .1); at = λ k h. l .inv .4 k (omega (arith, e)) }, l .inv .2)
+    let long = field-rows 5 0 (z .args .f .reps) (now (z .args .notes)) (omega arith) (z .pre .1) in
+    let stays = rows-stay (z .args .f .reps) 0 0 (now (z .args .notes)) (l .notes) (l .inv .2) long in
+    (record { long = stays; at = λ k h. l .inv .4 k (omega (arith, e)) }, l .inv .2)
 
 pub find-lines-spec : {M : Type 1} → statement M
 find-lines-spec =
     tie.close
     (tie.spec
-    Inv-loop
-    μ-loop
-    loop-holds
-    cast-store
-    store-requires
-    representation-requires
-    matrix-line-requires
-    add-r
-    loop-less
-    loop-again
-    same-length
-    returns)
+    Inv-loop μ-loop loop-holds cast-put-note put-note-requires representation-requires matrix-line-requires add-r
+    loop-less loop-again same-length returns)

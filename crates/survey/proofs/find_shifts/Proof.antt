@@ -1,30 +1,36 @@
--- `find_shifts`: the array is filled up to r.
-use mathlib.Core.Path.{_≡_, sym, ap, _∙_, subst}
-use Prim.Native.Nat.{ℕ, _+_, _-_, _≤_, _<_}
+-- `find_shifts`: the constants of the representations before r are noted.
+use mathlib.Core.Path.{_≡_}
+use Prim.Native.Nat.{_-_, _≤_}
 use native.Mathlib.Omega.{arith}
-use lib.ListN.{length, set, length-set}
 use denote.Ref.{now}
+use Rattle.fields.proofs.Rows.{Filled, filled-none, filled-put}
 use borrow.Author.Needs.{needs}
+use Rattle.survey.specs.Notes.{shifts, Beside}
 use Rattle.survey.specs.Below.{leadingIn}
-use Rattle.survey.proofs.Level.{Filled, filled-none, filled-more}
+use Rattle.survey.proofs.Notes.{rows-stay, inside-orbited, beside-none, beside-put, orbited-beside}
 use Rattle.survey.proofs.find_shifts.Statement.{statement}
 use Rattle.survey.proofs.find_shifts.Tie as tie
 
 abbrev Inv-loop : tie.InvT-loop
-Inv-loop low first leaders u shifts₀ f reps r₀ shifts r = (r ≤ reps) × (reps ≡ f .reps) × (length shifts ≡ length shifts₀) × Filled shifts (leadingIn f low u) r
+Inv-loop low notes₀ u f reps r₀ notes r = (r ≤ reps) × (reps ≡ f .reps) × Beside 4 notes₀ notes × Filled (shifts notes) (leadingIn f low u) r
 
 abbrev μ-loop : tie.MeasureT-loop
-μ-loop low first leaders u shifts₀ f reps r₀ shifts r = reps - r
+μ-loop low notes₀ u f reps r₀ notes r = reps - r
 
 loop-holds : tie.Need-loop-holds Inv-loop μ-loop
-loop-holds c = let z = c .before .before .before .before in
-    (search needs, search needs, search needs, filled-none (now (z .args .shifts)) (leadingIn (z .args .f) (now (z .args .low)) (now (z .args .u))))
+loop-holds c = let z = c .before .before in
+    let a = now (z .args .notes) in
+    (search needs, search needs, beside-none 4 a, filled-none (shifts a) (leadingIn (z .args .f) (now (z .args .low)) (now (z .args .u))))
 
 leading-requires : tie.Need-leading-requires Inv-loop μ-loop
-leading-requires c κs = let z = c .before .before .before .before .before .before in (z .pre .0, z .pre .1, z .pre .2, search needs)
+leading-requires c κs = let z = c .before .before .before .before .before in
+    let l = c .before .before .loop in
+    (z .pre .0, orbited-beside 4 (omega arith) (l .inv .2) (z .pre .1), search needs)
 
-store-requires : tie.Need-store-requires Inv-loop μ-loop
-store-requires c κs = omega (arith, c .before .before .before .loop .inv .2, c .before .before .before .before .before .before .before .before .pre .3)
+put-note-requires : tie.Need-put-note-requires Inv-loop μ-loop
+put-note-requires c κs = let z = c .before .before .before .before .before .before .before in
+    let l = c .before .before .before .before .loop in
+    inside-orbited 4 (omega arith) (z .pre .1) (l .inv .2 .len) (l .r) (search needs)
 
 add-r : tie.Need-add-r Inv-loop μ-loop
 add-r c = search needs
@@ -33,38 +39,25 @@ loop-less : tie.Need-loop-less Inv-loop μ-loop
 loop-less c = search needs
 
 loop-again : tie.Need-loop-again Inv-loop μ-loop
-loop-again c = let z = c .before .before .before .before .before .before .before .before .before .before .before in
-    let l = c .before .before .before .before .before .before .loop in
-    let x = c .before .before .before .before .leading .result in
-    let a : c .before .before .store .last .0 ≡ set (l .shifts) (l .r) x = c .before .before .store .ensures in
-    let room : l .r < length (l .shifts) = omega (arith, l .inv .2, z .pre .3) in
-    let g : ℕ → ℕ = leadingIn (z .args .f) (now (z .args .low)) (now (z .args .u)) in (
-      search needs,
-      search needs,
-      ap length a ∙ length-set (l .shifts) (l .r) x ∙ l .inv .2,
-      subst (λ y. Filled y g (l .r + 1)) (sym a) (filled-more (l .shifts) g (l .r) x room (c .before .before .before .before .leading .ensures .0) (l .inv .3)),
-    )
+loop-again c = let z = c .before .before .before .before .before .before .before .before .before .before in
+    let l = c .before .before .before .before .before .before .before .loop in
+    let P = c .before .before .put-note .ensures in
+    let I = inside-orbited 4 (omega arith) (z .pre .1) (l .inv .2 .len) (l .r) (search needs) in
+    let g = leadingIn (z .args .f) (now (z .args .low)) (now (z .args .u)) in
+    (search needs, search needs, beside-put (l .inv .2) P, filled-put g (I .rows) (c .before .before .before .before .leading .ensures .0) P (l .inv .3))
 
 same-length : tie.Need-same-length Inv-loop μ-loop
-same-length c = c .before .loop .inv .2
+same-length c = c .before .loop .inv .2 .len
 
 returns : tie.Need-returns Inv-loop μ-loop
-returns c = let z = c .before .before .before .before .before .before in
+returns c = let z = c .before .before .before .before in
     let l = c .before .loop in
     let e : l .r ≡ z .args .f .reps = omega arith in
-    (record { long = omega (arith, l .inv .2, z .pre .3); at = λ k h. l .inv .3 k (omega (arith, e)) }, l .inv .2)
+    let long = rows-stay (z .args .f .reps) 0 4 (now (z .args .notes)) (l .notes) (l .inv .2 .len) (z .pre .1 .lines .long) in
+    (record { long = long; at = λ k h. l .inv .3 k (omega (arith, e)) }, l .inv .2)
 
 pub find-shifts-spec : {M : Type 1} → statement M
 find-shifts-spec =
     tie.close
     (tie.spec
-    Inv-loop
-    μ-loop
-    loop-holds
-    leading-requires
-    store-requires
-    add-r
-    loop-less
-    loop-again
-    same-length
-    returns)
+    Inv-loop μ-loop loop-holds leading-requires put-note-requires add-r loop-less loop-again same-length returns)

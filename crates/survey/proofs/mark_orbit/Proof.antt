@@ -1,14 +1,14 @@
 -- `mark_orbit`: q is member k of the orbit, and the members before it are marked.
-use mathlib.Core.Path.{_≡_, sym, ap, _∙_, subst}
+use mathlib.Core.Path.{_≡_, refl, sym, ap, _∙_, subst}
 use Prim.Native.Nat.{suc, _-_, _≤_, _<_}
 use native.Mathlib.Omega.{arith}
 use native.Mathlib.Nat.{le-refl}
-use lib.ListN.{length}
 use denote.Ref.{now}
 use Rattle.definitions.specs.Lists.{iter}
 use Rattle.numbers.proofs.Lists.{iter-zero}
-use Rattle.level.proofs.Laws.{iter-next}
-use Rattle.survey.specs.Below.{degOf, targetOf, MarkedTo}
+use Rattle.level.proofs.Columns.{iter-next}
+use Rattle.survey.specs.Below.{degOf, targetOf, Lines, Marking}
+use Rattle.survey.proofs.Notes.{inside-below}
 use Rattle.survey.proofs.Level.{located-stored, located-degree, located-target}
 use Rattle.survey.proofs.Marking.{marking-step, orbit-inside}
 use borrow.Author.Needs.{needs}
@@ -16,43 +16,42 @@ use Rattle.survey.proofs.mark_orbit.Statement.{statement}
 use Rattle.survey.proofs.mark_orbit.Tie as tie
 
 abbrev Inv-loop : tie.InvT-loop
-Inv-loop low first leaders₀ places₀ f r d q₀ p k₀ leaders places q k = (k ≤ p) × (p ≡ f .p) × (q ≡ iter (targetOf f low
-    (f .top)) k r) × MarkedTo f low leaders places r k × (length leaders ≡ length leaders₀) × (length places ≡ length places₀) ×
-    (d .deg ≡ degOf f low q)
+Inv-loop low notes₀ f r d q₀ p k₀ notes q k = (k ≤ p) × (p ≡ f .p) × (q ≡ iter (targetOf f low (f .top)) k r) × Marking f low notes₀ notes r k
+    × (d .deg ≡ degOf f low q)
 
 abbrev μ-loop : tie.MeasureT-loop
-μ-loop low first leaders₀ places₀ f r d q₀ p k₀ leaders places q k = p - k
+μ-loop low notes₀ f r d q₀ p k₀ notes q k = p - k
 
 listed-requires : tie.Need-listed-requires Inv-loop μ-loop
-listed-requires c κs = let z = c .before .before .before .before in (z .pre .0 .0, z .pre .0 .1, z .pre .0 .2)
+listed-requires c κs = let z = c .before .before .before in (z .pre .0 .0, z .pre .0 .1, z .pre .0 .2)
 
 loop-holds : tie.Need-loop-holds Inv-loop μ-loop
 loop-holds c = (
   search needs,
   search needs,
   sym (iter-zero _ _),
-  c .before .before .before .before .before .pre .1,
-  search needs,
-  search needs,
+  record { marks = c .before .before .before .before .pre .1; lines = refl; len = refl },
   located-degree (c .listed .ensures),
 )
 
 mark-requires : tie.Need-mark-requires Inv-loop μ-loop
-mark-requires c κs = let z = c .before .before .before .before .before .before .before .before .before in
-    let l = c .before .before .before .loop in
+mark-requires c κs = let z = c .before .before .before .before .before .before .before in
+    let l = c .before .before .loop in
     let h : l .q < z .args .f .reps = subst (λ x. x < z .args .f .reps) (sym (l .inv .2)) (orbit-inside (z .args .f) (now (z .args .low))
     (z .pre .0 .0) (z .args .r) (l .k) (z .pre .0 .2)) in
-    (omega (arith, h, l .inv .3 .long .0), omega (arith, h, l .inv .3 .long .1))
+    inside-below 1 (z .args .f .reps) (l .notes) (l .q) (omega arith) (l .inv .3 .marks .long .0) h
 
 member-requires : tie.Need-member-requires Inv-loop μ-loop
-member-requires c κs = let z = c .before .before .before .before .before .before .before .before .before .before .before .before .before .before in
-    let l = c .before .before .before .before .before .before .before .before .loop in
+member-requires c κs = let z = c .before .before .before .before .before .before .before .before .before .before .before in
+    let l = c .before .before .before .before .before .before .loop in
     let h : l .q < z .args .f .reps = subst (λ x. x < z .args .f .reps) (sym (l .inv .2)) (orbit-inside (z .args .f) (now (z .args .low))
     (z .pre .0 .0) (z .args .r) (l .k) (z .pre .0 .2)) in
-    (z .pre .0 .0, z .pre .0 .1, h, l .inv .6)
+    let e = c .before .before .before .mark .ensures .lines ∙ l .inv .3 .lines in
+    (z .pre .0 .0, subst (Lines (z .args .f) (now (z .args .low))) (sym e) (z .pre .0 .1), h, l .inv .4)
 
 target-requires : tie.Need-target-requires Inv-loop μ-loop
-target-requires c κs = let z = c .before .before .before .before .before .before .before .before .before .before .before .before .before .before .before in (z .args .f .m, located-stored (c .member .ensures) (suc (z .args .f .top)) (z .pre .0 .0 .gens .0))
+target-requires c κs = let z = c .before .before .before .before .before .before .before .before .before .before .before .before in
+    (z .args .f .m, located-stored (c .member .ensures) (suc (z .args .f .top)) (z .pre .0 .0 .gens .0))
 
 add-k : tie.Need-add-k Inv-loop μ-loop
 add-k c = search needs
@@ -61,47 +60,35 @@ loop-less : tie.Need-loop-less Inv-loop μ-loop
 loop-less c = search needs
 
 loop-again : tie.Need-loop-again Inv-loop μ-loop
-loop-again c = let z = c .before .before .before .before .before .before .before .before .before .before .before .before .before .before .before .before in
-    let l = c .before .before .before .before .before .before .before .before .before .before .loop in
+loop-again c = let z = c .before .before .before .before .before .before .before .before .before .before .before .before .before in
+    let l = c .before .before .before .before .before .before .before .before .loop in
     let τ = targetOf (z .args .f) (now (z .args .low)) (z .args .f .top) in
     let t = located-target (c .before .member .ensures) (z .args .f .top) _ (le-refl _) (z .pre .0 .0 .gens .0) (c .target .ensures) in
-    let N = c .before .before .before .before .before .before .mark .ensures in (
+    let N = c .before .before .before .before .before .mark .ensures in (
       search needs,
       search needs,
       t .0 ∙ ap τ (l .inv .2) ∙ sym (iter-next τ (l .k) (z .args .r)),
-      marking-step (z .args .f) (now (z .args .low)) (z .pre .0 .0) (z .args .r) (z .pre .0 .2) (z .pre .0 .3) (l .k) (l .leaders) (l .places) _ _
-          (search needs) (l .inv .3) (rw (l .inv .2) at N),
-      N .lengths .0 ∙ l .inv .4,
-      N .lengths .1 ∙ l .inv .5,
-      l .inv .6 ∙ sym (located-degree (c .before .member .ensures)) ∙ t .2,
+      record {
+        marks = marking-step (z .args .f) (now (z .args .low)) (z .pre .0 .0) (z .args .r) (z .pre .0 .2) (z .pre .0 .3) (l .k) (l .notes) _
+            (search needs) (l .inv .3 .marks) (rw (l .inv .2) at N);
+        lines = N .lines ∙ l .inv .3 .lines;
+        len = N .len ∙ l .inv .3 .len;
+      },
+      l .inv .4 ∙ sym (located-degree (c .before .member .ensures)) ∙ t .2,
     )
 
 same-length : tie.Need-same-length Inv-loop μ-loop
-same-length c = c .before .loop .inv .4
-
-same-length-2 : tie.Need-same-length-2 Inv-loop μ-loop
-same-length-2 c = c .before .loop .inv .5
+same-length c = c .before .loop .inv .3 .len
 
 returns : tie.Need-returns Inv-loop μ-loop
-returns c = let z = c .before .before .before .before .before .before .before in
+returns c = let z = c .before .before .before .before .before .before in
     let l = c .before .loop in
     let e : l .k ≡ z .args .f .p = omega arith in
-    (subst (MarkedTo (z .args .f) (now (z .args .low)) (l .leaders) (l .places) (z .args .r)) e (l .inv .3), l .inv .4, l .inv .5)
+    subst (Marking (z .args .f) (now (z .args .low)) (now (z .args .notes)) (l .notes) (z .args .r)) e (l .inv .3)
 
 pub mark-orbit-spec : {M : Type 1} → statement M
 mark-orbit-spec =
     tie.close
     (tie.spec
-    Inv-loop
-    μ-loop
-    listed-requires
-    loop-holds
-    mark-requires
-    member-requires
-    target-requires
-    add-k
-    loop-less
-    loop-again
-    same-length
-    same-length-2
-    returns)
+    Inv-loop μ-loop listed-requires loop-holds mark-requires member-requires target-requires add-k loop-less
+    loop-again same-length returns)

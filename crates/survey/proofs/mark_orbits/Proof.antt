@@ -1,33 +1,42 @@
 -- `mark_orbits`: the orbits of the representations before r are marked.
-use mathlib.Core.Path.{_≡_, refl, _∙_, subst}
+use mathlib.Core.Path.{_≡_, refl, sym, _∙_, subst}
 use Prim.Native.Nat.{_-_, _≤_}
 use native.Mathlib.Omega.{arith}
-use lib.ListN.{length}
 use denote.Ref.{now}
 use borrow.Author.Needs.{needs}
-use Rattle.survey.specs.Below.{MarkedTo}
+use Rattle.survey.specs.Notes.{leaders, positions}
+use Rattle.survey.specs.Below.{Lines, MarkedTo, Marking}
+use Rattle.survey.proofs.Notes.{rows-stay}
 use Rattle.survey.proofs.Marking.{marking-none, marking-all}
 use Rattle.survey.proofs.mark_orbits.Statement.{statement}
 use Rattle.survey.proofs.mark_orbits.Tie as tie
 
 abbrev Inv-loop : tie.InvT-loop
-Inv-loop low first leaders₀ places₀ f reps r₀ leaders places r = (r ≤ reps) × (reps ≡ f .reps) × MarkedTo f low leaders places r 0 × (length leaders ≡ length leaders₀) × (length places ≡ length places₀)
+Inv-loop low notes₀ f reps r₀ notes r = (r ≤ reps) × (reps ≡ f .reps) × Marking f low notes₀ notes r 0
 
 abbrev μ-loop : tie.MeasureT-loop
-μ-loop low first leaders₀ places₀ f reps r₀ leaders places r = reps - r
+μ-loop low notes₀ f reps r₀ notes r = reps - r
 
 clear-requires : tie.Need-clear-requires Inv-loop μ-loop
-clear-requires c κs = c .before .before .before .before .before .pre .2
+clear-requires c κs = let z = c .before .before .before in
+    let a = now (z .args .notes) in
+    rows-stay (z .args .f .reps) 0 1 a a refl (z .pre .1 .long)
 
 loop-holds : tie.Need-loop-holds Inv-loop μ-loop
-loop-holds c = let z = c .before .before .before .before .before .before .before .before in
-    let e = c .before .before .clear .ensures in
-    (search needs, search needs, marking-none (z .args .f) (now (z .args .low)) (z .pre .0) _ _ (omega (arith, e .0, z .pre .2)) (z .pre .3) (e .1), refl, refl)
+loop-holds c = let z = c .before .before .before .before .before .before in
+    let C = c .before .before .clear .ensures in
+    let long = z .pre .1 .long in
+    let a = now (z .args .notes) in
+    let n = z .args .f .reps in
+    let M = marking-none (z .args .f) (now (z .args .low)) (z .pre .0) _ _
+    (rows-stay n 0 1 a _ (C .beside .len) long) (rows-stay n 0 2 a _ (C .beside .len) long) (C .unmarked) in
+    (search needs, search needs, record { marks = M; lines = refl; len = refl })
 
 mark-from-requires : tie.Need-mark-from-requires Inv-loop μ-loop
-mark-from-requires c κs = let z = c .before .before .before .before .before .before .before .before .before .before .before .before in
-    let l = c .before .before .before .loop in
-    ((z .pre .0, z .pre .1, search needs), l .inv .2)
+mark-from-requires c κs = let z = c .before .before .before .before .before .before .before .before .before in
+    let l = c .before .before .loop in
+    let e = l .inv .2 .lines ∙ c .before .before .before .before .before .clear .ensures .beside .kept 0 (omega arith) (λ e. omega (arith, e)) in
+    ((z .pre .0, subst (Lines (z .args .f) (now (z .args .low))) (sym e) (z .pre .1), search needs), l .inv .2 .marks)
 
 add-r : tie.Need-add-r Inv-loop μ-loop
 add-r c = search needs
@@ -36,34 +45,27 @@ loop-less : tie.Need-loop-less Inv-loop μ-loop
 loop-less c = search needs
 
 loop-again : tie.Need-loop-again Inv-loop μ-loop
-loop-again c = let e = c .before .before .before .before .mark-from .ensures in
-    let l = c .before .before .before .before .before .before .before .before .loop in
-    (search needs, search needs, e .0, e .1 ∙ l .inv .3, e .2 ∙ l .inv .4)
+loop-again c = let M = c .before .before .mark-from .ensures in
+    let l = c .before .before .before .before .before .loop in
+    (search needs, search needs, record { marks = M .marks; lines = M .lines ∙ l .inv .2 .lines; len = M .len ∙ l .inv .2 .len })
 
 same-length : tie.Need-same-length Inv-loop μ-loop
-same-length c = c .before .loop .inv .3 ∙ c .before .before .before .before .clear .ensures .0
-
-same-length-2 : tie.Need-same-length-2 Inv-loop μ-loop
-same-length-2 c = c .before .loop .inv .4
+same-length c = c .before .loop .inv .2 .len ∙ c .before .before .before .before .clear .ensures .beside .len
 
 returns : tie.Need-returns Inv-loop μ-loop
-returns c = let z = c .before .before .before .before .before .before .before .before .before .before in
+returns c = let z = c .before .before .before .before .before .before .before .before in
     let l = c .before .loop in
-    let e : l .r ≡ z .args .f .reps = omega arith in
-    marking-all (z .args .f) (now (z .args .low)) (z .pre .0) (l .leaders) (l .places) (subst (λ k. MarkedTo (z .args .f) (now (z .args .low)) (l .leaders) (l .places) k 0) e (l .inv .2))
+    let M = l .inv .2 in
+    let f = z .args .f in
+    let W = now (z .args .low) in
+    let C = c .before .before .before .before .clear .ensures .beside in
+    let e : l .r ≡ f .reps = omega arith in
+    let A = marking-all f W (z .pre .0) _ _ (subst (λ k. MarkedTo f W (leaders (l .notes)) (positions (l .notes)) k 0) e (M .marks)) in
+    let first = M .lines ∙ C .kept 0 (omega arith) (λ e. omega (arith, e)) in
+    (record { lines = subst (Lines f W) (sym first) (z .pre .1); leaders-are = A .0; places-are = A .1 }, M .len ∙ C .len)
 
 pub mark-orbits-spec : {M : Type 1} → statement M
 mark-orbits-spec =
     tie.close
     (tie.spec
-    Inv-loop
-    μ-loop
-    clear-requires
-    loop-holds
-    mark-from-requires
-    add-r
-    loop-less
-    loop-again
-    same-length
-    same-length-2
-    returns)
+    Inv-loop μ-loop clear-requires loop-holds mark-from-requires add-r loop-less loop-again same-length returns)

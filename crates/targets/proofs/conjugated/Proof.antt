@@ -11,7 +11,7 @@ use Rattle.definitions.specs.Presentation.{toNF}
 use Rattle.definitions.specs.Monomial.{entry, act}
 use Rattle.formulas.specs.Formulas.{walk, plus}
 use Rattle.level.specs.Stored.{generatorIn}
-use Rattle.level.proofs.Laws.{stored-fewer}
+use Rattle.level.proofs.Columns.{stored-fewer}
 use Rattle.targets.specs.Reached.{conjugatedIn}
 use borrow.Author.Needs.{needs}
 use Rattle.targets.proofs.conjugated.Statement.{statement}

@@ -1,92 +1,69 @@
--- `find_targets`: the arrays are filled above the generator on top and below j.
-use mathlib.Core.Path.{_≡_, refl, sym, ap, _∙_, subst}
-use Prim.Native.Nat.{ℕ, suc, _+_, _-_, _≤_}
+-- `find_targets`: the rows are filled above the generator on top and below j.
+use mathlib.Core.Path.{_≡_, refl, ap, _∙_}
+use Prim.Native.Nat.{suc, _+_, _-_, _≤_, _<_}
 use native.Mathlib.Omega.{arith}
-use lib.ListN.{length, set, length-set}
+use lib.ListN.{length}
 use denote.Ref.{now}
-use Rattle.formulas.specs.Formulas.{landing}
 use Rattle.formulas.specs.Formulas.{start}
-use Rattle.survey.specs.Below.{targetOf, sourceIn}
+use Rattle.survey.specs.Below.{sourceIn}
 use Rattle.survey.proofs.Level.{located-stored, located-target}
-use Rattle.targets.proofs.Laws.{Between, between-none, between-more}
+use Rattle.survey.proofs.Notes.{inside-array}
+use Rattle.targets.specs.Reached.{Targeted}
+use Rattle.targets.proofs.Targets.{inside-targets, targeted-none, targeted-more}
 use borrow.Author.Needs.{needs}
 use Rattle.targets.proofs.find_targets.Statement.{statement}
 use Rattle.targets.proofs.find_targets.Tie as tie
 
 abbrev Inv-loop : tie.InvT-loop
-Inv-loop low first rows numbers shifts to₀ by₀ f r d lo gens j₀ to by j = (lo ≤ j) × (lo ≡ f .top + 1) × (gens ≡ f .gens) × (j ≤ gens) ×
-    (length to ≡ length to₀) × (length by ≡ length by₀)
-    × Between to (λ k. start (sourceIn f low rows) (targetOf f low k r)) (f .top) j × Between by (λ k. landing (sourceIn f low rows) k r) (f .top) j
+Inv-loop low rows notes targets₀ f r d lo gens j₀ targets j =
+    (lo ≤ j) × (lo ≡ f .top + 1) × (gens ≡ f .gens) × (j ≤ gens) × (length targets ≡ length targets₀) × Targeted f low rows r targets j
 
 abbrev μ-loop : tie.MeasureT-loop
-μ-loop low first rows numbers shifts to₀ by₀ f r d lo gens j₀ to by j = gens - j
+μ-loop low rows notes targets₀ f r d lo gens j₀ targets j = gens - j
 
 listed-requires : tie.Need-listed-requires Inv-loop μ-loop
-listed-requires c κs = let z = c .before .before .before .before .before .before in (z .pre .0, z .pre .1, z .pre .5)
+listed-requires c κs = let z = c .before .before .before in (z .pre .0 .sound .stands, z .pre .0 .orbited .lines, z .pre .1)
 
 add-lo : tie.Need-add-lo Inv-loop μ-loop
-add-lo c = let z = c .before .before .before .before .before .before .before .before in omega (arith, z .pre .0 .gens)
+add-lo c = let z = c .before .before .before .before .before in omega (arith, z .pre .0 .sound .stands .gens)
 
 loop-holds : tie.Need-loop-holds Inv-loop μ-loop
-loop-holds c = let z = c .before .before .before .before .before .before .before .before in
-    let to-is : ℕ → ℕ = λ (k : ℕ). start (sourceIn (z .args .f) (now (z .args .low)) (now (z .args .rows))) (targetOf (z .args .f) (now
-    (z .args .low)) k (z .args .r)) in
-    let by-is : ℕ → ℕ = λ (k : ℕ). landing (sourceIn (z .args .f) (now (z .args .low)) (now (z .args .rows))) k (z .args .r) in (
-      search needs,
-      search needs,
-      search needs,
-      omega (arith, z .pre .0 .gens),
-      refl,
-      refl,
-      between-none (now (z .args .to)) to-is (z .args .f .top),
-      between-none (now (z .args .by)) by-is (z .args .f .top),
-    )
+loop-holds c = let z = c .before .before .before .before .before in
+    let T = targeted-none (z .args .f) (now (z .args .low)) (now (z .args .rows)) (z .args .r) (now (z .args .targets)) in
+    (search needs, search needs, search needs, omega (arith, z .pre .0 .sound .stands .gens), refl, T)
 
 target-requires : tie.Need-target-requires Inv-loop μ-loop
-target-requires c κs = let listed′ = c .before .before .before .listed in
-    let z = c .before .before .before .before .before .before .before .before .before .before in
-    (z .args .f .m, located-stored (listed′ .ensures) (suc (c .before .loop .j)) (omega (arith, c .before .loop .inv .2, c .before .loop .inv .3)))
+target-requires c κs = let z = c .before .before .before .before .before .before .before in
+    let l = c .before .loop in
+    (z .args .f .m, located-stored (c .before .before .before .listed .ensures) (suc (l .j)) (omega (arith, l .inv .2, l .inv .3)))
 
-element-requires : tie.Need-element-requires Inv-loop μ-loop
-element-requires c κs = let z = c .before .before .before .before .before .before .before .before .before .before .before in
+note-requires : tie.Need-note-requires Inv-loop μ-loop
+note-requires c κs = let z = c .before .before .before .before .before .before .before .before in
     let l = c .before .before .loop in
-    let t = located-target (c .before .before .before .before .listed .ensures) (l .j) _ (omega (
-      arith,
-      l .inv .0,
-      l .inv .1,
-    )) (search needs) (c .target .ensures) in
-    omega (arith, t .1, z .pre .3 .long)
+    let S = z .pre .0 in
+    let L = c .before .before .before .before .listed .ensures in
+    let t = located-target L (l .j) _ (omega (arith, l .inv .0, l .inv .1)) (search needs) (c .target .ensures) in
+    inside-array 3 (now (z .args .notes)) _ (omega arith) (S .numbers-are) _ (t .1)
 
-store-requires : tie.Need-store-requires Inv-loop μ-loop
-store-requires c κs = omega (
-  arith,
-  c .before .before .before .before .loop .inv .4,
-  c .before .before .before .before .before .before .before .before .before .before .before .before .before .pre .6,
-)
+put-requires : tie.Need-put-requires Inv-loop μ-loop
+put-requires c κs = let turn = c .before .before .before in
+    let l = turn .before .loop in
+    let z = turn .before .before .before .before .before .before .before in
+    inside-targets (z .args .f .gens) 0 (omega arith) (omega (arith, l .inv .4, z .pre .3)) (search needs)
 
 landing-requires : tie.Need-landing-requires Inv-loop μ-loop
-landing-requires c κs = let z = c .before .before .before .before .before .before .before .before .before .before .before .before .before .before .before .before in
-    let l = c .before .before .before .before .before .before .before .loop in (
-      c .before .before .before .before .before .before .before .before .before .listed .ensures,
-      z .pre .1,
-      z .pre .2,
-      z .pre .4,
-      omega (
-        arith,
-        l .inv .0,
-        l .inv .1,
-      ),
-      search needs,
-      z .pre .8,
-      z .pre .9,
-    )
+landing-requires c κs = let turn = c .before .before .before .before .before .before in
+    let l = turn .before .loop in
+    let z = turn .before .before .before .before .before .before .before in
+    let L = turn .before .before .before .listed .ensures in
+    record { surveyed = z .pre .0; located = L; fixed = z .pre .2; above = omega (arith, l .inv .0, l .inv .1); inside = search needs }
 
-store-requires-2 : tie.Need-store-requires-2 Inv-loop μ-loop
-store-requires-2 c κs = omega (
-  arith,
-  c .before .before .before .before .before .before .before .before .before .loop .inv .5,
-  c .before .before .before .before .before .before .before .before .before .before .before .before .before .before .before .before .before .before .pre .7,
-)
+put-requires-2 : tie.Need-put-requires-2 Inv-loop μ-loop
+put-requires-2 c κs = let turn = c .before .before .before .before .before .before .before .before in
+    let l = turn .before .loop in
+    let z = turn .before .before .before .before .before .before .before in
+    let P = c .before .before .before .before .put .ensures in
+    inside-targets (z .args .f .gens) 1 (omega arith) (omega (arith, P .len, l .inv .4, z .pre .3)) (search needs)
 
 add-j : tie.Need-add-j Inv-loop μ-loop
 add-j c = search needs
@@ -95,55 +72,40 @@ loop-less : tie.Need-loop-less Inv-loop μ-loop
 loop-less c = search needs
 
 loop-again : tie.Need-loop-again Inv-loop μ-loop
-loop-again c = let z = c .before .before .before .before .before .before .before .before .before .before .before .before .before .before .before .before .before .before .before .before .before in
-    let l = c .before .before .before .before .before .before .before .before .before .before .before .before .loop in
-    let t = located-target (c .before .before .before .before .before .before .before .before .before .before .before .before .before .before .listed .ensures) (l .j) _ (omega (arith, l .inv .0, l .inv .1)) (search needs) (c .before .before .before .before .before .before .before .before .before .before .target .ensures) in
-    let to-is : ℕ → ℕ = λ (k : ℕ). start (sourceIn (z .args .f) (now (z .args .low)) (now (z .args .rows))) (targetOf (z .args .f) (now
-    (z .args .low)) k (z .args .r)) in
-    let by-is : ℕ → ℕ = λ (k : ℕ). landing (sourceIn (z .args .f) (now (z .args .low)) (now (z .args .rows))) k (z .args .r) in
-    let x = c .before .before .before .before .before .before .before .before .before .element .result in
-    let y = c .before .before .before .before .landing .result in
-    let e : x ≡ to-is (l .j) = c .before .before .before .before .before .before .before .before .before .element .ensures ∙ z .pre .3 .at _ (t .1)
-    ∙ ap (start (sourceIn (z .args .f) (now (z .args .low)) (now (z .args .rows)))) (t .0) in
-    let a : c .before .before .before .before .before .before .before .store .last .0 ≡ set (l .to)
-    (l .j) x = c .before .before .before .before .before .before .before .store .ensures in
-    let b : c .before .before .store2 .last .0 ≡ set (l .by) (l .j) y = c .before .before .store2 .ensures in (
+loop-again c = let late = c .before .before in
+    let half = late .before .before .before .before .before in
+    let turn = half .before .before .before .before in
+    let l = turn .before .loop in
+    let z = turn .before .before .before .before .before .before .before in
+    let L = turn .before .before .before .listed .ensures in
+    let led = half .before .before .before .target .ensures in
+    let number = half .before .before .note .ensures in
+    let P = half .put .ensures in
+    let there = late .before .before .landing .ensures in
+    let Q = late .put2 .ensures in
+    let f = z .args .f in
+    let S = z .pre .0 in
+    let W = now (z .args .low) in
+    let rows = now (z .args .rows) in
+    let inside : l .j < f .gens = omega (arith, turn .loop-test .taken, l .inv .2) in
+    let t = located-target L (l .j) _ (omega (arith, l .inv .0, l .inv .1)) inside led in
+    let x = number ∙ S .numbers-are .at _ (t .1) ∙ ap (start (sourceIn f W rows)) (t .0) in (
       omega (arith, l .inv .0),
       l .inv .1,
       l .inv .2,
-      search needs,
-      ap length a ∙ length-set (l .to) (l .j) x ∙ l .inv .4,
-      ap length b ∙ length-set (l .by) (l .j) y ∙ l .inv .5,
-      subst (λ t. Between t to-is (z .args .f .top) (l .j + 1)) (sym a) (between-more (l .to) to-is (z .args .f .top) (l .j) x (omega (
-        arith,
-        l .inv .4,
-        z .pre .6,
-      )) e (l .inv .6)),
-      subst (λ t. Between t by-is (z .args .f .top) (l .j + 1)) (sym b) (between-more (l .by) by-is (z .args .f .top) (l .j) y (omega (
-        arith,
-        l .inv .5,
-        z .pre .7,
-      )) (c .before .before .before .before .landing .ensures .0) (l .inv .7)),
+      omega (arith, inside, l .inv .2),
+      Q .len ∙ P .len ∙ l .inv .4,
+      targeted-more f W rows (z .args .r) (omega (arith, l .inv .4, z .pre .3)) inside P x Q there (l .inv .5),
     )
 
 same-length : tie.Need-same-length Inv-loop μ-loop
 same-length c = c .before .loop .inv .4
 
-same-length-2 : tie.Need-same-length-2 Inv-loop μ-loop
-same-length-2 c = c .before .loop .inv .5
-
 returns : tie.Need-returns Inv-loop μ-loop
-returns c = let z = c .before .before .before .before .before .before .before .before .before .before in
+returns c = let z = c .before .before .before .before .before .before .before in
     let l = c .before .loop in
     let e : l .j ≡ z .args .f .gens = omega (arith, l .inv .2, l .inv .3) in
-    record {
-      stands = z .pre .0;
-      words = z .pre .2;
-      listed = z .pre .5;
-      long = (omega (arith, l .inv .4, z .pre .6), omega (arith, l .inv .5, z .pre .7));
-      to-is = λ j a b. l .inv .6 j a (omega (arith, e));
-      by-is = λ j a b. l .inv .7 j a (omega (arith, e));
-    }
+    record { sound = z .pre .0 .sound; listed = z .pre .1; long = omega (arith, l .inv .4, z .pre .3); targeted = rw e at (l .inv .5) }
 
 pub find-targets-spec : {M : Type 1} → statement M
 find-targets-spec =
@@ -155,13 +117,12 @@ find-targets-spec =
     add-lo
     loop-holds
     target-requires
-    element-requires
-    store-requires
+    note-requires
+    put-requires
     landing-requires
-    store-requires-2
+    put-requires-2
     add-j
     loop-less
     loop-again
     same-length
-    same-length-2
     returns)

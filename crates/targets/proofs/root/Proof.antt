@@ -1,22 +1,22 @@
 -- `root` divides.
 use mathlib.Core.Path.{sym, ap, subst}
-use Prim.Native.Nat.{_-_, _<_}
-use Rattle.targets.proofs.Laws.{divide-below}
-use Prim.Native.Nat.{_/_}
+use Prim.Native.Nat.{_/_, _<_}
+use Rattle.targets.proofs.Targets.{divide-below}
 use borrow.Author.Needs.{needs}
 use Rattle.targets.proofs.root.Statement.{statement}
 use Rattle.targets.proofs.root.Tie as tie
 
-element-requires : tie.Need-element-requires
-element-requires c κs = search needs
+note-requires : tie.Need-note-requires
+note-requires c κs = search needs
 
 div-result : tie.Need-div-result
 div-result c = search needs
 
 returns : tie.Need-returns
 returns c = let z = c .before .before .before in
-    let e = c .before .element .ensures in
-    (ap (λ x. x / z .args .f .p) e, subst (λ x. x / z .args .f .p < z .args .f .m) (sym e) (divide-below _ (z .args .f .p) (z .args .f .m) (z .pre .2)))
+    let f = z .args .f in
+    let e = c .before .note .ensures in
+    (ap (λ x. x / f .p) e, subst (λ x. x / f .p < f .m) (sym e) (divide-below _ (f .p) (f .m) (z .pre .2)))
 
 pub root-spec : {M : Type 1} → statement M
-root-spec = tie.close (tie.spec element-requires div-result returns)
+root-spec = tie.close (tie.spec note-requires div-result returns)

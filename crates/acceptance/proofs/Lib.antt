@@ -1,0 +1,2 @@
+-- Laws of the answer to a presentation text.
+pub mod Answered

@@ -1,0 +1,2 @@
+-- What examining a presentation text leaves.
+pub mod Accepted

@@ -1,2 +1,0 @@
--- The words of the first levels, and the frame of the next.
-pub mod Built

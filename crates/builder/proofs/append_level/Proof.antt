@@ -1,0 +1,43 @@
+-- `append_level` surveys the level below, and appends.
+use mathlib.Core.Path.{sym}
+use native.Mathlib.Omega.{arith}
+use native.Mathlib.Nat.{le-refl}
+use lib.Seq.{length-take-le}
+use denote.Ref.{now}
+use borrow.Author.Needs.{needs}
+use Rattle.builder.proofs.append_level.Statement.{statement}
+use Rattle.builder.proofs.append_level.Tie as tie
+
+mul-n : tie.Need-mul-n
+mul-n c = omega (arith, c .before .before .before .before .pre .0 .room)
+
+slice-reshare-prefix-survey-level : tie.Need-slice-reshare-prefix-survey-level
+slice-reshare-prefix-survey-level c = omega (arith, c .before .before .before .before .pre .0 .room)
+
+slice-aggregate-survey-level : tie.Need-slice-aggregate-survey-level
+slice-aggregate-survey-level c = sym (length-take-le _ (now (c .before .before .before .before .before .args .words)) (omega (arith, c .before .before .before .before .before .pre .0 .room)))
+
+survey-level-requires : tie.Need-survey-level-requires
+survey-level-requires c κs = (c .before .before .before .before .before .before .pre .0 .sound, c .before .before .before .before .before .before .pre .1 .notes-long)
+
+append-all-requires : tie.Need-append-all-requires
+append-all-requires c κs = let z = c .before .before .before .before .before .before .before .before .before .before .before .before in ((c .before .before .before .before .before .survey-level .ensures .1, z .pre .1 .blocks-long), record { from = le-refl _; room = z .pre .0 .room })
+
+same-length : tie.Need-same-length
+same-length c = search needs
+
+same-length-2 : tie.Need-same-length-2
+same-length-2 c = search needs
+
+same-length-3 : tie.Need-same-length-3
+same-length-3 c = search needs
+
+returns : tie.Need-returns
+returns c = record { wrote = c .before .before .before .before .append-all .ensures; reps-is = c .before .before .before .before .before .before .before .before .before .before .survey-level .ensures .0 }
+
+pub append-level-spec : {M : Type 1} → statement M
+append-level-spec =
+    tie.close
+    (tie.spec
+    mul-n slice-reshare-prefix-survey-level slice-aggregate-survey-level survey-level-requires append-all-requires
+    same-length same-length-2 same-length-3 returns)

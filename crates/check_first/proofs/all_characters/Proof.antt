@@ -1,0 +1,98 @@
+-- `all_characters` goes through the representations.
+use borrow.Author.Needs.{needs}
+use borrow.Author.Tests.{not-false}
+use borrow.Author.Count.{below-more}
+use mathlib.Core.Path.{_∙_, ap}
+use mathlib.Core.Bool.{false≢true}
+use Prim.Native.Nat.{ℕ, _*_, _-_, _%_, _<_}
+use native.Mathlib.Omega.{arith}
+use denote.Ref.{now}
+use Rattle.check_first.specs.First.{Character}
+use Rattle.check_first.proofs.Marks.{SlotsTaken, allowed-none, taking-none, taking-more, multiple-small, multiple-power}
+use Rattle.check_first.proofs.all_characters.Statement.{statement}
+use Rattle.check_first.proofs.all_characters.Tie as tie
+
+abbrev Inv-loop : tie.InvT-loop
+Inv-loop words rows s p part free₀ k₀ free k = SlotsTaken (s .gens) words p part k free × ((q : ℕ) → q < k → Character s words rows p q)
+
+abbrev μ-loop : tie.MeasureT-loop
+μ-loop words rows s p part free₀ k₀ free k = p - k
+
+slice-aggregate-mark : tie.Need-slice-aggregate-mark Inv-loop μ-loop
+slice-aggregate-mark c = search needs
+
+mark-requires : tie.Need-mark-requires Inv-loop μ-loop
+mark-requires c κs =
+    let z = c .before .before in
+    (allowed-none (z .args .part), z .pre .positive, omega (arith, z .pre .product, z .pre .small))
+
+loop-holds : tie.Need-loop-holds Inv-loop μ-loop
+loop-holds c =
+    let at-mark = c .before in
+    (taking-none (at-mark .mark .ensures), λ q l. absurd (omega arith))
+
+slice-aggregate-character : tie.Need-slice-aggregate-character Inv-loop μ-loop
+slice-aggregate-character c =
+    let at-loop = c .before .before in
+    omega (arith, at-loop .loop .inv .0 .allowed .size)
+
+character-requires : tie.Need-character-requires Inv-loop μ-loop
+character-requires c κs =
+    let at-loop = c .before .before in
+    let z = at-loop .before .before .before .before .before in
+    (record { part = z .args .part; parted = z .pre; allowed = at-loop .loop .inv .0 .allowed }, omega arith)
+
+returns : tie.Need-returns Inv-loop μ-loop
+returns c = λ x. absurd (false≢true x)
+
+add-k : tie.Need-add-k Inv-loop μ-loop
+add-k c = search needs
+
+loop-less : tie.Need-loop-less Inv-loop μ-loop
+loop-less c = omega arith
+
+loop-again : tie.Need-loop-again Inv-loop μ-loop
+loop-again c =
+    let at-character = c .before .before in
+    let at-loop = at-character .before .before .before in
+    let z = at-loop .before .before .before .before .before in
+    let a = z .args in
+    let h = at-character .character .ensures (not-false (at-character .character .result) (c .if1 .left)) in (
+      taking-more (at-loop .loop .inv .0) (h .takes),
+      below-more (λ q. Character (a .s) (now (a .words)) (now (a .rows)) (a .p) q) (at-loop .loop .k) (at-loop .loop .inv .1) (h .is),
+    )
+
+returns-2 : tie.Need-returns-2 Inv-loop μ-loop
+returns-2 c =
+    let at-loop = c .before in
+    let z = at-loop .before .before .before .before .before in
+    λ x.
+    let a = z .args in
+    let P = z .pre in
+    let t = at-loop .loop .inv .0 in
+    record {
+      room = P .room;
+      each = λ r l. at-loop .loop .inv .1 r (omega arith);
+      below = λ r l. let (k, b, e) = t .multiple r (omega arith) in omega (arith, e, multiple-small (a .p) (a .part) (a .s .m) k (P .product) (P .positive) b);
+      power = λ r l.
+          let (k, b, e) = t .multiple r (omega arith) in
+          ap (λ x. (a .p * x) % a .s .m) e ∙ multiple-power (a .p) (a .part) (a .s .m) k (P .product);
+      apart = λ q r l l′. t .apart q r (omega arith) (omega arith);
+    }
+
+pub all-characters-spec : {M : Type 1} → statement M
+all-characters-spec =
+    tie.close
+    (tie.spec
+    Inv-loop
+    μ-loop
+    slice-aggregate-mark
+    mark-requires
+    loop-holds
+    slice-aggregate-character
+    character-requires
+    returns
+    add-k
+    loop-less
+    loop-again
+    returns-2)

@@ -1,0 +1,2 @@
+-- Level 1 as it stands in lines.
+pub mod First

@@ -1,0 +1,53 @@
+-- `two_at` reads two words.
+use borrow.Author.Needs.{needs}
+use mathlib.Core.Path.{_∙_, ap₂}
+use Prim.Native.Nat.{_+_, _*_}
+use native.Mathlib.Omega.{arith}
+use Rattle.check_lines.proofs.two_at.Statement.{statement}
+use Rattle.check_lines.proofs.two_at.Tie as tie
+
+word-at-requires : tie.Need-word-at-requires
+word-at-requires c κs = search needs
+
+wide-requires : tie.Need-wide-requires
+wide-requires c κs = search needs
+
+add-word-at : tie.Need-add-word-at
+add-word-at c = search needs
+
+word-at-requires-2 : tie.Need-word-at-requires-2
+word-at-requires-2 c κs = search needs
+
+wide-requires-2 : tie.Need-wide-requires-2
+wide-requires-2 c κs = search needs
+
+mul-result : tie.Need-mul-result
+mul-result c = omega (arith, c .wide2 .ensures .1)
+
+add-result : tie.Need-add-result
+add-result c =
+    let at-wide = c .before .before in
+    omega (arith, c .wide2 .ensures .1, at-wide .wide .ensures .1)
+
+returns : tie.Need-returns
+returns c =
+    let at-word-at2 = c .before in
+    let at-wide = at-word-at2 .before in
+    let at-word-at = at-wide .before in
+    record {
+      is = ap₂ (λ a b. a + b * 4294967296) (at-wide .wide .ensures .0 ∙ at-word-at .word-at .ensures) (c .wide2 .ensures .0 ∙ at-word-at2 .word-at2 .ensures);
+      low = omega (arith, at-wide .wide .ensures .0, at-wide .wide .ensures .1, at-word-at .word-at .ensures);
+    }
+
+pub two-at-spec : {M : Type 1} → statement M
+two-at-spec =
+    tie.close
+    (tie.spec
+    word-at-requires
+    wide-requires
+    add-word-at
+    word-at-requires-2
+    wide-requires-2
+    mul-result
+    add-result
+    returns)

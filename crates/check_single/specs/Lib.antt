@@ -1,0 +1,2 @@
+-- The power relation of the generator on top.
+pub mod Power

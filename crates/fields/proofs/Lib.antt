@@ -1,0 +1,2 @@
+-- Laws of rows of numbers in one array.
+pub mod Rows

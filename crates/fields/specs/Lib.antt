@@ -1,0 +1,2 @@
+-- What rows of numbers in one array hold.
+pub mod Fields

@@ -1,0 +1,143 @@
+-- How large the levels are: the squares of the degrees of a level add up to its order.
+--
+--   order-step, order-le       orders grow, and are at most that of the group
+--   prime-le, whole            every prime is at most the order, and divides it
+--   degree-le, reps-le, columns-le     degrees, representations and columns of a level are at most its order
+--   lines-le, room             the words of the first levels have room in those that a build wants
+--   line-count                 the lines of the table
+--   lines-small                under the ceilings they are few
+use mathlib.Core.Path.{_≡_, sym, _∙_, ap, subst}
+use Prim.Native.Nat.{ℕ, zero, suc, _+_, _*_, _-_, _/_, _≤_, _<_}
+use native.Mathlib.Nat.{mul-le-mul-left, mul-le-mul-right, mul-div-right}
+use native.Mathlib.Omega.{arith}
+use lib.ListN.{length}
+use Rattle.definitions.specs.Lists.{sum}
+use Rattle.definitions.specs.Presentation.{maxOrder, Presentation, order, buildWords, lineWords}
+use Rattle.definitions.specs.Monomial.{Level}
+use Rattle.definitions.specs.Table.{lineCount}
+use Rattle.definitions.specs.Steps.{levels, tableOf}
+use Rattle.numbers.proofs.Lists.{sum-mono}
+use Rattle.numbers.proofs.Sums.{sum-le, sum-mul, sum-const, sum-below, term-le}
+use Rattle.group.proofs.Order.{order-positive}
+use Rattle.clifford.specs.Accepted.{Accepted}
+use Rattle.clifford.proofs.Standing.{standing, setting, order-split}
+use Rattle.levels.specs.Built.{upTo, linesTo, degreeIn, WithinCeilings}
+use Rattle.levels.proofs.Places.{upTo-length, upTo-all}
+
+self-square : (d : ℕ) → d ≤ d * d
+self-square zero = omega arith
+self-square (suc d) = omega arith
+
+module _ (A : Accepted) where
+  abbrev P : Presentation
+  P = A .C .P
+
+  abbrev n : ℕ
+  n = A .C .P .n
+
+  abbrev m : ℕ
+  m = order P n
+
+  abbrev level : ℕ → Level
+  level k = levels P m (suc k)
+
+  abbrev d : ℕ → ℕ → ℕ
+  d = degreeIn A
+
+  -- ---- Orders
+
+  pub order-step : (i : ℕ) → order (A .C .P) i ≤ order (A .C .P) (suc i)
+  unfolding order
+  order-step i =
+      let two = A .C .two i in
+      let z : 1 * order P i ≤ P .p i * order P i = mul-le-mul-right (order P i) (omega arith) in
+      omega arith
+
+  order-more : (i k : ℕ) → order P i ≤ order P (k + i)
+  order-more i zero = let e : 0 + i ≡ i = omega arith in subst (λ x. order P i ≤ order P x) (sym e) (omega arith)
+  order-more i (suc k) =
+      let e : suc (k + i) ≡ suc k + i = omega arith in
+      let a = order-more i k in
+      let b = order-step (k + i) in
+      subst (λ x. order P i ≤ order P x) e (omega arith)
+
+  pub order-le : (i : ℕ) → i ≤ A .C .P .n → order (A .C .P) i ≤ order (A .C .P) (A .C .P .n)
+  order-le i l = let e : n - i + i ≡ n = omega arith in subst (λ x. order P i ≤ order P x) e (order-more i (n - i))
+
+  pub prime-le : (i : ℕ) → i < A .C .P .n → A .C .P .p i ≤ order (A .C .P) (A .C .P .n)
+  unfolding order
+  prime-le i l =
+      let a : P .p i * 1 ≤ P .p i * order P i = mul-le-mul-left (P .p i) (order-positive (A .C) i) in
+      let b : P .p i * order P i ≤ order P n = order-le (suc i) l in
+      omega arith
+
+  pub whole : (i : ℕ) → i < A .C .P .n → order (A .C .P) (A .C .P .n) ≡ A .C .P .p i * (order (A .C .P) (A .C .P .n) / A .C .P .p i)
+  whole i l =
+      let (s, q) = order-split P n i l in
+      let two = A .C .two i in
+      let e : m / P .p i ≡ order P i * s = ap (λ x. x / P .p i) q ∙ mul-div-right (order P i * s) (omega arith) in
+      q ∙ ap (λ x. P .p i * x) (sym e)
+
+  -- ---- A level
+
+  module _ (k : ℕ) (l : k < A .C .P .n) where
+    squares : sum (length (level k)) (λ r. d k r * d k r) ≡ order P (suc k)
+    squares = standing (setting A) (suc k) l .stands .squares
+
+    pub degree-pos : (r : ℕ) → r < length (levels (A .C .P) (order (A .C .P) (A .C .P .n)) (suc k)) → 0 < degreeIn A k r
+    degree-pos r h = standing (setting A) (suc k) l .stands .degree-pos r h
+
+    pub degree-le : (r : ℕ) → r < length (levels (A .C .P) (order (A .C .P) (A .C .P .n)) (suc k)) → degreeIn A k r ≤ order (A .C .P) (suc k)
+    degree-le r h =
+        let a = self-square (d k r) in
+        let b = term-le (λ r. d k r * d k r) (length (level k)) r h in
+        let e = squares in
+        omega arith
+
+    pub columns-le : sum (length (levels (A .C .P) (order (A .C .P) (A .C .P .n)) (suc k))) (degreeIn A k) ≤ order (A .C .P) (suc k)
+    columns-le = subst (λ x. sum (length (level k)) (d k) ≤ x) squares (sum-le (length (level k)) (d k) (λ r. d k r * d k r) (λ r h. self-square (d k r)))
+
+    pub reps-le : length (levels (A .C .P) (order (A .C .P) (A .C .P .n)) (suc k)) ≤ order (A .C .P) (suc k)
+    reps-le =
+        let a = sum-le (length (level k)) (λ r. 1) (d k) (λ r h. degree-pos r h) in
+        let e = sum-const (length (level k)) 1 in
+        let b = columns-le in
+        omega arith
+
+  -- ---- All of them
+
+  pub lines-le : (k : ℕ) → k ≤ A .C .P .n → linesTo A k ≤ A .C .P .n * sum k (λ i. order (A .C .P) (suc i))
+  unfolding linesTo
+  lines-le k l =
+      subst (λ x. x ≤ n * sum k (λ i. order P (suc i)))
+      (sym (sum-below k _ (λ i. n * sum (length (level i)) (d i)) (λ i h. sum-mul (length (level i)) n (d i)) ∙ sum-mul k n (λ i. sum (length (level i)) (d i))))
+      (mul-le-mul-left n (sum-le k _ (λ i. order P (suc i)) (λ i h. columns-le i (omega arith))))
+
+  pub room : (k : ℕ) → k ≤ A .C .P .n → length (upTo A k) ≤ buildWords (A .C .P)
+  unfolding buildWords lineWords
+  room k l =
+      let a = lines-le k l in
+      let b : n * sum k (λ i. order P (suc i)) ≤ n * sum n (λ i. order P (suc i)) = mul-le-mul-left n (sum-mono k n (λ i. order P (suc i)) l) in
+      subst (λ x. x ≤ 8 * (n * sum n (λ i. order P (suc i)))) (sym (upTo-length A k)) (omega arith)
+
+  pub table-length : length (tableOf (A .C .P)) ≡ 8 * linesTo A (A .C .P .n)
+  table-length = ap length (sym (upTo-all A)) ∙ upTo-length A n
+
+  pub line-count : lineCount (tableOf (A .C .P)) ≡ linesTo A (A .C .P .n)
+  unfolding lineCount lineWords
+  line-count = ap (λ z. z / 8) table-length ∙ mul-div-right (linesTo A n) (omega arith)
+
+  -- ---- Under the ceilings
+
+  pub lines-small : WithinCeilings A → (k : ℕ) → k ≤ A .C .P .n → linesTo A k ≤ 589824
+  lines-small S k l =
+      let few = S .few in
+      let low = S .low in
+      let a = lines-le k l in
+      let b : sum k (λ i. order P (suc i)) ≤ k * maxOrder = subst (λ x. sum k (λ i. order P (suc i)) ≤ x) (sum-const k maxOrder) (sum-le k (λ i. order P (suc i)) (λ i. maxOrder) (λ i h. below i h)) in
+      let c : sum k (λ i. order P (suc i)) ≤ 49152 = omega arith in
+      let e : n * sum k (λ i. order P (suc i)) ≤ n * 49152 = mul-le-mul-left n c in
+      omega arith
+    where
+      below : (i : ℕ) → i < k → order P (suc i) ≤ maxOrder
+      below i h = let z = order-le (suc i) (omega arith) in omega (arith, S .low)

@@ -1,0 +1,190 @@
+-- The level that stands last in the words stands as the survey asks.
+--
+--   target-in, target-degree     intertwiners lead to representations of the level, of one degree
+--   iter-agree, home             orbits close after p steps
+--   holds                        d lines hold each matrix
+--   stands-at                    all of it, in the frame of the next level
+--   placed, stands               the same in any frame that says so
+use mathlib.Core.Path.{_≡_, sym, _∙_, ap, subst}
+use mathlib.Core.List.{List}
+use Prim.Native.Nat.{ℕ, zero, suc, _+_, _*_, _-_, _≤_, _<_}
+use native.Mathlib.Nat.{mul-le-mul-left, mul-le-mul-right}
+use native.Mathlib.Omega.{arith}
+use lib.ListN.{length}
+use Rattle.definitions.specs.declared.Entry.{Entry}
+use Rattle.definitions.specs.Lists.{iter}
+use Rattle.definitions.specs.Presentation.{maxOrder, Presentation, order}
+use Rattle.definitions.specs.Monomial.{Level, repOf}
+use Rattle.definitions.specs.Steps.{levels}
+use Rattle.numbers.proofs.Lists.{iter-zero, iter-suc}
+use Rattle.group.proofs.Order.{order-positive}
+use Rattle.clifford.specs.Accepted.{Accepted}
+use Rattle.clifford.proofs.Standing.{Standing, standing, setting, rung}
+use Rattle.clifford.proofs.Agreement.{target-listed}
+use Rattle.clifford.proofs.Numbering.{O}
+use Rattle.agreement.proofs.Table.{rungs}
+use Rattle.level.specs.Stored.{Below, Holds, entryIn}
+use Rattle.survey.specs.declared.Frame.{Frame}
+use Rattle.survey.specs.Below.{LevelStands, firstOf, degOf, matrixOf, targetOf}
+use Rattle.levels.specs.Built.{upTo, linesTo, degreeIn, frameAt, WithinCeilings, Placed}
+use Rattle.levels.proofs.Places.{upTo-length, startOf, start-suc, start-end}
+use Rattle.levels.proofs.Room.{order-le, whole, degree-pos, degree-le, reps-le, lines-small}
+use Rattle.levels.proofs.Distinct.{rows-distinct}
+use Rattle.levels.proofs.Words.{first-of, deg-of, line-of, target-of, entry-of, column-below}
+
+-- iterates of maps that agree below N
+iter-agree : (N : ℕ) (f g : ℕ → ℕ) → ((r : ℕ) → r < N → f r ≡ g r) → ((r : ℕ) → r < N → f r < N) → (k r : ℕ) → r < N → iter f k r ≡ iter g k r
+iter-agree N f g e h zero r l = iter-zero f r ∙ sym (iter-zero g r)
+iter-agree N f g e h (suc k) r l = iter-suc f k r ∙ iter-agree N f g e h k (f r) (h r l) ∙ ap (iter g k) (e r l) ∙ sym (iter-suc g k r)
+
+module _ (A : Accepted) (k : ℕ) where
+  abbrev P : Presentation
+  P = A .C .P
+
+  abbrev n : ℕ
+  n = A .C .P .n
+
+  abbrev m : ℕ
+  m = order P n
+
+  abbrev L : Level
+  L = levels P m (suc k)
+
+  abbrev d : ℕ → ℕ
+  d = degreeIn A k
+
+  abbrev f : Frame
+  f = frameAt A k
+
+  abbrev W : List ℕ
+  W = upTo A (suc k)
+
+  abbrev p : ℕ
+  p = P .p (suc k)
+
+  -- ---- Targets
+
+  module _ (l : k < A .C .P .n) where
+    abbrev standsHere : Standing (setting A) (suc k) L
+    standsHere = standing (setting A) (suc k) l
+
+    pub ref-in : (j r : ℕ) → suc k ≤ j → j < A .C .P .n → r < length (levels (A .C .P) (order (A .C .P) (A .C .P .n)) (suc k))
+        → repOf (levels (A .C .P) (order (A .C .P) (A .C .P .n)) (suc k)) r .ref j 0 < length (levels (A .C .P) (order (A .C .P) (A .C .P .n)) (suc k))
+    ref-in j r a b h = subst (λ s. s < length L) (standsHere .literal j r) (target-listed (A .C) n m (order-positive (A .C) n) (suc k) L (standsHere .F) (standsHere .stands) j a b r h)
+
+    pub target-in : (j r : ℕ) → suc k ≤ j → j < A .C .P .n → r < length (levels (A .C .P) (order (A .C .P) (A .C .P .n)) (suc k))
+        → targetOf (frameAt A k) (upTo A (suc k)) j r < length (levels (A .C .P) (order (A .C .P) (A .C .P .n)) (suc k))
+    target-in j r a b h = subst (λ s. s < length L) (sym (target-of A k l j r h b)) (ref-in j r a b h)
+
+    pub target-degree : (j r : ℕ) → suc k ≤ j → j < A .C .P .n → r < length (levels (A .C .P) (order (A .C .P) (A .C .P .n)) (suc k))
+        → degOf (frameAt A k) (upTo A (suc k)) (targetOf (frameAt A k) (upTo A (suc k)) j r) ≡ degOf (frameAt A k) (upTo A (suc k)) r
+    target-degree j r a b h =
+        ap (degOf f W) (target-of A k l j r h b) ∙ deg-of A k l (repOf L r .ref j 0) (ref-in j r a b h) ∙ ap d (sym (standsHere .literal j r))
+        ∙ standsHere .stands .degree-target j a b r h ∙ sym (deg-of A k l r h)
+
+    -- ---- Lines
+
+    pub inside : (r : ℕ) → r < length (levels (A .C .P) (order (A .C .P) (A .C .P .n)) (suc k)) → firstOf (frameAt A k) (upTo A (suc k)) (suc r) ≤ linesTo A (suc k)
+    inside r h = subst (λ x. x ≤ linesTo A (suc k)) (sym (first-of A k l (suc r) h)) (start-end A k (suc r) h)
+
+    pub holds : order (A .C .P) (A .C .P .n) ≤ maxOrder → (r : ℕ) → r < length (levels (A .C .P) (order (A .C .P) (A .C .P .n)) (suc k)) → (g : ℕ) → g < A .C .P .n
+        → Holds (order (A .C .P) (A .C .P .n)) (upTo A (suc k)) (matrixOf (frameAt A k) (upTo A (suc k)) g r) (degOf (frameAt A k) (upTo A (suc k)) r)
+    holds low r h g a = record {
+      small = omega arith;
+      fits = subst (λ x. 8 * x ≤ length W) (sym (line-of A k l g r (degOf f W r) h ∙ ap (λ x. startOf A k r + (g * d r + x)) (deg-of A k l r h))) (subst (λ x. 8 * (startOf A k r + (g * d r + d r)) ≤ x) (sym (upTo-length A (suc k))) lines);
+      valid = λ c b.
+          let e : c < d r = subst (λ x. c < x) (deg-of A k l r h) b in
+          subst (λ x. Below m x (entryIn W (matrixOf f W g r + c))) (sym (deg-of A k l r h)) (subst (Below m (d r)) (sym (entry-of A k l g r c h a e)) (column-below A k l r g c h a e));
+      distinct = λ c c′ b b′ e.
+          let lower : c < d r = subst (λ x. c < x) (deg-of A k l r h) b in
+          let upper : c′ < d r = subst (λ x. c′ < x) (deg-of A k l r h) b′ in
+          let row = ap (λ (y : Entry). y .row) (entry-of A k l g r c h a lower) in
+          let row′ = ap (λ (y : Entry). y .row) (entry-of A k l g r c′ h a upper) in
+          rows-distinct A k l r g h a c c′ lower upper (sym row ∙ e ∙ row′);
+    }
+      where
+        lines : 8 * (startOf A k r + (g * d r + d r)) ≤ 8 * linesTo A (suc k)
+        lines =
+            let z : suc g * d r ≤ n * d r = mul-le-mul-right (d r) a in
+            let e = start-suc A k r in
+            let q = start-end A k (suc r) h in
+            omega arith
+
+  module _ (l : suc k < A .C .P .n) where
+    -- ---- Orbits
+
+    lower : k < n
+    lower = omega arith
+
+    home : (r : ℕ) → r < length L → iter (λ r. repOf L r .ref (suc k) 0) p r ≡ r
+    unfolding rung
+    home r h =
+        iter-agree (length L) (λ r. repOf L r .ref (suc k) 0) (rungs A (suc k) l .F .target (suc k)) (λ r a. sym (rungs A (suc k) l .literal (suc k) r)) (λ r a. ref-in lower (suc k) r (omega arith) l a) p r h
+        ∙ O (rungs A (suc k) l) .home r h
+
+    pub cycle : (r : ℕ) → r < length (levels (A .C .P) (order (A .C .P) (A .C .P .n)) (suc k)) → iter (targetOf (frameAt A k) (upTo A (suc k)) (suc k)) (A .C .P .p (suc k)) r ≡ r
+    cycle r h =
+        iter-agree (length L) (targetOf f W (suc k)) (λ r. repOf L r .ref (suc k) 0) (λ r a. target-of A k lower (suc k) r a l) (λ r a. target-in lower (suc k) r (omega arith) l a) p r h
+        ∙ home r h
+
+    -- ---- Bounds
+
+    prime-order : p * order P (suc k) ≤ m
+    unfolding order
+    prime-order = order-le A (suc (suc k)) l
+
+    -- no level below has more representations than half the order, and no prime above the first is greater
+    halved : 2 * order P (suc k) ≤ m
+    halved = let a : 2 * order P (suc k) ≤ p * order P (suc k) = mul-le-mul-right (order P (suc k)) (A .C .two (suc k)) in omega (arith, prime-order)
+
+    doubled : 2 * p ≤ m
+    unfolding order
+    doubled =
+        let a : P .p k * 1 ≤ P .p k * order P k = mul-le-mul-left (P .p k) (order-positive (A .C) k) in
+        let b : p * 2 ≤ p * order P (suc k) = mul-le-mul-left p (omega (arith, A .C .two k)) in
+        omega (arith, prime-order)
+
+    pub stands-at : WithinCeilings A → LevelStands (frameAt A k) (upTo A (suc k))
+    stands-at S =
+        let few = S .few in
+        let low = S .low in
+        let reps = reps-le A k lower in
+        let half = halved in
+        let double = doubled in
+        let end = lines-small A S (suc k) (omega arith) in
+        let len = upTo-length A (suc k) in
+        record {
+          few = omega arith;
+          gens = (l, few);
+          prime = (A .C .two (suc k), omega arith);
+          units = A .units (suc k) l;
+          modulus = (order-positive (A .C) n, omega arith);
+          whole = whole A (suc k) l;
+          short = (omega arith, omega arith);
+          inside = inside lower;
+          wide = λ r h. (subst (λ x. 0 < x) (sym (deg-of A k lower r h)) (degree-pos A k lower r h), subst (λ x. p * x ≤ 65536) (sym (deg-of A k lower r h)) (narrow S r h));
+          valid = λ r h g a. holds lower low r h g a;
+          target = λ r h j a b. (target-in lower j r a b h, target-degree lower j r a b h);
+          cycle = cycle;
+        }
+      where
+        narrow : WithinCeilings A → (r : ℕ) → r < length L → p * d r ≤ 65536
+        narrow S r h =
+            let a : p * d r ≤ p * order P (suc k) = mul-le-mul-left p (degree-le A k lower r h) in
+            let b = prime-order in
+            omega (arith, S .low)
+
+-- ---- In any frame that says so
+
+pub placed : (A : Accepted) (k : ℕ) (f : Frame) (W : List ℕ) → Placed A (suc k) f W → f ≡ frameAt A k
+placed A k f W Q =
+    let e : suc k - 1 ≡ k = omega arith in
+    let b : 8 * f .base ≡ 8 * linesTo A k = Q .base-is ∙ ap (λ x. length (upTo A x)) e ∙ upTo-length A k in
+    let c : 8 * f .end ≡ 8 * linesTo A (suc k) = Q .end-is ∙ upTo-length A (suc k) in
+    let base : f .base ≡ linesTo A k = omega arith in
+    let end : f .end ≡ linesTo A (suc k) = omega arith in
+    λ o. record { m = Q .modulus-is o; top = Q .top-is o; gens = Q .gens-is o; p = Q .prime-is o; base = base o; reps = Q .reps-is o; end = end o }
+
+pub stands : (A : Accepted) → WithinCeilings A → (i : ℕ) (f : Frame) (W : List ℕ) → Placed A i f W → LevelStands f W
+stands A S zero f W Q = absurd (omega (arith, Q .above))
+stands A S (suc k) f W Q = subst (λ f. LevelStands f W) (sym (placed A k f W Q)) (subst (LevelStands (frameAt A k)) (sym (Q .words-are)) (stands-at A k (Q .below) S))

@@ -1,0 +1,66 @@
+-- Laws of lines that are written.
+--
+--   headLine-eight             eight words
+--   put-eight                  eight stores in a row
+--   single-below, block-single the exponent of a piece of degree 1; its one line
+use mathlib.Core.Path.{_≡_, refl, ap, sym, _∙_, subst}
+use Prim.Native.Nat.{ℕ, suc, _+_, _%_, _<_, _≤_}
+use native.Mathlib.Omega.{arith}
+use mathlib.Core.List.{List, [], _∷_, _++_}
+use lib.ListN.{length, set}
+use lib.Seq.{sets-eq}
+use Rattle.definitions.specs.declared.Entry.{Entry}
+use Rattle.definitions.specs.Lists.{blocks}
+use Rattle.definitions.specs.Monomial.{entry}
+use Rattle.definitions.specs.Table.{EXP, wordAt}
+use Rattle.numbers.proofs.Blocks.{blocks-zero, blocks-suc}
+use Rattle.text.specs.Writing.{put}
+use Rattle.level.specs.Stored.{entryIn}
+use Rattle.lines.specs.declared.Head.{Head}
+use Rattle.lines.specs.declared.Piece.{Piece}
+use Rattle.lines.specs.Lines.{headLine, blockEntry, blockLines, Copied}
+
+pub headLine-eight : (h : Head) (k : ℕ) (x : Entry) → length (headLine h k x) ≡ 8
+unfolding headLine
+headLine-eight h k x = refl
+
+-- eight stores in a row
+pub put-eight : (w : List ℕ) (i a b c d e f g h : ℕ) → i + 8 ≤ length w
+    → set (set (set (set (set (set (set (set w (i + 0) a) (i + 1) b) (i + 2) c) (i + 3) d) (i + 4) e) (i + 5) f) (i + 6) g) (i + 7) h
+    ≡ put w i (a ∷ b ∷ c ∷ d ∷ e ∷ f ∷ g ∷ h ∷ [])
+unfolding put
+put-eight w i a b c d e f g h l =
+    let e0 : i + 0 ≡ i = omega arith in
+    let e1 : i + 1 ≡ suc i = omega arith in
+    let e2 : i + 2 ≡ suc (suc i) = omega arith in
+    let e3 : i + 3 ≡ suc (suc (suc i)) = omega arith in
+    let e4 : i + 4 ≡ suc (suc (suc (suc i))) = omega arith in
+    let e5 : i + 5 ≡ suc (suc (suc (suc (suc i)))) = omega arith in
+    let e6 : i + 6 ≡ suc (suc (suc (suc (suc (suc i))))) = omega arith in
+    let e7 : i + 7 ≡ suc (suc (suc (suc (suc (suc (suc i)))))) = omega arith in
+    rw (e0, e1, e2, e3, e4, e5, e6, e7) (sets-eq (a ∷ b ∷ c ∷ d ∷ e ∷ f ∷ g ∷ h ∷ []) w i l)
+
+-- ---- Degree 1
+
+pub single-below : {m : ℕ} {W : List ℕ} {b : Piece} → Copied m W b → b .deg ≡ 1 → wordAt W (b .src) EXP < m
+single-below {m} {W} {b} C one =
+    let s : b .src + 0 ≡ b .src = omega arith in
+    subst (λ l. wordAt W l EXP < m) s (C .holds .valid 0 (omega arith) .exp)
+
+pub block-single : (m : ℕ) (h : Head) (b : Piece) (W : List ℕ) (e : ℕ) → Copied m W b → b .deg ≡ 1 → e ≡ (wordAt W (b .src) EXP + b .by) % m
+    → headLine h (b .col) (entry (b .row) e) ≡ blockLines m h b W
+unfolding blockLines
+block-single m h b W e C one q =
+    sym (ap (λ n. blocks n F) one ∙ blocks-suc 0 F ∙ ap (λ t. t ++ F 0) (blocks-zero F) ∙ (λ o. headLine h (column o) (entry (row o) (exponent o))))
+  where
+    F : ℕ → List ℕ
+    F k = headLine h (b .col + k) (blockEntry m b W k)
+
+    column : b .col + 0 ≡ b .col
+    column = omega arith
+
+    row : b .row + entryIn W (b .src + 0) .row ≡ b .row
+    row = omega (arith, C .holds .valid 0 (omega arith) .row)
+
+    exponent : (entryIn W (b .src + 0) .exp + b .by) % m ≡ e
+    exponent = let s : b .src + 0 ≡ b .src = omega arith in ap (λ t. (wordAt W t EXP + b .by) % m) s ∙ sym q

@@ -1,2 +1,0 @@
--- The words of a level by turns.
-pub mod Turns
