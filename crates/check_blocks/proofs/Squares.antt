@@ -2,7 +2,7 @@
 --
 --   Left n T i order left r      the squares of the first r representations leave so much of the order
 --   left-none, left-more, left-fails, left-all      the steps of the loop
---   AddingUp, adds-told, adds-fails, adds-holds     the levels
+--   AddingUp, adds-known, adds-told, adds-fails, adds-holds     the levels
 use mathlib.Core.Path.{_≡_, sym, _∙_, ap, ap₂}
 use mathlib.Core.Bool.{Bool, true, false}
 use mathlib.Core.List.{List}
@@ -24,7 +24,7 @@ use Rattle.level.specs.declared.Listed.{Listed}
 use Rattle.seek.specs.declared.Scope.{Scope}
 use Rattle.seek.specs.Seek.{Found}
 use Rattle.seek.specs.Formed.{Ordered}
-use Rattle.check_blocks.specs.Squares.{squareOf, squaresIn, AddsUp}
+use Rattle.check_blocks.specs.Squares.{squareOf, squaresIn, OrderedBehind, AddsUp}
 
 -- ---- One level
 
@@ -63,8 +63,11 @@ module _ (s : Scope) (orders T : List ℕ) where
   abbrev test : Presentation → ℕ → Bool
   test P i = eqb (squares P (s .m) T i) (order P i)
 
-  abbrev pub AddingUp : ℕ → Type 0
-  AddingUp i = Passed (λ P. Ordered P s orders) (λ P i. test P (suc i)) i
+  abbrev pub AddingUp : (k i : ℕ) → Type 0
+  AddingUp k i = Passed (OrderedBehind s orders T k) (λ P i. test P (suc i)) i
+
+  pub adds-known : {k : ℕ} → AddingUp k k
+  adds-known = record { tested = λ P O. record { each = O .known } }
 
   every-is : (P : Presentation) → Ordered P s orders → allBelow (s .gens) (λ i. test P (suc i)) ≡ everyLevel P (s .m) T (test P)
   unfolding everyLevel
@@ -78,8 +81,8 @@ module _ (s : Scope) (orders T : List ℕ) where
         told ∙ ap₂ eqb (ap₂ (λ n i. squaresIn n T i) (O .gens-are) (add-one i))
         (is ∙ ap (λ k. getD orders k 0) (next ∙ add-one i) ∙ O .orders-are (suc i) (omega (arith, O .gens-are)))
 
-    pub adds-fails : AddingUp i → b ≡ false → AddsUp s orders T false
-    adds-fails h e = record { is = λ P O. passed-fails h l adds-told e P O ∙ every-is P O }
+    pub adds-fails : {k : ℕ} → AddingUp k i → b ≡ false → AddsUp s orders T k false
+    adds-fails h e = record { is = λ P O. passed-fails h l (λ P O. adds-told P (O .ordered)) e P O ∙ every-is P (O .ordered) }
 
-  pub adds-holds : {i : ℕ} → AddingUp i → s .gens ≤ i → AddsUp s orders T true
-  adds-holds h l = record { is = λ P O. passed-all h l P O ∙ every-is P O }
+  pub adds-holds : {k i : ℕ} → AddingUp k i → s .gens ≤ i → AddsUp s orders T k true
+  adds-holds h l = record { is = λ P O. passed-all h l P O ∙ every-is P (O .ordered) }

@@ -5,21 +5,22 @@
 //   column_acts, generator_acts, block_acts      a block, by columns and generators
 //   block_at                                     what the block from a column refers to
 //   blocks_act, level_acts                       all blocks of a representation, and of a level
-//   restrictions_hold                            refusal 23
+//   restricted, restrictions_hold                refusal 23
 //   square, level_adds_up                        the squares of the degrees of a level
 //   squares_hold                                 refusal 26
 ghost use mathlib.Core.Path.{_≡_};
+ghost use mathlib.Core.Logic.{_⊎_};
 ghost use mathlib.Core.Bool.{true};
 ghost use Prim.Native.Nat.{suc, _*_, _≤_, _<_};
 ghost use lib.Dec.{eqb};
 ghost use Rattle.definitions.specs.Lists.{allBelow};
 ghost use Rattle.definitions.specs.Presentation.{Presentation};
 ghost use Rattle.definitions.specs.Table.{levelAt};
-ghost use Rattle.definitions.specs.Judgement.{wholeBlock, everywhere, restricts};
+ghost use Rattle.definitions.specs.Judgement.{wholeBlock, restricts};
 ghost use Rattle.seek.specs.Seek.{Whole};
 ghost use Rattle.seek.specs.Formed.{Formed, Tells};
 ghost use Rattle.seek.specs.Among.{repIn, Among, onLevel};
-ghost use Rattle.check_blocks.specs.Blocks.{Within, columnActs, Refers};
+ghost use Rattle.check_blocks.specs.Blocks.{Within, columnActs, Refers, Restricted};
 ghost use Rattle.check_blocks.specs.Squares.{squaresIn, AddsUp};
 use level::Listed;
 use rows::GENERATORS;
@@ -117,14 +118,25 @@ fn level_acts(words: &[u32], s: Scope, i: u32) -> bool
     }
 }
 
-// Whether each generator below the top acts on every block as in what the block refers to: refusal 23. No generator is below
-// the top of level 1.
-pub fn restrictions_hold(words: &[u32], s: Scope) -> bool
+// How many of the first levels need not be looked at, where `from` levels restrict: no generator is below the top of level 1.
+fn restricted(from: u32) -> u32
+    ensures { λ r. ⌜ (0 < r) × ((r ≡ from) ⊎ (r ≡ 1)) ⌝ }
+{
+    if from == 0 {
+        return 1;
+    }
+    from
+}
+
+// Whether each generator below the top acts on every block as in what the block refers to, where it does so on the first `from`
+// levels: refusal 23.
+pub fn restrictions_hold(words: &[u32], s: Scope, from: u32) -> bool
     requires { ⌜ ((P : Presentation) × Formed P s (now words)) ⌝ }
-    ensures { λ r. ⌜ Tells s (now (words .entry)) (λ P. everywhere P (s .m) (now (words .entry)) (restricts P (s .m) (now (words .entry)))) r ⌝ }
+    ensures { λ r. ⌜ Restricted s (now (words .entry)) from r ⌝ }
 {
     let gens = s.gens;
-    for i in 1..gens {
+    let first = restricted(from);
+    for i in first..gens {
         if !level_acts(words, s, i) {
             return false;
         }
@@ -164,13 +176,13 @@ fn level_adds_up(words: &[u32], s: Scope, i: u32, order: u32) -> bool
     }
 }
 
-// Whether the squares of the degrees of every level add up to its order: refusal 26.
-pub fn squares_hold(words: &[u32], orders: &[u32; GENERATORS + 1], s: Scope) -> bool
+// Whether the squares of the degrees of every level add up to its order, where they do on the first `from` levels: refusal 26.
+pub fn squares_hold(words: &[u32], orders: &[u32; GENERATORS + 1], s: Scope, from: u32) -> bool
     requires { ⌜ Whole s (now words) ⌝ }
-    ensures { λ r. ⌜ AddsUp s (now (orders .entry)) (now (words .entry)) r ⌝ }
+    ensures { λ r. ⌜ AddsUp s (now (orders .entry)) (now (words .entry)) from r ⌝ }
 {
     let gens = s.gens;
-    for i in 0..gens {
+    for i in from..gens {
         if !level_adds_up(words, s, i + 1, orders[level::up(i) + 1]) {
             return false;
         }

@@ -14,18 +14,18 @@
 --   Character s T rows p r         the lines of representation r
 --   TakesCharacter                 the same, and its exponent is taken from the marks
 --   Characters s T rows p          the first p representations, which differ in the exponent of generator 0
---   FirstLevel s T rows orders p   the table is complete, and these are its level 1
+--   FirstLevel s T rows orders p   the heads of the table are in order, and these are its level 1
 use mathlib.Core.Path.{_≡_}
 use mathlib.Core.Bool.{true}
 use mathlib.Core.List.{List, []}
 use Prim.Native.Nat.{ℕ, suc, _+_, _*_, _%_, _≤_, _<_}
-use lib.Dec.{eqb}
 use lib.ListN.{length, getD}
-use Rattle.definitions.specs.Presentation.{lineWords, maxOrder, pairNumber}
+use Rattle.definitions.specs.Presentation.{maxOrder, pairNumber}
 use Rattle.definitions.specs.Table.{LEVEL, REP, DEG, GEN, REF, COL, ROW, EXP, wordAt, lineCount, levelAt}
 use Rattle.seek.specs.declared.Scope.{Scope}
 use Rattle.seek.specs.Seek.{Whole}
-use Rattle.check_heads.specs.Places.{Scoped}
+use Rattle.heads.specs.Walk.{headsOk}
+use Rattle.check_heads.specs.Places.{ordersIn, Scoped}
 
 abbrev pub wordOn : List (List ℕ) → ℕ → ℕ
 wordOn rows j = getD (getD rows (pairNumber j 0) []) 0 0
@@ -111,7 +111,7 @@ pub record Characters (s : Scope) (T : List ℕ) (rows : List (List ℕ)) (p : �
   pub apart : (q r : ℕ) → q < p → r < p → ¬ (q ≡ r) → ¬ (exponentOf (s .gens) T q ≡ exponentOf (s .gens) T r)
 
 pub record FirstLevel (s : Scope) (T : List ℕ) (rows : List (List ℕ)) (orders : List ℕ) (p : ℕ) : Type 0 where
-  pub lines : eqb (length T % lineWords) 0 ≡ true
+  pub heads : headsOk (s .gens) T (ordersIn orders) ≡ true
   pub whole : Whole s T
   pub order : getD orders 1 0 ≡ p
   pub counts : length (levelAt (s .gens) T 1) ≡ p

@@ -1,12 +1,12 @@
 -- The levels, one after the other.
 --
 --   Reaching                     the first i levels fit, and the first lines of level i stand in the list
---   reaching-none, reaching-staged, reaching-more, reaching-all      the steps of the loop
+--   reaching-none, reaching-staged, reaching-more, reaching-stops, reaching-all      the steps of the loop
 --   level-one                    level 1, in a list
 use mathlib.Core.Path.{_≡_, refl, sym, _∙_, ap, subst}
 use mathlib.Core.List.{List}
 use Prim.Native.Nat.{ℕ, zero, suc, _+_, _≤_, _<_}
-use native.Mathlib.Nat.{zero-add}
+use native.Mathlib.Nat.{zero-add, le-refl}
 use native.Mathlib.Omega.{arith}
 use native.Mathlib.Numerals.{add-one}
 use lib.ListN.{length, getD}
@@ -17,8 +17,9 @@ use Rattle.seek.specs.declared.Scope.{Scope}
 use Rattle.seek.specs.Seek.{Found}
 use Rattle.compare.specs.Staged.{Lined, Staged}
 use Rattle.check_blocks.specs.Squares.{squaresIn}
-use Rattle.check_fit.specs.Lines.{FirstLines, CharacterLines}
-use Rattle.check_fit.specs.Fit.{LevelFits, Started, LevelOne, LevelsFit}
+use Rattle.check_level.specs.Lines.{FirstLines}
+use Rattle.check_level.specs.Level.{LevelFits}
+use Rattle.check_fit.specs.Fit.{CharacterLines, Started, LevelOne, LevelsFit, FitUpTo}
 
 pub record Reaching (s : Scope) (T : List ℕ) (rows : List (List ℕ)) (primes orders F₀ F : List ℕ) (low below i : ℕ) : Type 0 where
   pub size : length F ≡ length F₀
@@ -31,8 +32,16 @@ module _ {s : Scope} {T : List ℕ} {rows : List (List ℕ)} {primes orders F₀
   reaching-none = record { size = refl; from = omega arith; listed = O .listed; fits = O .fits }
 
   module _ {F : List ℕ} {low below i : ℕ} (R : Reaching s T rows primes orders F₀ F low below i) where
-    pub reaching-all : s .gens ≤ i → LevelsFit s T rows primes orders (s .gens)
-    reaching-all l = record { each = λ k h. R .fits .each k (omega arith); squares = λ k h. R .fits .squares k (omega arith) }
+    -- the loop is left before level i + 1, or behind the last level
+    pub reaching-stops : i < s .gens → FitUpTo s T rows primes orders i
+    reaching-stops l = record { some = R .from; within = omega arith; fits = R .fits }
+
+    pub reaching-all : s .gens ≤ i → FitUpTo s T rows primes orders (s .gens)
+    reaching-all l = record {
+      some = O .whole .some;
+      within = le-refl (s .gens);
+      fits = record { each = λ k h. R .fits .each k (omega arith); squares = λ k h. R .fits .squares k (omega arith) };
+    }
 
     -- the first lines of the next level are written
     module _ {F₁ : List ℕ} {above : ℕ} (l : i < s .gens) {o : ℕ} (N : FirstLines s T (i + 1) o (low + below) F F₁ above) (some : ¬ (above ≡ 0)) where
@@ -54,7 +63,7 @@ module _ {s : Scope} {T : List ℕ} {rows : List (List ℕ)} {primes orders F₀
       reaching-staged p = record {
         whole = O .whole;
         short = O .short;
-        modulus = O .modulus;
+        modulus = (O .modulus .0, omega (arith, O .modulus .1));
         level = (R .from, l);
         low = low-kept;
         high = high-listed;

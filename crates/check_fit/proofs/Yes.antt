@@ -1,24 +1,25 @@
--- A yes means that the table passes.
+-- The levels that are counted pass.
 --
 --   unshared-blocks     where no reference is claimed twice no two blocks share one
---   levels-pass         levels that fit, with squares that add up, pass the judgement
+--   counted-pass        levels that fit, with squares that add up, pass the judgement
+--   none-counted        no level is counted
 use mathlib.Core.Path.{_≡_, sym, _∙_, ap, subst}
 use mathlib.Core.Bool.{true}
 use mathlib.Core.List.{List}
-use Prim.Native.Nat.{ℕ, suc, _+_, _*_, _%_, _<_}
+use Prim.Native.Nat.{ℕ, suc, _+_, _*_, _≤_, _<_}
 use native.Mathlib.Nat.{mul-lt-mul-of-pos-right, le-refl}
 use native.Mathlib.Omega.{arith}
 use native.Mathlib.Decide.{ℕ-discrete}
-use lib.Dec.{eqb}
 use lib.ListN.{length, getD}
 use Rattle.definitions.specs.Lists.{sum}
-use Rattle.definitions.specs.Presentation.{lineWords, Presentation, order}
+use Rattle.definitions.specs.Presentation.{Presentation, order}
 use Rattle.definitions.specs.Monomial.{col, Level, repOf}
-use Rattle.definitions.specs.Table.{levelAt, complete}
-use Rattle.definitions.specs.Answers.{judgement}
+use Rattle.definitions.specs.Table.{levelAt}
 use Rattle.clifford.specs.Accepted.{Accepted}
+use Rattle.clifford.specs.Passing.{LevelPasses}
+use Rattle.heads.specs.Walk.{headsOk}
 use Rattle.fitting.specs.Fits.{blockTo, Fitting, Fits}
-use Rattle.fitting.proofs.Passes.{fits-passes}
+use Rattle.fitting.proofs.Passes.{fitting-pass}
 use Rattle.rows.specs.Rows.{Reads}
 use Rattle.seek.specs.declared.Scope.{Scope}
 use Rattle.seek.specs.Seek.{Whole}
@@ -27,7 +28,8 @@ use Rattle.seek.proofs.Seek.{found-first}
 use Rattle.claims.specs.Claims.{OneReference, Unshared}
 use Rattle.check_blocks.specs.Squares.{squaresIn}
 use Rattle.check_columns.specs.Relates.{SaysTop}
-use Rattle.check_fit.specs.Fit.{LevelsFit, Passes}
+use Rattle.check_heads.specs.Places.{ordersIn}
+use Rattle.check_fit.specs.Fit.{FitUpTo, FittingLevels}
 
 -- ---- References
 
@@ -70,39 +72,46 @@ module _ {P : Presentation} {n m i : ℕ} {Low High : Level} (in-range : i < n) 
 
 -- ---- The table
 
-module _ {s : Scope} {T : List ℕ} {rows : List (List ℕ)} {primes orders : List ℕ} (whole : eqb (length T % lineWords) 0 ≡ true) (W : Whole s T)
-    (L : LevelsFit s T rows primes orders (s .gens)) (modulus : getD orders (s .gens) 0 ≡ s .m) where
-  module _ (C : Accepted) (reads : Reads (C .C .P) (s .gens) primes rows) (ordered : Ordered (C .C .P) s orders) where
+module _ {s : Scope} {T : List ℕ} {rows : List (List ℕ)} {primes orders : List ℕ} (heads : headsOk (s .gens) T (ordersIn orders) ≡ true) (W : Whole s T)
+    (modulus : getD orders (s .gens) 0 ≡ s .m) {k : ℕ} (U : FitUpTo s T rows primes orders k) where
+  module _ (A : Accepted) (reads : Reads (A .C .P) (s .gens) primes rows) (ordered : Ordered (A .C .P) s orders) where
     abbrev P : Presentation
-    P = C .C .P
+    P = A .C .P
+
+    in-range : (i : ℕ) → i < k → i < s .gens
+    in-range i l = omega (arith, U .within)
 
     says : (i : ℕ) → i < s .gens → SaysTop s rows i (getD primes i 0) P
     says i l = record { prime = reads .p-is i l; power = reads .u-is i l; word = λ j a b. reads .w-is i j a b }
 
-    squares-are : (i : ℕ) → i < s .gens
+    squares-are : (i : ℕ) → i < k
         → sum (length (levelAt (s .gens) T (suc i))) (λ r. repOf (levelAt (s .gens) T (suc i)) r .deg * repOf (levelAt (s .gens) T (suc i)) r .deg) ≡ order P (suc i)
     unfolding squaresIn
-    squares-are i l = L .squares i l ∙ ordered .orders-are (suc i) (subst (λ n. i < n) (ordered .gens-are) l)
+    squares-are i l = U .fits .squares i l ∙ ordered .orders-are (suc i) (subst (λ n. i < n) (ordered .gens-are) (in-range i l))
 
-    fits-at : (i : ℕ) → i < s .gens → Fits P (s .gens) (s .m) i (levelAt (s .gens) T i) (levelAt (s .gens) T (suc i))
+    fits-at : (i : ℕ) → i < k → Fits P (s .gens) (s .m) i (levelAt (s .gens) T i) (levelAt (s .gens) T (suc i))
     fits-at i l =
-        let E = L .each i l in
+        let E = U .fits .each i l in
+        let h : i < s .gens = in-range i l in
         record {
-          fit = E .fit P (says i l);
-          degree-pos = λ r h. let G = found-first s T W (suc i) r (omega arith) l h in subst (λ d. 0 < d) (G .deg) (G .positive);
-          unshared = unshared-blocks l (E .fit P (says i l)) (E .unshared);
+          fit = E .fit P (says i h);
+          degree-pos = λ r a. let G = found-first s T W (suc i) r (omega arith) h a in subst (λ d. 0 < d) (G .deg) (G .positive);
+          unshared = unshared-blocks h (E .fit P (says i h)) (E .unshared);
           squares = squares-are i l;
         }
 
     modulus-is : s .m ≡ order P (P .n)
     modulus-is = sym modulus ∙ ap (λ n. getD orders n 0) (ordered .gens-are) ∙ ordered .orders-are (P .n) (le-refl (P .n))
 
-    passes : judgement P (s .m) T ≡ 0
-    passes =
-        ap (λ m. judgement P m T) modulus-is
-        ∙ fits-passes C T whole (subst (λ n. complete n T ≡ true) (ordered .gens-are) (W .all)) (λ i l.
+    levels-pass : (i : ℕ) → i < k → LevelPasses P (s .m) T i
+    levels-pass i l =
+        subst (λ m. LevelPasses P m T i) (sym modulus-is) (fitting-pass A T k (subst (λ n. k ≤ n) (ordered .gens-are) (U .within)) (λ i l.
         subst (λ m. Fits P (P .n) m i (levelAt (P .n) T i) (levelAt (P .n) T (suc i))) modulus-is
-        (subst (λ n. Fits P n (s .m) i (levelAt n T i) (levelAt n T (suc i))) (ordered .gens-are) (fits-at i (subst (λ n. i < n) (sym (ordered .gens-are)) l))))
+        (subst (λ n. Fits P n (s .m) i (levelAt n T i) (levelAt n T (suc i))) (ordered .gens-are) (fits-at i l))) i l)
 
-  pub levels-pass : Passes s rows primes orders T
-  levels-pass = record { is = λ C reads ordered. passes C reads ordered }
+  pub counted-pass : FittingLevels s rows primes orders T k
+  counted-pass = record { within = U .within; heads = λ l. heads; pass = levels-pass }
+
+-- nothing is counted, and nothing said
+pub none-counted : {s : Scope} {rows : List (List ℕ)} {primes orders T : List ℕ} → FittingLevels s rows primes orders T 0
+none-counted = record { within = omega arith; heads = λ l. absurd (omega arith); pass = λ A reads ordered i l. absurd (omega arith) }

@@ -1,3 +1,2 @@
 -- What a quick yes asks and says.
-pub mod Lines
 pub mod Fit

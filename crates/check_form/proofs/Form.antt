@@ -4,10 +4,11 @@
 --   ReadUpTo                    a representation of a level that is come to
 --   reading-first, reading-next, reading-follows, reading-fits      representation after representation
 --   reading-fails, reading-last      how that ends
---   over-first, over-next, over-there, over-some      level after level
+--   over-next, over-there, over-some      level after level
 --   form-heads, form-whole, form-levels      the heads, then the levels
 --   ordered                    the orders of a presentation's levels
 --   formed                     where the answer is yes, the table is formed
+--   level-known                a level that passes 21
 use mathlib.Core.Path.{_≡_, refl, sym, _∙_, ap, ap₂, subst}
 use mathlib.Core.Bool.{Bool, true, false, _&&_, _||_, not}
 use mathlib.Core.List.{List}
@@ -21,14 +22,16 @@ use Rattle.definitions.specs.Lists.{allBelow}
 use Rattle.definitions.specs.Presentation.{lineWords, maxModulus, Presentation}
 use Rattle.definitions.specs.Monomial.{valid, repOf}
 use Rattle.definitions.specs.Table.{repAt, levelAt, complete}
-use Rattle.definitions.specs.Judgement.{everywhere, blocksWhole, targetsListed, malformed}
+use Rattle.definitions.specs.Judgement.{everywhere, matricesValid, blocksWhole, targetsListed, malformed}
 use Rattle.numbers.proofs.Bools.{and-left, and-right}
+use Rattle.numbers.proofs.Lists.{allBelow-intro}
 use Rattle.numbers.proofs.Tested.{Tested, tested-none, tested-more, tested-all, tested-fails}
 use Rattle.conditions.specs.Size.{LevelOrders}
 use Rattle.conditions.proofs.Conditions.{orders-are}
+use Rattle.clifford.specs.Passing.{OfEach}
 use Rattle.heads.specs.Walk.{headsOk}
 use Rattle.heads.specs.Form.{bodyOk}
-use Rattle.heads.proofs.Form.{form-decides}
+use Rattle.heads.proofs.Form.{formed-body, form-decides}
 use Rattle.heads.proofs.Going.{heads-complete}
 use Rattle.heads.proofs.Order.{complete-some}
 use Rattle.level.specs.declared.Listed.{Listed}
@@ -37,7 +40,6 @@ use Rattle.seek.specs.declared.Scope.{Scope}
 use Rattle.seek.specs.Seek.{Whole, Found, Follows}
 use Rattle.seek.specs.Formed.{Formed, Ordered}
 use Rattle.seek.proofs.Halves.{lines-there}
-use Rattle.seek.proofs.Seek.{zero-count}
 use Rattle.check_heads.specs.Places.{ordersIn, Scoped}
 use Rattle.check_lines.specs.Lines.{refsAs, targetOk}
 use Rattle.check_form.specs.Form.{listedRep, blocksOk, body, levelOk, LevelOver, Spans, TellsForm}
@@ -127,9 +129,6 @@ module _ (s : Scope) (T : List ℕ) (i : ℕ) where
 -- ---- Level after level
 
 module _ (s : Scope) (T : List ℕ) (W : Whole s T) where
-  pub over-first : LevelOver s T 0 1
-  over-first = record { whole = W; level = omega arith; counts = zero-count s T W 0 refl }
-
   pub over-next : (i many : ℕ) → i < s .gens → many ≡ length (levelAt (s .gens) T (i + 1)) → LevelOver s T (suc i) many
   over-next i many l e = record { whole = W; level = l; counts = e ∙ ap (λ k. length (levelAt (s .gens) T k)) (add-one i) }
 
@@ -186,3 +185,13 @@ module _ (s : Scope) (orders T : List ℕ) (C : Scoped s T) where
         modulus = m;
         formed = no;
       }
+
+-- a level of formed representations passes the tests beside the degrees
+pub level-known : (s : Scope) (P : Presentation) → s .gens ≡ P .n → (T : List ℕ) (i : ℕ)
+    → OfEach P T i (λ D. matricesValid P (s .m) T (suc i) D && blocksWhole P (s .m) T (suc i) D && targetsListed P (s .m) T (suc i) D)
+    → levelOk (s .gens) (s .m) T i ≡ true
+unfolding bodyOk blocksWhole targetsListed body
+level-known s P e T i h =
+    subst (λ n. levelOk n (s .m) T i ≡ true) (sym e)
+    (allBelow-intro (length (levelAt (P .n) T (suc i))) (λ r. body (P .n) (s .m) T i (repOf (levelAt (P .n) T (suc i)) r))
+    (λ r l. formed-body P (s .m) T (suc i) (repOf (levelAt (P .n) T (suc i)) r) (h r l)))

@@ -7,6 +7,8 @@
 --   levelOk n m T i           those of every representation of that level
 --   LevelOver s T i count          a complete table, a level of it, and how many representations that has
 --   Spans s T D                the lines of D are there
+--   LevelsBehind s T k        the first k levels pass these tests
+--   FormBehind s orders T k   and so do the heads of all lines, where k is not 0
 --   TellsForm s orders T r    r says whether 21 does not apply, for every such presentation
 use mathlib.Core.Path.{_≡_}
 use mathlib.Core.Bool.{Bool, true, false, _&&_, _||_, not}
@@ -19,11 +21,13 @@ use Rattle.definitions.specs.Presentation.{Presentation}
 use Rattle.definitions.specs.Monomial.{valid, Rep, Level, repOf}
 use Rattle.definitions.specs.Table.{levelAt}
 use Rattle.definitions.specs.Judgement.{cuts, wholeBlock, malformed}
+use Rattle.heads.specs.Walk.{headsOk}
 use Rattle.level.specs.declared.Listed.{Listed}
 use Rattle.level.specs.Stored.{lineIn, generatorIn}
 use Rattle.seek.specs.declared.Scope.{Scope}
 use Rattle.seek.specs.Seek.{Whole}
 use Rattle.seek.specs.Formed.{Ordered}
+use Rattle.check_heads.specs.Places.{ordersIn}
 use Rattle.check_lines.specs.Lines.{refIn}
 
 abbrev pub listedRep : List ℕ → Listed → Rep
@@ -55,6 +59,14 @@ pub record LevelOver (s : Scope) (T : List ℕ) (i count : ℕ) : Type 0 where
 pub record Spans (s : Scope) (T : List ℕ) (D : Listed) : Type 0 where
   pub room : 8 * lineIn D (s .gens) ≤ length T
   pub positive : 0 < D .deg
+
+pub record LevelsBehind (s : Scope) (T : List ℕ) (k : ℕ) : Type 0 where
+  pub within : k ≤ s .gens
+  pub known : (i : ℕ) → i < k → levelOk (s .gens) (s .m) T i ≡ true
+
+pub record FormBehind (s : Scope) (orders T : List ℕ) (k : ℕ) : Type 0 where
+  pub heads : 0 < k → headsOk (s .gens) T (ordersIn orders) ≡ true
+  pub levels : LevelsBehind s T k
 
 pub record TellsForm (s : Scope) (orders T : List ℕ) (r : Bool) : Type 0 where
   pub is : (P : Presentation) → Ordered P s orders → r ≡ not (malformed P (s .m) T)

@@ -3,7 +3,7 @@
 //
 //   block, blocks_ok       the blocks of a representation, each as long as the degree of what it refers to
 //   rep_ok, level_ok, levels_ok      what is asked of a representation beside its degree, of a level's, of all
-//   well_formed            the whole of 21
+//   heads_ok, well_formed  the heads, and the whole of 21
 ghost use mathlib.Core.Path.{_≡_};
 ghost use Prim.Native.Nat.{suc, _+_, _*_, _≤_, _<_};
 ghost use lib.ListN.{length};
@@ -11,8 +11,9 @@ ghost use Rattle.definitions.specs.Lists.{allBelow};
 ghost use Rattle.definitions.specs.Table.{levelAt};
 ghost use Rattle.level.specs.Stored.{lineIn};
 ghost use Rattle.seek.specs.Seek.{Whole};
-ghost use Rattle.check_heads.specs.Places.{Scoped};
-ghost use Rattle.check_form.specs.Form.{listedRep, blocksOk, Width, body, levelOk, LevelOver, Spans, TellsForm};
+ghost use Rattle.heads.specs.Walk.{headsOk};
+ghost use Rattle.check_heads.specs.Places.{ordersIn, Scoped};
+ghost use Rattle.check_form.specs.Form.{listedRep, blocksOk, Width, body, levelOk, LevelOver, Spans, LevelsBehind, FormBehind, TellsForm};
 use conditions::size::Orders;
 use level::Listed;
 use seek::Scope;
@@ -91,13 +92,13 @@ fn level_ok(words: &[u32], s: Scope, i: u32, low: usize, many: usize) -> bool
     rep_ok(words, s, i, low, many, near, d)
 }
 
-// Those of every level.
-fn levels_ok(words: &[u32], s: Scope) -> bool
-    requires { ⌜ Whole s (now words) ⌝ }
+// Those of every level, where those of the first `from` levels pass.
+fn levels_ok(words: &[u32], s: Scope, from: u32) -> bool
+    requires { ⌜ Whole s (now words) × LevelsBehind s (now words) from ⌝ }
     ensures { λ b. ⌜ b ≡ allBelow (s .gens) (levelOk (s .gens) (s .m) (now (words .entry))) ⌝ }
 {
-    let mut low: usize = 1;
-    let mut i: u32 = 0;
+    let mut low = seek::count_of(words, s, from);
+    let mut i = from;
     while i < s.gens {
         let many = seek::count_of(words, s, i + 1);
         if !level_ok(words, s, i, low, many) {
@@ -109,13 +110,25 @@ fn levels_ok(words: &[u32], s: Scope) -> bool
     true
 }
 
-// The words are a well-formed table of a presentation with these orders of levels: 21 does not apply.
-pub fn well_formed(words: &[u32], orders: &Orders, s: Scope) -> bool
-    requires { ⌜ Scoped s (now words) ⌝ }
+// The heads of all lines are in order, which is known where `from` levels pass.
+fn heads_ok(words: &[u32], orders: &Orders, s: Scope, from: u32) -> bool
+    requires { ⌜ Scoped s (now words) × FormBehind s (now orders) (now words) from ⌝ }
+    ensures { λ r. ⌜ r ≡ headsOk (s .gens) (now (words .entry)) (ordersIn (now (orders .entry))) ⌝ }
+{
+    if from != 0 {
+        return true;
+    }
+    check_heads::heads(words, orders, s)
+}
+
+// The words are a well-formed table of a presentation with these orders of levels, where the first `from` levels pass: 21 does not
+// apply.
+pub fn well_formed(words: &[u32], orders: &Orders, s: Scope, from: u32) -> bool
+    requires { ⌜ Scoped s (now words) × FormBehind s (now orders) (now words) from ⌝ }
     ensures { λ r. ⌜ TellsForm s (now (orders .entry)) (now (words .entry)) r ⌝ }
 {
-    if !check_heads::heads(words, orders, s) {
+    if !heads_ok(words, orders, s, from) {
         return false;
     }
-    levels_ok(words, s)
+    levels_ok(words, s, from)
 }

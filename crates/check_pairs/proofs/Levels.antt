@@ -5,9 +5,10 @@
 --   own-told                      what the test of one representation says
 --   stands-fails, stands-rest     with those before it
 --   PassingOn, level-fails, level-holds        the representations of a level
+--   suspect-fails                 one of them that is not apart
 --   Owning, owns-fails, owns-all     the blocks of each representation of a level
 --   level-claimed                 they decide where no two claim one slot
---   PassingUpTo, table-more, table-fails, table-holds      the levels
+--   PassingUpTo, table-known, table-more, table-fails, table-holds      the levels
 use mathlib.Core.Path.{_≡_, sym, _∙_, ap, ap₂, subst}
 use mathlib.Core.Bool.{Bool, true, false, _&&_, _||_}
 use mathlib.Core.List.{List}
@@ -21,6 +22,7 @@ use Rattle.definitions.specs.Presentation.{Presentation}
 use Rattle.definitions.specs.Monomial.{col, Rep, repOf}
 use Rattle.definitions.specs.Table.{levelAt}
 use Rattle.definitions.specs.Judgement.{cuts}
+use Rattle.numbers.proofs.Lists.{allBelow-fails}
 use Rattle.numbers.proofs.Passed.{Passed, passed-more, passed-all, passed-fails}
 use Rattle.level.specs.declared.Listed.{Listed}
 use Rattle.seek.specs.declared.Scope.{Scope}
@@ -31,7 +33,7 @@ use Rattle.separation.proofs.Own.{own-refs}
 use Rattle.seek.specs.Among.{repIn}
 use Rattle.claims.specs.Claims.{Unshared}
 use Rattle.check_pairs.specs.Pairs.{PlacedAt, Later, ownOf, widthIn, EarlierApart, standsIn, PrimeOf, StandsApart, AllOwn, LevelSeparated}
-use Rattle.check_pairs.specs.Pairs.{PrimesOf, AllSeparated}
+use Rattle.check_pairs.specs.Pairs.{PrimesOf, ApartBehind, AllSeparated}
 use Rattle.seek.proofs.Columns.{first-ref}
 use Rattle.seek.proofs.Seek.{found-above}
 use Rattle.check_pairs.proofs.Claimed.{unshared-pairs}
@@ -82,6 +84,9 @@ module _ (s : Scope) (T : List ℕ) (i p : ℕ) where
   pub level-fails : {r : ℕ} {b : Bool} → PassingOn r → r < length (levelAt (s .gens) T (i + 1)) → StandsApart s T i p r b → b ≡ false → LevelSeparated s T i p false
   level-fails h l t e = record { is = λ P F. passed-fails h l (t .is) e P F ∙ level-is P F }
 
+  pub suspect-fails : {r : ℕ} {b : Bool} → r < length (levelAt (s .gens) T (i + 1)) → StandsApart s T i p r b → b ≡ false → LevelSeparated s T i p false
+  suspect-fails l t e = record { is = λ P F. sym (allBelow-fails _ (standsIn P T i) _ l (sym (t .is P F) ∙ e)) ∙ level-is P F }
+
   pub level-holds : {r : ℕ} → PassingOn r → length (levelAt (s .gens) T (i + 1)) ≤ r → LevelSeparated s T i p true
   level-holds h l = record { is = λ P F. passed-all h l P F ∙ level-is P F }
 
@@ -113,8 +118,11 @@ module _ (s : Scope) (T : List ℕ) (i p : ℕ) where
 -- ---- The levels
 
 module _ (s : Scope) (primes T : List ℕ) where
-  abbrev pub PassingUpTo : ℕ → Type 0
-  PassingUpTo i = Passed (PrimesOf s primes T) (λ P i. pairwise P T i) i
+  abbrev pub PassingUpTo : (k i : ℕ) → Type 0
+  PassingUpTo k i = Passed (ApartBehind s primes T k) (λ P i. pairwise P T i) i
+
+  pub table-known : {k : ℕ} → PassingUpTo k k
+  table-known = record { tested = λ P F. record { each = F .known } }
 
   prime-at : (i p : ℕ) → i < s .gens → p ≡ getD primes i 0 → (P : Presentation) → PrimesOf s primes T P → PrimeOf s T i p P
   prime-at i p l e P F = record { formed = F .formed; prime = e ∙ F .prime i l }
@@ -123,11 +131,11 @@ module _ (s : Scope) (primes T : List ℕ) where
   all-levels P F = ap (λ n. allBelow n (pairwise P T)) (F .formed .gens-are)
 
   module _ {i p : ℕ} {b : Bool} (l : i < s .gens) (is : p ≡ getD primes i 0) (t : LevelSeparated s T i p b) where
-    pub table-more : PassingUpTo i → b ≡ true → PassingUpTo (i + 1)
-    table-more h e = passed-more h (λ P F. t .is P (prime-at i p l is P F)) e
+    pub table-more : {k : ℕ} → PassingUpTo k i → b ≡ true → PassingUpTo k (i + 1)
+    table-more h e = passed-more h (λ P F. t .is P (prime-at i p l is P (F .primed))) e
 
-    pub table-fails : PassingUpTo i → b ≡ false → AllSeparated s primes T false
-    table-fails h e = record { is = λ P F. passed-fails h l (λ P F. t .is P (prime-at i p l is P F)) e P F ∙ all-levels P F }
+    pub table-fails : {k : ℕ} → PassingUpTo k i → b ≡ false → AllSeparated s primes T k false
+    table-fails h e = record { is = λ P F. passed-fails h l (λ P F. t .is P (prime-at i p l is P (F .primed))) e P F ∙ all-levels P (F .primed) }
 
-  pub table-holds : {i : ℕ} → PassingUpTo i → s .gens ≤ i → AllSeparated s primes T true
-  table-holds h l = record { is = λ P F. passed-all h l P F ∙ all-levels P F }
+  pub table-holds : {k i : ℕ} → PassingUpTo k i → s .gens ≤ i → AllSeparated s primes T k true
+  table-holds h l = record { is = λ P F. passed-all h l P F ∙ all-levels P (F .primed) }

@@ -11,9 +11,9 @@
 --   EarlierApart s T i r b     b says whether all representations before r are apart from it
 --   StandsApart, LevelSeparated     and of r with those before it, and of a level, where p is the prime of generator i (PrimeOf, TellsAt)
 --   AllOwn                     and whether each representation of a level owns its blocks
---   PrimesOf, AllSeparated        and of all levels, by the primes of all generators
+--   PrimesOf, AllSeparated        and of all levels, by the primes of all generators, where the first k levels are so (ApartBehind)
 use mathlib.Core.Path.{_≡_}
-use mathlib.Core.Bool.{Bool, _&&_, _||_, not}
+use mathlib.Core.Bool.{Bool, true, _&&_, _||_, not}
 use mathlib.Core.List.{List}
 use Prim.Native.Nat.{ℕ, suc, _+_, _*_, _≤_, _<_}
 use lib.Dec.{eqb, leb}
@@ -99,5 +99,9 @@ pub record PrimesOf (s : Scope) (primes T : List ℕ) (P : Presentation) : Type 
   pub formed : Formed P s T
   pub prime : (k : ℕ) → k < s .gens → getD primes k 0 ≡ P .p k
 
-pub record AllSeparated (s : Scope) (primes T : List ℕ) (b : Bool) : Type 0 where
-  pub is : (P : Presentation) → PrimesOf s primes T P → b ≡ allBelow (P .n) (pairwise P T)
+pub record ApartBehind (s : Scope) (primes T : List ℕ) (k : ℕ) (P : Presentation) : Type 0 where
+  pub primed : PrimesOf s primes T P
+  pub known : (i : ℕ) → i < k → pairwise P T i ≡ true
+
+pub record AllSeparated (s : Scope) (primes T : List ℕ) (k : ℕ) (b : Bool) : Type 0 where
+  pub is : (P : Presentation) → ApartBehind s primes T k P → b ≡ allBelow (P .n) (pairwise P T)

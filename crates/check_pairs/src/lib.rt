@@ -6,7 +6,8 @@
 //   fresh_at, width, first_width          a block of one representation
 //   blocks_differ, own                    all its blocks
 //   stands_apart, pairs_apart             one with all before it, and all of a level
-//   all_own, level_separated              the blocks of each of a level, and whether all of them are apart
+//   all_own                               the blocks of each of a level
+//   suspect_apart, level_separated        whether all of a level are apart
 //   separated                             whether all representations of every level are apart
 ghost use mathlib.Core.Path.{_≡_};
 ghost use Prim.Native.Nat.{ℕ, _+_, _*_, _≤_, _<_};
@@ -220,24 +221,40 @@ fn all_own(words: &[u32], s: Scope, i: u32, p: u32) -> bool
     }
 }
 
-// The representations of the level above level i are apart. Where no two claim one slot, their own blocks decide.
-fn level_separated(words: &[u32], s: Scope, i: u32, p: u32) -> bool
-    requires { ⌜ ((P : Presentation) × Formed P s (now words)) × (i < s .gens) ⌝ }
-    ensures { λ r. ⌜ LevelSeparated s (now (words .entry)) i p r ⌝ }
+// The representations of the level above level i are apart, pair by pair; representation r, which is suspected, comes first.
+fn suspect_apart(words: &[u32], s: Scope, i: u32, p: u32, r: usize) -> bool
+    requires { ⌜ ((P : Presentation) × Formed P s (now words)) × (i < s .gens) × (r < length (levelAt (s .gens) (now words) (i + 1))) ⌝ }
+    ensures { λ b. ⌜ LevelSeparated s (now (words .entry)) i p b ⌝ }
 {
-    if claims::disjoint(words, s, i, p) {
-        return all_own(words, s, i, p);
+    let near = seek::start_of(words, s, i);
+    if !stands_apart(words, s, i, p, near, r) {
+        return false;
     }
     pairs_apart(words, s, i, p)
 }
 
-// Whether the representations of every level are apart: refusal 25 where 21 to 23 do not apply.
-pub fn separated(words: &[u32], primes: &Row, s: Scope) -> bool
+// The representations of the level above level i are apart. Where no two claim one slot, their own blocks decide; else the first that
+// does is suspected.
+fn level_separated(words: &[u32], s: Scope, i: u32, p: u32) -> bool
+    requires { ⌜ ((P : Presentation) × Formed P s (now words)) × (i < s .gens) ⌝ }
+    ensures { λ r. ⌜ LevelSeparated s (now (words .entry)) i p r ⌝ }
+{
+    let reps = seek::count_of(words, s, i + 1);
+    let k = claims::first_clash(words, s, i, p);
+    if k == reps {
+        return all_own(words, s, i, p);
+    }
+    suspect_apart(words, s, i, p, k)
+}
+
+// Whether the representations of every level are apart, where those of the first `from` levels are: refusal 25 where 21 to 23 do not
+// apply.
+pub fn separated(words: &[u32], primes: &Row, s: Scope, from: u32) -> bool
     requires { ⌜ ((P : Presentation) × Formed P s (now words)) ⌝ }
-    ensures { λ r. ⌜ AllSeparated s (now (primes .entry)) (now (words .entry)) r ⌝ }
+    ensures { λ r. ⌜ AllSeparated s (now (primes .entry)) (now (words .entry)) from r ⌝ }
 {
     let gens = s.gens;
-    for i in 0..gens {
+    for i in from..gens {
         if !level_separated(words, s, i, primes[level::up(i)]) {
             return false;
         }

@@ -2,6 +2,7 @@
 --
 --   Posing s rows primes T      the presentations that are posed
 --   asks q s T                  the condition q, at the modulus of the table
+--   Behind q s rows primes T k  and those of them for which q holds on the first k levels
 --   level-told                  what is told of the level behind level i
 use mathlib.Core.Path.{_≡_, _∙_, ap}
 use mathlib.Core.Bool.{Bool}
@@ -13,10 +14,13 @@ use Rattle.definitions.specs.Monomial.{Rep}
 use Rattle.seek.specs.declared.Scope.{Scope}
 use Rattle.seek.specs.Formed.{Posed}
 use Rattle.seek.specs.Among.{onLevel}
-use Rattle.check_relations.specs.Asked.{RepTest, OnLevel}
+use Rattle.check_relations.specs.Asked.{RepTest, OnLevel, PosedBehind}
 
 abbrev pub Posing : Scope → List (List ℕ) → (primes T : List ℕ) → Presentation → Type 0
 Posing s rows primes T P = Posed P s rows primes T
+
+abbrev pub Behind : RepTest → Scope → List (List ℕ) → (primes T : List ℕ) → ℕ → Presentation → Type 0
+Behind q s rows primes T k P = PosedBehind q s rows primes T k P
 
 abbrev pub asks : RepTest → Scope → List ℕ → Presentation → ℕ → Rep → Bool
 asks q s T P = q P (s .m) T

@@ -2,7 +2,10 @@
 --
 --   RepTest                   a condition on the representations of a level, for a presentation, a modulus and a table
 --   asked q                the condition that q names
---   OfRep, OnLevel, Everywhere      r is the answer for one representation, for all of a level, for all of the table
+--   OfRep, OnLevel         r is the answer for one representation, for all of a level
+--   PosedBehind k          a presentation that is posed, for which the condition holds on the first k levels
+--   Everywhere k           r is the answer for all of the table, for every such presentation
+use mathlib.Core.Path.{_≡_}
 use mathlib.Core.Bool.{Bool}
 use mathlib.Core.List.{List}
 use Prim.Native.Nat.{ℕ}
@@ -12,8 +15,8 @@ use Rattle.definitions.specs.Judgement.{everywhere, relationsHold, intertwiners
 use Rattle.separation.specs.Relations.{topRelations}
 use Rattle.level.specs.declared.Listed.{Listed}
 use Rattle.seek.specs.declared.Scope.{Scope}
-use Rattle.seek.specs.Formed.{TellsOf}
-use Rattle.seek.specs.Among.{repIn, onLevel}
+use Rattle.seek.specs.Formed.{Posed, TellsOf}
+use Rattle.seek.specs.Among.{repIn, onLevel, PassesFirst}
 use Rattle.check_relations.specs.declared.Condition.{Condition}
 use Rattle.check_relations.specs.declared.Condition.the-variants.{Top, Every, Intertwine}
 
@@ -32,5 +35,9 @@ module _ (q : RepTest) (s : Scope) (rows : List (List ℕ)) (primes T : List ℕ
   abbrev pub OnLevel : ℕ → Bool → Type 0
   OnLevel i r = TellsOf s rows primes T (λ P. onLevel (s .gens) T (q P (s .m) T) i) r
 
-  abbrev pub Everywhere : Bool → Type 0
-  Everywhere r = TellsOf s rows primes T (λ P. everywhere P (s .m) T (q P (s .m) T)) r
+  pub record PosedBehind (k : ℕ) (P : Presentation) : Type 0 where
+    pub posed : Posed P s rows primes T
+    pub known : PassesFirst (s .gens) T (q P (s .m) T) k
+
+  pub record Everywhere (k : ℕ) (r : Bool) : Type 0 where
+    pub is : (P : Presentation) → PosedBehind k P → r ≡ everywhere P (s .m) T (q P (s .m) T)

@@ -64,13 +64,20 @@ fn holds_on(words: &[u32], rows: &Words, primes: &Row, s: Scope, q: Condition, i
     }
 }
 
-// It holds of every representation of every level.
-fn holds_everywhere(words: &[u32], rows: &Words, primes: &Row, s: Scope, q: Condition) -> bool
+// It holds of every representation of every level, where it does on the first `from` levels.
+fn holds_everywhere(
+    words: &[u32],
+    rows: &Words,
+    primes: &Row,
+    s: Scope,
+    q: Condition,
+    from: u32,
+) -> bool
     requires { ⌜ ((P : Presentation) × Posed P s (now rows) (now primes) (now words)) ⌝ }
-    ensures { λ r. ⌜ Everywhere (asked q) s (now (rows .entry)) (now (primes .entry)) (now (words .entry)) r ⌝ }
+    ensures { λ r. ⌜ Everywhere (asked q) s (now (rows .entry)) (now (primes .entry)) (now (words .entry)) from r ⌝ }
 {
     let gens = s.gens;
-    for i in 0..gens {
+    for i in from..gens {
         if !holds_on(words, rows, primes, s, q, i + 1) {
             return false;
         }
@@ -78,26 +85,27 @@ fn holds_everywhere(words: &[u32], rows: &Words, primes: &Row, s: Scope, q: Cond
     true
 }
 
-// Whether the relations of the generator on top of each level hold: refusal 22 where 23 does not apply.
-pub fn top_relations_hold(words: &[u32], rows: &Words, primes: &Row, s: Scope) -> bool
+// Whether the relations of the generator on top of each level hold, where they do on the first `from` levels: refusal 22 where 23
+// does not apply.
+pub fn top_relations_hold(words: &[u32], rows: &Words, primes: &Row, s: Scope, from: u32) -> bool
     requires { ⌜ ((P : Presentation) × Posed P s (now rows) (now primes) (now words)) ⌝ }
-    ensures { λ r. ⌜ Everywhere topRelations s (now (rows .entry)) (now (primes .entry)) (now (words .entry)) r ⌝ }
+    ensures { λ r. ⌜ Everywhere topRelations s (now (rows .entry)) (now (primes .entry)) (now (words .entry)) from r ⌝ }
 {
-    holds_everywhere(words, rows, primes, s, Condition::Top)
+    holds_everywhere(words, rows, primes, s, Condition::Top, from)
 }
 
-// Whether all relations hold on every level: refusal 22.
-pub fn relations_hold(words: &[u32], rows: &Words, primes: &Row, s: Scope) -> bool
+// Whether all relations hold on every level, where they do on the first `from` levels: refusal 22.
+pub fn relations_hold(words: &[u32], rows: &Words, primes: &Row, s: Scope, from: u32) -> bool
     requires { ⌜ ((P : Presentation) × Posed P s (now rows) (now primes) (now words)) ⌝ }
-    ensures { λ r. ⌜ Everywhere relationsHold s (now (rows .entry)) (now (primes .entry)) (now (words .entry)) r ⌝ }
+    ensures { λ r. ⌜ Everywhere relationsHold s (now (rows .entry)) (now (primes .entry)) (now (words .entry)) from r ⌝ }
 {
-    holds_everywhere(words, rows, primes, s, Condition::Every)
+    holds_everywhere(words, rows, primes, s, Condition::Every, from)
 }
 
-// Whether every intertwiner intertwines: refusal 24.
-pub fn intertwiners_hold(words: &[u32], rows: &Words, primes: &Row, s: Scope) -> bool
+// Whether every intertwiner intertwines, where those of the first `from` levels do: refusal 24.
+pub fn intertwiners_hold(words: &[u32], rows: &Words, primes: &Row, s: Scope, from: u32) -> bool
     requires { ⌜ ((P : Presentation) × Posed P s (now rows) (now primes) (now words)) ⌝ }
-    ensures { λ r. ⌜ Everywhere intertwinersHold s (now (rows .entry)) (now (primes .entry)) (now (words .entry)) r ⌝ }
+    ensures { λ r. ⌜ Everywhere intertwinersHold s (now (rows .entry)) (now (primes .entry)) (now (words .entry)) from r ⌝ }
 {
-    holds_everywhere(words, rows, primes, s, Condition::Intertwine)
+    holds_everywhere(words, rows, primes, s, Condition::Intertwine, from)
 }

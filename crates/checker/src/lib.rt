@@ -1,6 +1,6 @@
-// The judgement of a table, whoever made it: the first of 21 to 26 that applies. A quick test comes first, whose yes means that
-// none does. Else the phases are asked, in an order in which each may use what those before it found; 23 comes before 22, since it
-// tells which relations are enough.
+// The judgement of a table, whoever made it: the first of 21 to 26 that applies. A quick test comes first, which counts the levels
+// that pass, from the first on; if these are all, none applies. Else the phases are asked of the levels behind them, in an order in
+// which each may use what those before it found; 23 comes before 22, since it tells which relations are enough.
 //
 //   judge_formed     22 to 26, of a table to which 21 does not apply
 //   judge            21 to 26, of any words
@@ -10,27 +10,34 @@ use rows::Row;
 use rows::Words;
 use seek::Scope;
 
-// The first of 22 to 26 that applies to a table to which 21 does not, or 0.
-fn judge_formed(words: &[u32], rows: &Words, primes: &Row, orders: &Orders, s: Scope) -> u32
-    requires { ⌜ SomeSorted s (now rows) (now primes) (now orders) (now words) ⌝ }
-    ensures { λ a. ⌜ JudgedFormed s (now (rows .entry)) (now (primes .entry)) (now (orders .entry)) (now (words .entry)) a ⌝ }
+// The first of 22 to 26 that applies to a table to which 21 does not and whose first `from` levels pass, or 0.
+fn judge_formed(
+    words: &[u32],
+    rows: &Words,
+    primes: &Row,
+    orders: &Orders,
+    s: Scope,
+    from: u32,
+) -> u32
+    requires { ⌜ SomeSorted s (now rows) (now primes) (now orders) (now words) from ⌝ }
+    ensures { λ a. ⌜ JudgedFormed s (now (rows .entry)) (now (primes .entry)) (now (orders .entry)) (now (words .entry)) from a ⌝ }
 {
-    if !check_blocks::restrictions_hold(words, s) {
-        if check_relations::relations_hold(words, rows, primes, s) {
+    if !check_blocks::restrictions_hold(words, s, from) {
+        if check_relations::relations_hold(words, rows, primes, s, from) {
             return 23;
         }
         return 22;
     }
-    if !check_relations::top_relations_hold(words, rows, primes, s) {
+    if !check_relations::top_relations_hold(words, rows, primes, s, from) {
         return 22;
     }
-    if !check_relations::intertwiners_hold(words, rows, primes, s) {
+    if !check_relations::intertwiners_hold(words, rows, primes, s, from) {
         return 24;
     }
-    if !check_pairs::separated(words, primes, s) {
+    if !check_pairs::separated(words, primes, s, from) {
         return 25;
     }
-    if !check_blocks::squares_hold(words, orders, s) {
+    if !check_blocks::squares_hold(words, orders, s, from) {
         return 26;
     }
     0
@@ -47,11 +54,12 @@ pub fn judge(words: &[u32], rows: &Words, primes: &Row, n: u32, m: u32) -> u32
         m,
     };
     let orders = conditions::size::level_orders(primes, level::up(n));
-    if check_fit::fits(words, rows, primes, &orders, s) {
+    let from = check_fit::fitting_levels(words, rows, primes, &orders, s);
+    if from == n {
         return 0;
     }
-    if !check_form::well_formed(words, &orders, s) {
+    if !check_form::well_formed(words, &orders, s, from) {
         return 21;
     }
-    judge_formed(words, rows, primes, &orders, s)
+    judge_formed(words, rows, primes, &orders, s, from)
 }

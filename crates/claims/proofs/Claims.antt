@@ -6,10 +6,11 @@
 --   kindOf                     the mark of what a representation refers to
 --   Claims i p part L r M S    the first r representations of L are apart, and what they claim is marked
 --   claims-none, claims-found, claims-all     at the start, one representation more, and at the end
+--   clash-first, clash-at, clash-none         where the loop ends
 use mathlib.Core.Path.{_≡_, refl, sym, _∙_, ap, ap₂, subst}
 use mathlib.Core.Bool.{Bool, true, false, cond, false≢true}
 use mathlib.Core.List.{List}
-use Prim.Native.Nat.{ℕ, _+_, _*_, _/_, _≤_, _<_}
+use Prim.Native.Nat.{ℕ, suc, _+_, _*_, _/_, _≤_, _<_}
 use native.Mathlib.Decide.{decLt}
 use native.Mathlib.Omega.{arith}
 use lib.Dec.{eqb}
@@ -20,10 +21,12 @@ use Rattle.definitions.specs.Monomial.{Rep, Level, repOf}
 use Rattle.definitions.specs.Table.{REF, wordAt, repAt, levelAt}
 use Rattle.numbers.proofs.Lists.{allBelow-elim}
 use Rattle.level.specs.declared.Listed.{Listed}
-use Rattle.seek.specs.Seek.{Found}
+use Rattle.seek.specs.declared.Scope.{Scope}
+use Rattle.seek.specs.Seek.{Whole, Found}
 use Rattle.seek.specs.Among.{repIn}
 use Rattle.seek.proofs.Columns.{ref-at}
-use Rattle.claims.specs.Claims.{OneReference, topExponent, Apart, Unshared, oneReference, slotOf, TookAll, Shares, Claimed}
+use Rattle.seek.proofs.Seek.{whole-some}
+use Rattle.claims.specs.Claims.{OneReference, topExponent, Apart, Unshared, FirstClash, oneReference, slotOf, TookAll, Shares, Claimed}
 
 -- the test of a column, by the words that are read
 abbrev pub sameReference : Rep → ℕ → Bool
@@ -163,3 +166,15 @@ module _ {i p part : ℕ} {L : Level} {r : ℕ} {M N S U : List ℕ} (H : Claims
 pub claims-found : {n : ℕ} {T : List ℕ} {k r : ℕ} {D : Listed} → Found n T k r D → {i p part : ℕ} {M N S U : List ℕ}
     → Claims i p part (levelAt n T k) r M S → Claimed i p part (repIn T D) M N S U → Claims i p part (levelAt n T k) (r + 1) N U
 claims-found F {i} {p} {part} {M} {N} {S} {U} H C = claims-more H (subst (λ (D : Rep). Claimed i p part D M N S U) (sym (F .rep)) C)
+
+-- ---- Where the loop ends
+
+pub clash-at : {i k : ℕ} {L : Level} → k < length L → FirstClash i L k
+clash-at l = record { within = omega arith; none = λ e. absurd (omega (arith, l, e)) }
+
+pub clash-none : {i k : ℕ} {L : Level} → k ≡ length L → Unshared i L → FirstClash i L k
+clash-none e U = record { within = omega (arith, e); none = λ q. U }
+
+-- the first representation, where no marks are made
+pub clash-first : (s : Scope) (T : List ℕ) → Whole s T → {i : ℕ} → i < s .gens → FirstClash i (levelAt (s .gens) T (suc i)) 0
+clash-first s T W {i} l = clash-at (whole-some s T W (suc i) (omega arith) l)

@@ -4,6 +4,7 @@
 --   topExponent i D            the exponent of generator i in column 0
 --   Apart i D E                where D and E share a reference they have no other, and differ in that exponent
 --   Unshared i L               every two representations of L are apart so
+--   FirstClash i L k           k is a representation of L, or all of them are apart so
 --   oneReference D             the same as a test
 --   slotOf i p part D          the slot of a representation with one reference
 --   StaysMarked M N            marks that are not free stay
@@ -34,6 +35,10 @@ Apart i D E =
 
 pub record Unshared (i : ℕ) (L : Level) : Type 0 where
   pub apart : (r r′ : ℕ) → r < length L → r′ < length L → ¬ (r ≡ r′) → Apart i (repOf L r) (repOf L r′)
+
+pub record FirstClash (i : ℕ) (L : Level) (k : ℕ) : Type 0 where
+  pub within : k ≤ length L
+  pub none : k ≡ length L → Unshared i L
 
 -- ---- Claims
 

@@ -6,7 +6,7 @@
 //   one_reference                   whether all columns have one reference
 //   take, take_all                  what is claimed whole
 //   slot, share                     a slot
-//   claim, disjoint                 one representation, and all of a level
+//   claim, first_clash              one representation, and all of a level
 ghost use mathlib.Core.Path.{_≡_};
 ghost use mathlib.Core.Bool.{true};
 ghost use Prim.Native.Nat.{suc, _+_, _*_, _/_, _≤_, _<_};
@@ -14,7 +14,7 @@ ghost use lib.ListN.{length};
 ghost use Rattle.definitions.specs.Table.{levelAt};
 ghost use Rattle.seek.specs.Seek.{Whole, HasLines};
 ghost use Rattle.seek.specs.Among.{repIn};
-ghost use Rattle.claims.specs.Claims.{oneReference, Took, TookAll, Shares, Claimed, Unshared};
+ghost use Rattle.claims.specs.Claims.{oneReference, Took, TookAll, Shares, Claimed, FirstClash};
 use level::Listed;
 use seek::Scope;
 
@@ -129,17 +129,18 @@ pub fn claim(
     share(marks, slots, level::up(f), slot(f, p, e, part))
 }
 
-// No two representations of the level above level i claim one slot, where p is the prime of generator i.
-pub fn disjoint(words: &[u32], s: Scope, i: u32, p: u32) -> bool
+// The first representation of the level above level i that claims what one before it has claimed, or a slot that there is not, where
+// p is the prime of generator i; and how many there are, if there is none such.
+pub fn first_clash(words: &[u32], s: Scope, i: u32, p: u32) -> usize
     requires { ⌜ Whole s (now words) × (i < s .gens) ⌝ }
-    ensures { λ r. ⌜ (r ≡ true → Unshared i (levelAt (s .gens) (now (words .entry)) (suc i))) ⌝ }
+    ensures { λ k. ⌜ FirstClash i (levelAt (s .gens) (now (words .entry)) (suc i)) k ⌝ }
 {
     if p == 0 {
-        return false;
+        return 0;
     }
     let part = s.m / p;
     if part == 0 {
-        return false;
+        return 0;
     }
     let reps = seek::count_of(words, s, i + 1);
     let mut d = seek::found(words, s, i + 1, 0);
@@ -148,11 +149,11 @@ pub fn disjoint(words: &[u32], s: Scope, i: u32, p: u32) -> bool
     let mut r: usize = 0;
     loop {
         if !claim(words, i, p, part, d, &mut marks, &mut slots) {
-            return false;
+            return r;
         }
         r += 1;
         if r == reps {
-            return true;
+            return reps;
         }
         d = seek::following(words, s, d);
     }

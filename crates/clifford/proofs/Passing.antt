@@ -1,7 +1,9 @@
 -- A complete table whose levels stand, each cut into blocks of the level below, passes the judgement.
 --
 --   Founded           a level that stands on some family
---   levels-pass       the law
+--   level-passes      such a level, cut into blocks, passes
+--   all-pass          a complete table whose levels all pass, passes
+--   levels-pass       so does one whose levels all stand
 use mathlib.Core.Path.{_≡_, _∙_, ap}
 use mathlib.Core.Bool.{Bool, true, false, _&&_, not}
 use mathlib.Core.List.{List}
@@ -21,6 +23,7 @@ use Rattle.group.proofs.Group.{Test}
 use Rattle.monomial.specs.Families.{Family}
 use Rattle.monomial.proofs.Residues.{residues}
 use Rattle.clifford.specs.Stands.{Stands, Restricts}
+use Rattle.clifford.specs.Passing.{OfEach, LevelPasses}
 use Rattle.clifford.proofs.Judged.{relations-hold, intertwiners-hold, separates-hold, squares-hold, valid-holds, listed-holds}
 use Rattle.clifford.proofs.Cuts.{blocks-whole, blocks-restrict}
 use Rattle.clifford.proofs.Everywhere.{everywhere-intro}
@@ -30,57 +33,71 @@ pub record Founded (C : Context) (m : ℕ) (pos : 0 < m) (i : ℕ) (L : Level) :
   pub F : Family (residues m pos) Ω (level C i) (conjNf C i) i (C .P .n)
   pub stands : Stands C (C .P .n) m pos i L F
 
-module _ (C : Context) (tests : (k : ℕ) → k < C .P .n → Test C k) (m : ℕ) (pos : 0 < m) (T : List ℕ)
-    (founded : (i : ℕ) → i < C .P .n → Founded C m pos (suc i) (levelAt (C .P .n) T (suc i)))
-    (cut : (i : ℕ) → i < C .P .n → (r : ℕ) → r < length (levelAt (C .P .n) T (suc i))
-    → Restricts i (levelAt (C .P .n) T i) (repOf (levelAt (C .P .n) T (suc i)) r))
-    (whole : eqb (length T % lineWords) 0 ≡ true) (lines : complete (C .P .n) T ≡ true) where
-  abbrev P : Presentation
-  P = C .P
+-- ---- One level
 
-  abbrev Lv : ℕ → Level
-  Lv = levelAt (C .P .n) T
+pub level-passes : (C : Context) → ((k : ℕ) → k < C .P .n → Test C k) → (m : ℕ) (pos : 0 < m) (T : List ℕ) (i : ℕ) → i < C .P .n
+    → Founded C m pos (suc i) (levelAt (C .P .n) T (suc i))
+    → ((r : ℕ) → r < length (levelAt (C .P .n) T (suc i)) → Restricts i (levelAt (C .P .n) T i) (repOf (levelAt (C .P .n) T (suc i)) r))
+    → LevelPasses (C .P) m T i
+level-passes C tests m pos T i l St cut = record {
+  formed = λ r h.
+      and-intro _ _ (and-intro _ _ (valid-holds C tests m pos T (suc i) l (St .F) (St .stands) r h) (blocks-whole (C .P) m T i (D r) (cut r h)))
+      (listed-holds C tests m pos T (suc i) l (St .F) (St .stands) r h);
+  relations = λ r h. relations-hold C tests m pos T (suc i) l (St .F) (St .stands) r h;
+  restrictions = λ r h. blocks-restrict (C .P) m T i (D r) (cut r h);
+  intertwiners = λ r h. intertwiners-hold C tests m pos T (suc i) l (St .F) (St .stands) r h;
+  separated = λ r h. separates-hold C tests m pos T (suc i) l (St .F) (St .stands) r h;
+  adds-up = squares-hold C tests m pos T (suc i) l (St .F) (St .stands);
+}
+  where
+    D : ℕ → Rep
+    D r = repOf (levelAt (C .P .n) T (suc i)) r
 
-  -- what is asked of each representation of a level that stands
-  each : (q : (i : ℕ) → Rep → Bool)
-      → ((i : ℕ) → i < C .P .n → Founded C m pos (suc i) (Lv (suc i)) → (r : ℕ) → r < length (Lv (suc i)) → q (suc i) (repOf (Lv (suc i)) r) ≡ true)
-      → not (Judgement.everywhere P m T q) ≡ false
-  each q h = ap not (everywhere-intro P m T q (λ i l. h i l (founded i l)))
+-- ---- All levels
+
+module _ (P : Presentation) (m : ℕ) (T : List ℕ) (passes : (i : ℕ) → i < P .n → LevelPasses P m T i) (whole : eqb (length T % lineWords) 0 ≡ true)
+    (lines : complete (P .n) T ≡ true) where
+  -- what holds of each representation of each level
+  each : (q : (i : ℕ) → Rep → Bool) → ((i : ℕ) → LevelPasses P m T i → OfEach P T i (q (suc i))) → not (Judgement.everywhere P m T q) ≡ false
+  each q h = ap not (everywhere-intro P m T q (λ i l. h i (passes i l)))
 
   well-formed : Judgement.malformed P m T ≡ false
   unfolding Judgement.malformed
-  well-formed = ap not (and-intro _ _ (and-intro _ _ whole lines) (everywhere-intro P m T formed (λ i l r h.
-      let St = founded i l in
-      and-intro _ _ (and-intro _ _ (valid-holds C tests m pos T (suc i) l (St .F) (St .stands) r h) (blocks-whole P m T i (repOf (Lv (suc i)) r) (cut i l r h)))
-      (listed-holds C tests m pos T (suc i) l (St .F) (St .stands) r h))))
+  well-formed = ap not (and-intro _ _ (and-intro _ _ whole lines) (everywhere-intro P m T formed (λ i l. passes i l .formed)))
     where
       formed : (i : ℕ) → Rep → Bool
       formed i D = Judgement.matricesValid P m T i D && Judgement.blocksWhole P m T i D && Judgement.targetsListed P m T i D
 
   relations-pass : Judgement.relationFails P m T ≡ false
   unfolding Judgement.relationFails
-  relations-pass = each (Judgement.relationsHold P m T) (λ i l St r h. relations-hold C tests m pos T (suc i) l (St .F) (St .stands) r h)
+  relations-pass = each (Judgement.relationsHold P m T) (λ i L. L .relations)
 
   restrictions-pass : Judgement.restrictionFails P m T ≡ false
   unfolding Judgement.restrictionFails
-  restrictions-pass = each (Judgement.restricts P m T) (λ i l St r h. blocks-restrict P m T i (repOf (Lv (suc i)) r) (cut i l r h))
+  restrictions-pass = each (Judgement.restricts P m T) (λ i L. L .restrictions)
 
   intertwiners-pass : Judgement.intertwinerFails P m T ≡ false
   unfolding Judgement.intertwinerFails
-  intertwiners-pass = each (Judgement.intertwinersHold P m T) (λ i l St r h. intertwiners-hold C tests m pos T (suc i) l (St .F) (St .stands) r h)
+  intertwiners-pass = each (Judgement.intertwinersHold P m T) (λ i L. L .intertwiners)
 
   separation-passes : Judgement.notSeparated P m T ≡ false
   unfolding Judgement.notSeparated Judgement.everyLevel
-  separation-passes = ap not (allBelow-intro (P .n) _ (λ i l. allBelow-intro (length (Lv (suc i))) _ (λ r h.
-      let St = founded i l in separates-hold C tests m pos T (suc i) l (St .F) (St .stands) r h)))
+  separation-passes = ap not (allBelow-intro (P .n) _ (λ i l. allBelow-intro _ _ (passes i l .separated)))
 
   squares-pass : Judgement.squaresFail P m T ≡ false
   unfolding Judgement.squaresFail Judgement.everyLevel
-  squares-pass = ap not (allBelow-intro (P .n) _ (λ i l. let St = founded i l in squares-hold C tests m pos T (suc i) l (St .F) (St .stands)))
+  squares-pass = ap not (allBelow-intro (P .n) _ (λ i l. passes i l .adds-up))
 
-  pub levels-pass : judgement (C .P) m T ≡ 0
+  pub all-pass : judgement P m T ≡ 0
   unfolding judgement firstOf
-  levels-pass =
+  all-pass =
       cond-false (Judgement.malformed P m T) _ _ well-formed ∙ cond-false (Judgement.relationFails P m T) _ _ relations-pass
       ∙ cond-false (Judgement.restrictionFails P m T) _ _ restrictions-pass ∙ cond-false (Judgement.intertwinerFails P m T) _ _ intertwiners-pass
       ∙ cond-false (Judgement.notSeparated P m T) _ _ separation-passes ∙ cond-false (Judgement.squaresFail P m T) _ _ squares-pass
+
+pub levels-pass : (C : Context) → ((k : ℕ) → k < C .P .n → Test C k) → (m : ℕ) (pos : 0 < m) (T : List ℕ)
+    → ((i : ℕ) → i < C .P .n → Founded C m pos (suc i) (levelAt (C .P .n) T (suc i)))
+    → ((i : ℕ) → i < C .P .n → (r : ℕ) → r < length (levelAt (C .P .n) T (suc i))
+    → Restricts i (levelAt (C .P .n) T i) (repOf (levelAt (C .P .n) T (suc i)) r))
+    → eqb (length T % lineWords) 0 ≡ true → complete (C .P .n) T ≡ true → judgement (C .P) m T ≡ 0
+levels-pass C tests m pos T founded cut = all-pass (C .P) m T (λ i l. level-passes C tests m pos T i l (founded i l) (cut i l))

@@ -1,5 +1,6 @@
 -- Refusal 21 in two parts: a walk over the heads of the lines, and what is asked of each representation beside its degree.
 --
+--   formed-body       a representation that is formed passes the tests beside its degree
 --   form-decides      a table is well formed exactly if both pass
 use mathlib.Core.Path.{_≡_, refl, sym, _∙_, subst}
 use mathlib.Core.Bool.{Bool, true, false, _&&_, not}
@@ -56,6 +57,10 @@ module _ (P : Presentation) (m : ℕ) (T : List ℕ) where
         let h₁ = and-left (positive && bounded) matrices h₂ in
         let b = and-intro matrices blocks (and-right (positive && bounded) matrices h₂) (and-right (positive && bounded && matrices) blocks h₃) in
         (leb-true (D .deg * D .deg) (order P i) (and-right positive bounded h₁), and-intro (matrices && blocks) targets b (and-right (positive && bounded && matrices && blocks) targets h))
+
+    -- what is asked beside the degree
+    pub formed-body : matricesValid P m T i D && blocksWhole P m T i D && targetsListed P m T i D ≡ true → bodyOk P m T i D ≡ true
+    formed-body h = parts h .1
 
     whole : 0 < D .deg → D .deg * D .deg ≤ order P i → bodyOk P m T i D ≡ true → wellFormed i D ≡ true
     unfolding matricesValid bodyOk

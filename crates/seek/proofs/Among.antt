@@ -4,7 +4,7 @@
 --   among-whole                  and its blocks are whole
 --   PassingOn                    the first r representations of level i pass a test, for every presentation with A
 --   told-found, level-fails, level-holds      the steps of a loop over a level
---   UpTo                         so do all representations of the first i levels
+--   UpTo, up-to-known            so do all representations of the first i levels; levels of which it is known
 --   table-fails, table-holds     the steps of a loop over the levels
 use mathlib.Core.Path.{_≡_, sym, _∙_, ap, subst}
 use mathlib.Core.Bool.{Bool, true, false}
@@ -24,7 +24,7 @@ use Rattle.level.specs.Stored.{Stored}
 use Rattle.seek.specs.declared.Scope.{Scope}
 use Rattle.seek.specs.Seek.{Found}
 use Rattle.seek.specs.Formed.{Formed}
-use Rattle.seek.specs.Among.{repIn, Among, onLevel}
+use Rattle.seek.specs.Among.{repIn, Among, onLevel, PassesFirst}
 use Rattle.seek.proofs.Stored.{found-stored, wellFormed}
 
 pub formed-stored : {P : Presentation} {s : Scope} {T : List ℕ} (F : Formed P s T) (i r : ℕ) {D : Listed} → Found (s .gens) T i r D
@@ -79,6 +79,9 @@ module _ (s : Scope) (T : List ℕ) (A : Presentation → Type 0) (q : Presentat
 
   abbrev pub UpTo : ℕ → Type 0
   UpTo i = Passed A (λ P i. onLevel (s .gens) T (q P) (suc i)) i
+
+  pub up-to-known : {k : ℕ} → ((P : Presentation) → A P → PassesFirst (s .gens) T (q P) k) → UpTo k
+  up-to-known h = record { tested = λ P p. record { each = h P p } }
 
   module _ (m : ℕ) (gens-are : (P : Presentation) → A P → s .gens ≡ P .n) where
     everywhere-is : (P : Presentation) → A P → allBelow (s .gens) (λ i. onLevel (s .gens) T (q P) (suc i)) ≡ everywhere P m T (q P)

@@ -3,9 +3,11 @@
 --   repIn T D            the representation whose lines D names
 --   Among s T i D        it is one of level i
 --   onLevel n T q i      the condition q on every representation of level i
-use mathlib.Core.Bool.{Bool}
+--   PassesFirst n T q k  it holds on the first k levels
+use mathlib.Core.Path.{_≡_}
+use mathlib.Core.Bool.{Bool, true}
 use mathlib.Core.List.{List}
-use Prim.Native.Nat.{ℕ}
+use Prim.Native.Nat.{ℕ, suc, _<_}
 use lib.ListN.{length}
 use Rattle.definitions.specs.Lists.{allBelow}
 use Rattle.definitions.specs.Presentation.{Presentation}
@@ -27,3 +29,6 @@ pub record Among (s : Scope) (T : List ℕ) (i : ℕ) (D : Listed) : Type 0 wher
 
 unfoldable pub onLevel : ℕ → List ℕ → (ℕ → Rep → Bool) → ℕ → Bool
 onLevel n T q i = allBelow (length (levelAt n T i)) (λ r. q i (repOf (levelAt n T i) r))
+
+abbrev pub PassesFirst : ℕ → List ℕ → (ℕ → Rep → Bool) → ℕ → Type 0
+PassesFirst n T q k = (i : ℕ) → i < k → onLevel n T q (suc i) ≡ true

@@ -1,5 +1,6 @@
 -- For any table that 21 and 23 let pass, 22 is decided by the relations of the generator on top of each level.
 --
+--   on-top                             the relations of the generator on top are among all
 --   lower-power, lower-commutator      the relations of the level below hold above it
 --   relations-decide                   22 applies exactly if a relation of a generator on top fails
 use mathlib.Core.Path.{_≡_, refl, sym, _∙_, ap, subst}
@@ -24,6 +25,11 @@ use Rattle.separation.specs.Relations.{topRelations}
 use Rattle.separation.proofs.Cutting.{all-both, cut, cut-at}
 use Rattle.separation.proofs.Within.{WithinMatrix, within-mul, within-power, within-value, within-same}
 use Rattle.separation.proofs.Walk.{valid-parts, valid-columns, whole-at, acts-at}
+
+pub on-top : (P : Presentation) (m : ℕ) (table : List ℕ) (i : ℕ) (D : Rep) → Judgement.relationsHold P m table (suc i) D ≡ true
+    → topRelations P m table (suc i) D ≡ true
+unfolding Judgement.relationsHold topRelations allBelow
+on-top P m table i D t = and-right (allBelow i (λ j. Judgement.powerHolds P m table D j && allBelow j (λ k. Judgement.commutatorHolds P m table D k j))) _ t
 
 module _ (C : Context) (m : ℕ) (table : List ℕ) (formed : Judgement.malformed (C .P) m table ≡ false) (restrictions : Judgement.restrictionFails (C .P) m table ≡ false) where
   abbrev P : Presentation
@@ -140,8 +146,5 @@ module _ (C : Context) (m : ℕ) (table : List ℕ) (formed : Judgement.malforme
   pub relations-decide : Judgement.relationFails (C .P) m table ≡ not (Judgement.everywhere (C .P) m table (topRelations (C .P) m table))
   unfolding Judgement.relationFails Judgement.everywhere
   relations-decide = ap not (same-test _ _
-      (λ s. allBelow-intro n _ (λ i l. allBelow-intro _ _ (λ r h. on-top i (repOf (Lv (suc i)) r) (allBelow-elim _ _ (allBelow-elim n _ s i l) r h))))
+      (λ s. allBelow-intro n _ (λ i l. allBelow-intro _ _ (λ r h. on-top P m table i (repOf (Lv (suc i)) r) (allBelow-elim _ _ (allBelow-elim n _ s i l) r h))))
       (λ s. allBelow-intro n _ (λ i l. allBelow-intro _ _ (λ r h. climbs (λ i l r h. allBelow-elim _ _ (allBelow-elim n _ s i l) r h) i l r h))))
-    where
-      on-top : (i : ℕ) (D : Rep) → Judgement.relationsHold P m table (suc i) D ≡ true → topRelations P m table (suc i) D ≡ true
-      on-top i D t = unfold Judgement.relationsHold topRelations allBelow in (and-right (allBelow i (λ j. Judgement.powerHolds P m table D j && allBelow j (λ k. Judgement.commutatorHolds P m table D k j))) _ t)

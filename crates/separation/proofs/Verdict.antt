@@ -2,13 +2,16 @@
 -- level without products; 26. Each lemma is what one of its answers rests on.
 --
 --   judged-21, judged-22, judged-22-top, judged-23, judged-24, judged-25, judged-26, judged-0
-use mathlib.Core.Path.{_≡_, _∙_, ap}
+--   separated-pairs      levels that are separated pass the test by pairs
+use mathlib.Core.Path.{_≡_, sym, _∙_, ap}
 use mathlib.Core.Bool.{Bool, true, false, not}
 use mathlib.Core.List.{List, [], _∷_}
-use Prim.Native.Nat.{ℕ, _<_}
+use Prim.Native.Nat.{ℕ, suc, _≤_, _<_}
 use lib.Dec.{eqb}
+use lib.ListN.{length}
 use Rattle.definitions.specs.Lists.{allBelow}
 use Rattle.definitions.specs.Presentation.{Presentation, order}
+use Rattle.definitions.specs.Table.{levelAt}
 use Rattle.definitions.specs.Judgement
 use Rattle.definitions.specs.Answers.{firstOf, judgement}
 use Rattle.numbers.proofs.Bools.{cond-true, cond-false}
@@ -16,7 +19,7 @@ use Rattle.numbers.proofs.Lists.{allBelow-below}
 use Rattle.clifford.specs.Accepted.{Accepted}
 use Rattle.separation.specs.Decision.{quick, pairwise}
 use Rattle.separation.specs.Relations.{topRelations}
-use Rattle.separation.proofs.Walk.{separation-decides}
+use Rattle.separation.proofs.Walk.{separated-quick, separation-decides}
 use Rattle.separation.proofs.Pairs.{quick-pairs}
 use Rattle.separation.proofs.Relations.{relations-decide}
 
@@ -76,6 +79,13 @@ module _ (A : Accepted) (m : ℕ) (pos : 0 < m) (T : List ℕ) where
         separated =
             separation-decides (A .C) m T formed restricted hold pos (A .tests) (A .units)
             ∙ ap not (allBelow-below (P .n) (quick P T) (pairwise P T) (λ i l. quick-pairs P T i))
+
+        -- of levels that are separated, by pairs
+        pub separated-pairs : (k : ℕ) → k ≤ A .C .P .n
+            → ((i : ℕ) → i < k → (r : ℕ) → r < length (levelAt (A .C .P .n) T (suc i)) → Judgement.separates (A .C .P) m T (suc i) r ≡ true)
+            → (i : ℕ) → i < k → pairwise (A .C .P) T i ≡ true
+        separated-pairs k l s i h =
+            sym (quick-pairs P T i) ∙ separated-quick (A .C) m T formed restricted hold pos (A .tests) (A .units) k l s i h
 
         module _ (intertwine : Judgement.everywhere (A .C .P) m T (Judgement.intertwinersHold (A .C .P) m T) ≡ true) where
           past-24 : (a : ℕ) → firstOf ((25, Judgement.notSeparated P m T) ∷ (26, Judgement.squaresFail P m T) ∷ []) ≡ a → judgement P m T ≡ a

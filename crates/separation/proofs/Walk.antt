@@ -3,11 +3,13 @@
 --   valid-columns, whole-at, acts-at      what 21 and 23 say of a representation
 --   fair-at, restricting-at      its levels are well formed, satisfy the relations and restrict to those below
 --   zero-separates               level 0 is separated
+--   separated-quick              levels that are separated pass the quick test
 --   separation-decides           25 applies exactly if the quick test fails on some level
 use mathlib.Core.Path.{_≡_, refl, ap, subst}
 use mathlib.Core.Bool.{true, false, _&&_, not}
 use mathlib.Core.List.{List}
 use Prim.Native.Nat.{ℕ, zero, suc, _*_, _%_, _≤_, _<_}
+use native.Mathlib.Nat.{le-refl}
 use native.Mathlib.Omega.{arith}
 use lib.Dec.{eqb, ltb, leb}
 use lib.ListN.{length}
@@ -155,12 +157,19 @@ module _ (C : Context) (m : ℕ) (table : List ℕ) where
       climbs q zero l = zero-separates
       climbs q (suc i) l = quick-separates (two i l (climbs q i (omega arith))) (allBelow-elim n (quick P table) q i l)
 
-      levels-pass : allBelow n (λ i. allBelow (length (Lv (suc i))) (Judgement.separates P m table (suc i))) ≡ true → (i : ℕ) → i ≤ n → Passes i
-      levels-pass s zero l = zero-separates
-      levels-pass s (suc i) l = λ r h. allBelow-elim _ _ (allBelow-elim n _ s i l) r h
+      -- the first k levels, if they are separated, pass the quick test
+      module _ (k : ℕ) (within : k ≤ C .P .n)
+          (separated : (i : ℕ) → i < k → (r : ℕ) → r < length (levelAt (C .P .n) table (suc i)) → Judgement.separates (C .P) m table (suc i) r ≡ true) where
+        passes-at : (i : ℕ) → i ≤ k → Passes i
+        passes-at zero l = zero-separates
+        passes-at (suc i) l = separated i l
+
+        pub separated-quick : (i : ℕ) → i < k → quick (C .P) table i ≡ true
+        unfolding two
+        separated-quick i l = separates-quick (two i (omega arith) (passes-at i (omega arith))) (separated i l)
 
       pub separation-decides : Judgement.notSeparated (C .P) m table ≡ not (allBelow (C .P .n) (quick (C .P) table))
-      unfolding Judgement.notSeparated Judgement.everyLevel two
+      unfolding Judgement.notSeparated Judgement.everyLevel
       separation-decides = ap not (same-test _ _
-          (λ s. allBelow-intro n _ (λ i l. separates-quick (two i l (levels-pass s i (omega arith))) (levels-pass s (suc i) l)))
+          (λ s. allBelow-intro n _ (separated-quick n (le-refl n) (λ i l. allBelow-elim _ _ (allBelow-elim n _ s i l))))
           (λ q. allBelow-intro n _ (λ i l. allBelow-intro (length (Lv (suc i))) _ (λ r h. climbs q (suc i) l r h))))

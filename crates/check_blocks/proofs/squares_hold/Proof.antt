@@ -5,19 +5,19 @@ use native.Mathlib.Omega.{arith}
 use borrow.Author.Tests.{not-true, not-false}
 use borrow.Author.Needs.{needs}
 use denote.Ref.{now}
-use Rattle.numbers.proofs.Passed.{passed-none, passed-more}
-use Rattle.check_blocks.proofs.Squares.{AddingUp, adds-told, adds-fails, adds-holds}
+use Rattle.numbers.proofs.Passed.{passed-more}
+use Rattle.check_blocks.proofs.Squares.{AddingUp, adds-known, adds-told, adds-fails, adds-holds}
 use Rattle.check_blocks.proofs.squares_hold.Statement.{statement}
 use Rattle.check_blocks.proofs.squares_hold.Tie as tie
 
 abbrev Inv-loop : tie.InvT-loop
-Inv-loop words orders s gens i₀ i = AddingUp s orders words i
+Inv-loop words orders s from gens i₀ i = AddingUp s orders words from i
 
 abbrev μ-loop : tie.MeasureT-loop
-μ-loop words orders s gens i₀ i = gens - i
+μ-loop words orders s from gens i₀ i = gens - i
 
 loop-holds : tie.Need-loop-holds Inv-loop μ-loop
-loop-holds c = passed-none
+loop-holds c = let a = c .before .args in adds-known (a .s) (now (a .orders)) (now (a .words))
 
 add-level-adds-up : tie.Need-add-level-adds-up Inv-loop μ-loop
 add-level-adds-up c = omega arith
@@ -59,7 +59,7 @@ loop-again c =
     let l = u .before .before in
     let a = l .before .before .args in
     let told = adds-told (a .s) (now (a .orders)) (now (a .words)) (omega arith) (u .up .result + 1) _ (ap (λ i. i + 1) (u .up .ensures)) refl (t .ensures) in
-    passed-more (l .loop .inv) told (not-false (t .result) (c .if1 .left))
+    passed-more (l .loop .inv) (λ P O. told P (O .ordered)) (not-false (t .result) (c .if1 .left))
 
 returns-2 : tie.Need-returns-2 Inv-loop μ-loop
 returns-2 c =

@@ -5,7 +5,7 @@ use mathlib.Core.Path.{sym, _∙_, subst}
 use mathlib.Core.Bool.{false≢true}
 use native.Mathlib.Omega.{arith}
 use denote.Ref.{now}
-use Rattle.heads.proofs.Going.{heads-whole, heads-complete}
+use Rattle.heads.proofs.Going.{heads-complete}
 use Rattle.check_heads.specs.Places.{ordersIn, Opened}
 use Rattle.check_first.proofs.First.{character-opened}
 use Rattle.check_first.proofs.level_one.Statement.{statement}
@@ -79,7 +79,7 @@ returns-4 c =
     let ord = ordersIn (now (a .orders)) in
     let h = sym (at-heads-behind .heads-behind .ensures) ∙ not-false (at-heads-behind .heads-behind .result) (at-if3 .if3 .left) in
     record {
-      lines = heads-whole (a .s .gens) T ord h;
+      heads = h;
       whole = record { lines-are = C .lines-are; some = C .some; few = C .few; all = heads-complete (a .s .gens) T ord (C .some) h };
       order = at-if1 .if1 .left;
       counts = sym (at-count-of .count-of .ensures) ∙ eqb-true (at-count-of .count-of .result) (c .up2 .result) x ∙ c .up2 .ensures;

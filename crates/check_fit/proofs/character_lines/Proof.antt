@@ -5,7 +5,7 @@ use Prim.Native.Nat.{suc, _*_, _-_, _≤_}
 use native.Mathlib.Omega.{arith}
 use native.Mathlib.Nat.{mul-le-mul-right}
 use lib.ListN.{length, length-set}
-use Rattle.check_fit.specs.Lines.{CharacterLines}
+use Rattle.check_fit.specs.Fit.{CharacterLines}
 use Rattle.check_fit.proofs.Lines.{characters-none, characters-more}
 use Rattle.check_fit.proofs.character_lines.Statement.{statement}
 use Rattle.check_fit.proofs.character_lines.Tie as tie

@@ -1,9 +1,9 @@
 -- `levels_fit`: the first lines of level 1, then the other levels.
 use borrow.Author.Needs.{needs}
 use mathlib.Core.Path.{_∙_, ap}
-use mathlib.Core.Bool.{false≢true}
 use Prim.Native.Nat.{_*_}
 use native.Mathlib.Omega.{arith}
+use Rattle.check_fit.proofs.First.{up-to-one}
 use Rattle.check_fit.proofs.Levels.{level-one}
 use Rattle.check_fit.proofs.levels_fit.Statement.{statement}
 use Rattle.check_fit.proofs.levels_fit.Tie as tie
@@ -15,7 +15,7 @@ up-requires : tie.Need-up-requires
 up-requires c κs = search needs
 
 returns : tie.Need-returns
-returns c = λ e. absurd (false≢true e)
+returns c = up-to-one (c .before .before .before .before .before .pre)
 
 character-lines-requires : tie.Need-character-lines-requires
 character-lines-requires c κs =
@@ -42,7 +42,7 @@ same-length c =
 returns-2 : tie.Need-returns-2
 returns-2 c =
     let at-upper-levels-fit = c .before .before in
-    λ e. at-upper-levels-fit .upper-levels-fit .ensures .0 e
+    at-upper-levels-fit .upper-levels-fit .ensures .0
 
 pub levels-fit-spec : {M : Type 1} → statement M
 levels-fit-spec =

@@ -2,14 +2,13 @@
 use borrow.Author.Needs.{needs}
 use borrow.Author.Tests.{not-false}
 use mathlib.Core.Path.{_∙_, ap, subst}
-use mathlib.Core.Bool.{false≢true}
 use Prim.Native.Nat.{suc, _-_}
 use native.Mathlib.Omega.{arith}
 use native.Mathlib.Numerals.{add-one}
 use lib.ListN.{getD}
 use denote.Ref.{now}
 use Rattle.commuting.specs.Commuting.{Quiet}
-use Rattle.check_fit.proofs.Levels.{Reaching, reaching-none, reaching-staged, reaching-more, reaching-all}
+use Rattle.check_fit.proofs.Levels.{Reaching, reaching-none, reaching-staged, reaching-more, reaching-stops, reaching-all}
 use Rattle.check_fit.proofs.upper_levels_fit.Statement.{statement}
 use Rattle.check_fit.proofs.upper_levels_fit.Tie as tie
 
@@ -77,7 +76,8 @@ returns : tie.Need-returns Inv-loop μ-loop
 returns c =
     let at-first-lines = c .before .before .before in
     let at-loop = at-first-lines .before .before .before .before .before in
-    ((λ e. absurd (false≢true e)), at-first-lines .first-lines .ensures .size ∙ at-loop .loop .inv .size)
+    let z = at-loop .before .before .before .before .before in
+    (reaching-stops (z .pre) (at-loop .loop .inv) (omega arith), at-first-lines .first-lines .ensures .size ∙ at-loop .loop .inv .size)
 
 mul-t21 : tie.Need-mul-t21 Inv-loop μ-loop
 mul-t21 c =
@@ -115,7 +115,8 @@ returns-2 : tie.Need-returns-2 Inv-loop μ-loop
 returns-2 c =
     let at-first-lines = c .before .before .before .before .before .before .before .before in
     let at-loop = at-first-lines .before .before .before .before .before in
-    ((λ e. absurd (false≢true e)), at-first-lines .first-lines .ensures .size ∙ at-loop .loop .inv .size)
+    let z = at-loop .before .before .before .before .before in
+    (reaching-stops (z .pre) (at-loop .loop .inv) (omega arith), at-first-lines .first-lines .ensures .size ∙ at-loop .loop .inv .size)
 
 add-i : tie.Need-add-i Inv-loop μ-loop
 add-i c =
@@ -149,7 +150,7 @@ returns-3 : tie.Need-returns-3 Inv-loop μ-loop
 returns-3 c =
     let at-loop = c .before in
     let z = at-loop .before .before .before .before .before in
-    ((λ e. reaching-all (z .pre) (at-loop .loop .inv) (omega arith)), at-loop .loop .inv .size)
+    (reaching-all (z .pre) (at-loop .loop .inv) (omega arith), at-loop .loop .inv .size)
 
 pub upper-levels-fit-spec : {M : Type 1} → statement M
 upper-levels-fit-spec =

@@ -6,19 +6,18 @@ use lib.ListN.{getD}
 use borrow.Author.Needs.{needs}
 use borrow.Author.Tests.{not-true, not-false}
 use denote.Ref.{now}
-use Rattle.numbers.proofs.Passed.{passed-none}
-use Rattle.check_pairs.proofs.Levels.{PassingUpTo, table-more, table-fails, table-holds}
+use Rattle.check_pairs.proofs.Levels.{PassingUpTo, table-known, table-more, table-fails, table-holds}
 use Rattle.check_pairs.proofs.separated.Statement.{statement}
 use Rattle.check_pairs.proofs.separated.Tie as tie
 
 abbrev Inv-loop : tie.InvT-loop
-Inv-loop words primes s gens i₀ i = PassingUpTo s primes words i
+Inv-loop words primes s from gens i₀ i = PassingUpTo s primes words from i
 
 abbrev μ-loop : tie.MeasureT-loop
-μ-loop words primes s gens i₀ i = gens - i
+μ-loop words primes s from gens i₀ i = gens - i
 
 loop-holds : tie.Need-loop-holds Inv-loop μ-loop
-loop-holds c = passed-none
+loop-holds c = let a = c .before .args in table-known (a .s) (now (a .primes)) (now (a .words))
 
 up-requires : tie.Need-up-requires Inv-loop μ-loop
 up-requires c κs = search needs

@@ -3,21 +3,25 @@ use Prim.Native.Nat.{_-_}
 use native.Mathlib.Omega.{arith}
 use borrow.Author.Tests.{not-true, not-false}
 use denote.Ref.{now}
-use Rattle.numbers.proofs.Passed.{passed-none, passed-more}
-use Rattle.seek.proofs.Among.{UpTo, table-fails, table-holds}
+use Rattle.numbers.proofs.Passed.{passed-more}
+use Rattle.seek.proofs.Among.{UpTo, up-to-known, table-fails, table-holds}
 use Rattle.check_relations.specs.Asked.{asked}
-use Rattle.check_relations.proofs.Everywhere.{Posing, asks, level-told}
+use Rattle.check_relations.proofs.Everywhere.{Behind, asks, level-told}
 use Rattle.check_relations.proofs.holds_everywhere.Statement.{statement}
 use Rattle.check_relations.proofs.holds_everywhere.Tie as tie
 
 abbrev Inv-loop : tie.InvT-loop
-Inv-loop words rows primes s q gens i₀ i = UpTo s words (Posing s rows primes words) (asks (asked q) s words) i
+Inv-loop words rows primes s q from gens i₀ i = UpTo s words (Behind (asked q) s rows primes words from) (asks (asked q) s words) i
 
 abbrev μ-loop : tie.MeasureT-loop
-μ-loop words rows primes s q gens i₀ i = gens - i
+μ-loop words rows primes s q from gens i₀ i = gens - i
 
 loop-holds : tie.Need-loop-holds Inv-loop μ-loop
-loop-holds c = passed-none
+loop-holds c =
+    let a = c .before .args in
+    let T = now (a .words) in
+    let A = Behind (asked (a .q)) (a .s) (now (a .rows)) (now (a .primes)) T (a .from) in
+    up-to-known (a .s) T A (asks (asked (a .q)) (a .s) T) (λ P p. p .known)
 
 add-holds-on : tie.Need-add-holds-on Inv-loop μ-loop
 add-holds-on c = omega arith
@@ -31,10 +35,10 @@ returns c =
     let a = l .before .before .args in
     let t = c .before .holds-on in
     let T = now (a .words) in
-    let A = Posing (a .s) (now (a .rows)) (now (a .primes)) T in
+    let A = Behind (asked (a .q)) (a .s) (now (a .rows)) (now (a .primes)) T (a .from) in
     let told = level-told (asked (a .q)) (a .s) (now (a .rows)) (now (a .primes)) T (l .loop .i) (t .ensures) in
     let no = not-true (t .result) (c .if1 .taken) in
-    record { is = table-fails (a .s) T A (asks (asked (a .q)) (a .s) T) (a .s .m) (λ P p. p .formed .gens-are) (l .loop .inv) (omega arith) told no }
+    record { is = table-fails (a .s) T A (asks (asked (a .q)) (a .s) T) (a .s .m) (λ P p. p .posed .formed .gens-are) (l .loop .inv) (omega arith) (λ P p. told P (p .posed)) no }
 
 add-i : tie.Need-add-i Inv-loop μ-loop
 add-i c = omega arith
@@ -48,15 +52,15 @@ loop-again c =
     let a = l .before .before .args in
     let t = c .before .holds-on in
     let told = level-told (asked (a .q)) (a .s) (now (a .rows)) (now (a .primes)) (now (a .words)) (l .loop .i) (t .ensures) in
-    passed-more (l .loop .inv) told (not-false (t .result) (c .if1 .left))
+    passed-more (l .loop .inv) (λ P p. told P (p .posed)) (not-false (t .result) (c .if1 .left))
 
 returns-2 : tie.Need-returns-2 Inv-loop μ-loop
 returns-2 c =
     let l = c .before in
     let a = l .before .before .args in
     let T = now (a .words) in
-    let A = Posing (a .s) (now (a .rows)) (now (a .primes)) T in
-    record { is = table-holds (a .s) T A (asks (asked (a .q)) (a .s) T) (a .s .m) (λ P p. p .formed .gens-are) (l .loop .inv) (omega arith) }
+    let A = Behind (asked (a .q)) (a .s) (now (a .rows)) (now (a .primes)) T (a .from) in
+    record { is = table-holds (a .s) T A (asks (asked (a .q)) (a .s) T) (a .s .m) (λ P p. p .posed .formed .gens-are) (l .loop .inv) (omega arith) }
 
 pub holds-everywhere-spec : {M : Type 1} → statement M
 holds-everywhere-spec =

@@ -29,9 +29,9 @@ use Rattle.compare.proofs.Staged.{found-inside, high-at, high-place}
 use Rattle.compare.proofs.Stored.{fits-stored}
 use Rattle.check_columns.specs.Relates.{SaysTop, ledTo, LeadsTo, Reached, CarriesAll}
 use Rattle.check_single.specs.Power.{PowerHolds}
-use Rattle.check_fit.specs.Fit.{repAtLevel, widthBelow, Compares, Relates, LevelFits}
+use Rattle.check_level.specs.Level.{repAtLevel, widthBelow, Compares, Relates, LevelFits}
 use Rattle.check_first.proofs.Found.{found-target}
-use Rattle.check_fit.proofs.Compared.{compared}
+use Rattle.check_level.proofs.Compared.{compared}
 
 pub found-is : (s : Scope) {T : List ℕ} {i r : ℕ} {D : Listed} → Found (s .gens) T i r D → D ≡ repAtLevel s T i r
 found-is s {T} {i} {r} {D} G = λ o. record { line = G .line o; deg = (sym (G .said) ∙ ap (λ l. wordAt T l DEG) (G .line)) o }

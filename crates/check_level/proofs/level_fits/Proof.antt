@@ -1,9 +1,9 @@
 -- `level_fits` compares, then asks the intertwiners.
 use borrow.Author.Tests.{not-false}
 use mathlib.Core.Bool.{false≢true}
-use Rattle.check_fit.proofs.Level as level
-use Rattle.check_fit.proofs.level_fits.Statement.{statement}
-use Rattle.check_fit.proofs.level_fits.Tie as tie
+use Rattle.check_level.proofs.Level as level
+use Rattle.check_level.proofs.level_fits.Statement.{statement}
+use Rattle.check_level.proofs.level_fits.Tie as tie
 
 compares-requires : tie.Need-compares-requires
 compares-requires c κs =

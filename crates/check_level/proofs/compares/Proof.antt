@@ -1,6 +1,6 @@
 -- `compares` chooses the marks.
-use Rattle.check_fit.proofs.compares.Statement.{statement}
-use Rattle.check_fit.proofs.compares.Tie as tie
+use Rattle.check_level.proofs.compares.Statement.{statement}
+use Rattle.check_level.proofs.compares.Tie as tie
 
 small-compares-requires : tie.Need-small-compares-requires
 small-compares-requires c κs =

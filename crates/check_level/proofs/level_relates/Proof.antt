@@ -13,10 +13,10 @@ use Rattle.level.specs.declared.Listed.{Listed}
 use Rattle.compare.proofs.Staged.{found-inside, low-at, low-place, high-place}
 use Rattle.compare.proofs.Blocks.{inside-matrix}
 use Rattle.check_columns.specs.Relates.{CarriesAll}
-use Rattle.check_fit.specs.Fit.{repAtLevel, widthBelow}
-use Rattle.check_fit.proofs.Level.{listed-inside, listed-refers, listed-reached, listed-relates}
-use Rattle.check_fit.proofs.level_relates.Statement.{statement}
-use Rattle.check_fit.proofs.level_relates.Tie as tie
+use Rattle.check_level.specs.Level.{repAtLevel, widthBelow}
+use Rattle.check_level.proofs.Level.{listed-inside, listed-refers, listed-reached, listed-relates}
+use Rattle.check_level.proofs.level_relates.Statement.{statement}
+use Rattle.check_level.proofs.level_relates.Tie as tie
 
 abbrev Inv-loop : tie.InvT-loop
 Inv-loop words firsts rows reach s g above r₀ r = (q : ℕ) → q < r

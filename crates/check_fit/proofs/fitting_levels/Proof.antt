@@ -1,16 +1,14 @@
--- `fits`: the modulus, level 1, and then level by level.
+-- `fitting_levels`: the modulus, level 1, and then level by level.
 use borrow.Author.Needs.{needs}
 use borrow.Author.Tests.{not-false}
-use mathlib.Core.Path.{sym, _∙_, ap, subst}
-use mathlib.Core.Bool.{false≢true}
+use mathlib.Core.Path.{sym, _∙_, ap}
 use native.Mathlib.Omega.{arith}
 use lib.ListN.{getD}
 use denote.Ref.{now}
-use Rattle.check_fit.specs.Fit.{LevelsFit}
-use Rattle.check_fit.proofs.First.{started}
-use Rattle.check_fit.proofs.Yes.{levels-pass}
-use Rattle.check_fit.proofs.fits.Statement.{statement}
-use Rattle.check_fit.proofs.fits.Tie as tie
+use Rattle.check_fit.proofs.First.{started, up-to-one}
+use Rattle.check_fit.proofs.Yes.{counted-pass, none-counted}
+use Rattle.check_fit.proofs.fitting_levels.Statement.{statement}
+use Rattle.check_fit.proofs.fitting_levels.Tie as tie
 
 up-requires : tie.Need-up-requires
 up-requires c κs = search needs
@@ -26,10 +24,10 @@ element-copy-out-if1 c =
     omega (arith, c .up .ensures, z .pre .0 .few)
 
 returns : tie.Need-returns
-returns c = λ e. absurd (false≢true e)
+returns c = none-counted
 
 returns-2 : tie.Need-returns-2
-returns-2 c = λ e. absurd (false≢true e)
+returns-2 c = none-counted
 
 element-copy-out-level-one : tie.Need-element-copy-out-level-one
 element-copy-out-level-one c = search needs
@@ -40,7 +38,7 @@ level-one-requires c κs =
     (z .pre .0, z .pre .1)
 
 returns-3 : tie.Need-returns-3
-returns-3 c = λ e. absurd (false≢true e)
+returns-3 c = none-counted
 
 returns-4 : tie.Need-returns-4
 returns-4 c =
@@ -50,14 +48,9 @@ returns-4 c =
     let at-if1 = at-if2 .before .before in
     let at-up = at-if1 .before .before .before in
     let z = at-up .before .before in
-    λ e.
-    let a = z .args in
-    let orders = now (a .orders) in
-    let primes = now (a .primes) in
     let F = at-level-one .level-one .ensures (not-false (at-level-one .level-one .result) (at-if3 .if3 .left)) in
-    let S = started primes F (omega (arith, at-if2 .if2 .left)) (z .pre .1, z .pre .2) in
-    levels-pass (F .lines) (F .whole) (subst (LevelsFit (a .s) (now (a .words)) (now (a .rows)) primes orders) (sym (c .if4 .taken)) (S .fits))
-    (ap (λ k. getD orders k 0) (sym (at-up .up .ensures)) ∙ at-if1 .if1 .left)
+    let S = started (now (z .args .primes)) F (omega (arith, at-if2 .if2 .left)) (z .pre .1, z .pre .2) in
+    counted-pass (F .heads) (F .whole) (ap (λ k. getD (now (z .args .orders)) k 0) (sym (at-up .up .ensures)) ∙ at-if1 .if1 .left) (up-to-one S)
 
 small-fits-requires : tie.Need-small-fits-requires
 small-fits-requires c κs =
@@ -75,10 +68,8 @@ returns-5 c =
     let at-if1 = at-level-one .before .before .before .before in
     let at-up = at-if1 .before .before .before in
     let z = at-up .before .before in
-    λ e.
     let F = at-level-one .level-one .ensures (not-false (at-level-one .level-one .result) (at-if3 .if3 .left)) in
-    levels-pass (F .lines) (F .whole) (c .small-fits .ensures e)
-    (ap (λ k. getD (now (z .args .orders)) k 0) (sym (at-up .up .ensures)) ∙ at-if1 .if1 .left)
+    counted-pass (F .heads) (F .whole) (ap (λ k. getD (now (z .args .orders)) k 0) (sym (at-up .up .ensures)) ∙ at-if1 .if1 .left) (c .small-fits .ensures)
 
 large-fits-requires : tie.Need-large-fits-requires
 large-fits-requires c κs =
@@ -96,13 +87,11 @@ returns-6 c =
     let at-if1 = at-level-one .before .before .before .before in
     let at-up = at-if1 .before .before .before in
     let z = at-up .before .before in
-    λ e.
     let F = at-level-one .level-one .ensures (not-false (at-level-one .level-one .result) (at-if3 .if3 .left)) in
-    levels-pass (F .lines) (F .whole) (c .large-fits .ensures e)
-    (ap (λ k. getD (now (z .args .orders)) k 0) (sym (at-up .up .ensures)) ∙ at-if1 .if1 .left)
+    counted-pass (F .heads) (F .whole) (ap (λ k. getD (now (z .args .orders)) k 0) (sym (at-up .up .ensures)) ∙ at-if1 .if1 .left) (c .large-fits .ensures)
 
-pub fits-spec : {M : Type 1} → statement M
-fits-spec =
+pub fitting-levels-spec : {M : Type 1} → statement M
+fitting-levels-spec =
     tie.close
     (tie.spec
     up-requires

@@ -11,9 +11,9 @@ use Rattle.seek.specs.Seek.{Found}
 use Rattle.seek.proofs.Seek.{whole-some}
 use Rattle.check_blocks.proofs.Squares.{Left, left-none, left-more, left-all}
 use Rattle.check_blocks.specs.Squares.{squaresIn}
-use Rattle.check_fit.proofs.Lines.{Noted, noted-none, noted-more, noted-all, noted-stops, not-noted}
-use Rattle.check_fit.proofs.first_lines.Statement.{statement}
-use Rattle.check_fit.proofs.first_lines.Tie as tie
+use Rattle.check_level.proofs.Lines.{Noted, noted-none, noted-more, noted-all, noted-stops, not-noted}
+use Rattle.check_level.proofs.first_lines.Statement.{statement}
+use Rattle.check_level.proofs.first_lines.Tie as tie
 
 abbrev Inv-loop : tie.InvT-loop
 Inv-loop words s i order firsts₀ at reps d₀ left₀ r₀ firsts d left r =

@@ -1,7 +1,7 @@
--- `small_compares` lends the marks.
+-- `large_compares` lends the marks.
 use borrow.Author.Needs.{needs}
-use Rattle.check_fit.proofs.small_compares.Statement.{statement}
-use Rattle.check_fit.proofs.small_compares.Tie as tie
+use Rattle.check_level.proofs.large_compares.Statement.{statement}
+use Rattle.check_level.proofs.large_compares.Tie as tie
 
 slice-aggregate-level-compares : tie.Need-slice-aggregate-level-compares
 slice-aggregate-level-compares c = search needs
@@ -19,8 +19,8 @@ returns c =
     let at-level-compares = c .before .before in
     λ e. at-level-compares .level-compares .ensures e
 
-pub small-compares-spec : {M : Type 1} → statement M
-small-compares-spec =
+pub large-compares-spec : {M : Type 1} → statement M
+large-compares-spec =
     tie.close
     (tie.spec
     slice-aggregate-level-compares

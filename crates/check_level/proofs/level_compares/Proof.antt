@@ -14,10 +14,10 @@ use Rattle.claims.proofs.Claims.{Claims, claims-none, claims-found, claims-all}
 use Rattle.compare.specs.Blocks.{RepFits}
 use Rattle.compare.proofs.Staged.{high-at, high-place}
 use Rattle.check_single.specs.Power.{PowerHolds}
-use Rattle.check_fit.specs.Fit.{repAtLevel}
-use Rattle.check_fit.proofs.Level.{high-inside, high-kept, high-fits, high-power}
-use Rattle.check_fit.proofs.level_compares.Statement.{statement}
-use Rattle.check_fit.proofs.level_compares.Tie as tie
+use Rattle.check_level.specs.Level.{repAtLevel}
+use Rattle.check_level.proofs.Level.{high-inside, high-kept, high-fits, high-power}
+use Rattle.check_level.proofs.level_compares.Statement.{statement}
+use Rattle.check_level.proofs.level_compares.Tie as tie
 
 abbrev Inv-loop : tie.InvT-loop
 Inv-loop words firsts rows s g marks₀ slots₀ part above r₀ marks slots r =

@@ -1,6 +1,5 @@
--- `disjoint` goes through the representations of the level, one behind the other.
+-- `first_clash` goes through the representations of the level, one behind the other.
 use mathlib.Core.Path.{_≡_, sym, _∙_, ap, subst}
-use mathlib.Core.Bool.{false≢true}
 use Prim.Native.Nat.{suc, _+_, _-_}
 use native.Mathlib.Numerals.{add-one}
 use native.Mathlib.Omega.{arith}
@@ -12,9 +11,9 @@ use Rattle.definitions.specs.Presentation.{maxOrder}
 use Rattle.definitions.specs.Table.{levelAt}
 use Rattle.seek.specs.Seek.{Found}
 use Rattle.seek.proofs.Seek.{whole-some, found-fits, found-above}
-use Rattle.claims.proofs.Claims.{Claims, claims-none, claims-found, claims-all}
-use Rattle.claims.proofs.disjoint.Statement.{statement}
-use Rattle.claims.proofs.disjoint.Tie as tie
+use Rattle.claims.proofs.Claims.{Claims, claims-none, claims-found, claims-all, clash-first, clash-at, clash-none}
+use Rattle.claims.proofs.first_clash.Statement.{statement}
+use Rattle.claims.proofs.first_clash.Tie as tie
 
 abbrev Inv-loop : tie.InvT-loop
 Inv-loop words s i p part reps d₀ marks₀ slots₀ r₀ d marks slots r =
@@ -25,13 +24,13 @@ abbrev μ-loop : tie.MeasureT-loop
 μ-loop words s i p part reps d₀ marks₀ slots₀ r₀ d marks slots r = reps - r
 
 returns : tie.Need-returns Inv-loop μ-loop
-returns c = λ h. absurd (false≢true h)
+returns c = let z = c .before .before in clash-first (z .args .s) (now (z .args .words)) (z .pre .0) (z .pre .1)
 
 div-part : tie.Need-div-part Inv-loop μ-loop
 div-part c = search needs
 
 returns-2 : tie.Need-returns-2 Inv-loop μ-loop
-returns-2 c = λ h. absurd (false≢true h)
+returns-2 c = let z = c .before .before .before .before in clash-first (z .args .s) (now (z .args .words)) (z .pre .0) (z .pre .1)
 
 add-count-of : tie.Need-add-count-of Inv-loop μ-loop
 add-count-of c = let z = c .before .before .before .before in omega (arith, z .pre .1, z .pre .0 .few)
@@ -74,7 +73,7 @@ claim-requires c κs =
     (found-fits (l .loop .inv .0) (z .args .i) (z .pre .1), omega (arith, e .if2 .left))
 
 returns-3 : tie.Need-returns-3 Inv-loop μ-loop
-returns-3 c = λ h. absurd (false≢true h)
+returns-3 c = let (F, claims, n, many, room) = c .before .before .before .before .before .before .loop .inv in clash-at (F .listed)
 
 add-r : tie.Need-add-r Inv-loop μ-loop
 add-r c = let (F, claims, n, many, room) = c .before .before .before .before .before .before .loop .inv in omega (arith, F .listed, n)
@@ -86,7 +85,7 @@ returns-4 c =
     let l = k .before .before .before in
     let (F, claims, n, many, room) = l .loop .inv in
     let more = claims-found F claims (k .claim .ensures (not-false (k .claim .result) (o .if3 .left))) in
-    λ _. claims-all more (omega (arith, c .if4 .taken, n))
+    clash-none n (claims-all more (omega (arith, c .if4 .taken, n)))
 
 following-requires : tie.Need-following-requires Inv-loop μ-loop
 following-requires c κs =
@@ -114,8 +113,8 @@ loop-again c =
       search needs,
     )
 
-pub disjoint-spec : {M : Type 1} → statement M
-disjoint-spec =
+pub first-clash-spec : {M : Type 1} → statement M
+first-clash-spec =
     tie.close
     (tie.spec
     Inv-loop

@@ -1,0 +1,3 @@
+-- What is asked of a level, and what is known of it then.
+pub mod Lines
+pub mod Level
