@@ -84,8 +84,7 @@ module _ {s : Scope} {T : List ℕ} {rows : List (List ℕ)} {primes orders : Li
     says : (i : ℕ) → i < s .gens → SaysTop s rows i (getD primes i 0) P
     says i l = record { prime = reads .p-is i l; power = reads .u-is i l; word = λ j a b. reads .w-is i j a b }
 
-    squares-are : (i : ℕ) → i < k
-        → sum (length (levelAt (s .gens) T (suc i))) (λ r. repOf (levelAt (s .gens) T (suc i)) r .deg * repOf (levelAt (s .gens) T (suc i)) r .deg) ≡ order P (suc i)
+    squares-are : (i : ℕ) → i < k → let L = levelAt (s .gens) T (suc i) in sum (length L) (λ r. repOf L r .deg * repOf L r .deg) ≡ order P (suc i)
     unfolding squaresIn
     squares-are i l = U .fits .squares i l ∙ ordered .orders-are (suc i) (subst (λ n. i < n) (ordered .gens-are) (in-range i l))
 

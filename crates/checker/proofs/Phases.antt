@@ -14,8 +14,7 @@ use borrow.Author.Tests.{not-false}
 use Rattle.definitions.specs.Lists.{allBelow}
 use Rattle.definitions.specs.Presentation.{maxModulus, Presentation, order}
 use Rattle.definitions.specs.Monomial.{Rep}
-use Rattle.definitions.specs.Judgement.{everywhere, everyLevel, relationFails, relationsHold, restricts, intertwinersHold, malformed}
-use Rattle.definitions.specs.Judgement.{squares as squaresOf}
+use Rattle.definitions.specs.Judgement.{everywhere, everyLevel, relationFails, relationsHold, restricts, intertwinersHold, malformed, squares}
 use Rattle.definitions.specs.Answers.{judgement}
 use Rattle.numbers.proofs.Lists.{allBelow-intro}
 use Rattle.conditions.specs.Size.{LevelOrders}
@@ -112,18 +111,21 @@ module _ {s : Scope} {rows : List (List ℕ)} {primes orders T : List ℕ} {k : 
           apart-is : (A : Accepted) → Sorted A s rows primes orders T k → allBelow (A .C .P .n) (pairwise (A .C .P) T) ≡ apart
           apart-is A S = sym (pairs .is (A .C .P) (record {
             primed = record { formed = S .posed .formed; prime = S .posed .reads .p-is };
-            known = separated-pairs A (s .m) (positive A S) T (formed-of A S) (acts-is A S ∙ r) (top-is A S ∙ t) k (S .within) (λ i l. S .passed i l .separated);
+            known =
+                separated-pairs A (s .m) (positive A S) T (formed-of A S) (acts-is A S ∙ r) (top-is A S ∙ t) k (S .within)
+                (λ i l. S .passed i l .separated);
           }))
 
           pub found-25 : apart ≡ false → JudgedFormed s rows primes orders T k 25
           found-25 e = record {
-            is = λ A S. sym (judged-25 A (s .m) (positive A S) T (formed-of A S) (acts-is A S ∙ r) (top-is A S ∙ t) (twine-is A S ∙ w) (apart-is A S ∙ e));
+            is = λ A S.
+                sym (judged-25 A (s .m) (positive A S) T (formed-of A S) (acts-is A S ∙ r) (top-is A S ∙ t) (twine-is A S ∙ w) (apart-is A S ∙ e));
           }
 
-          module _ (a : apart ≡ true) (square : Bool) (squares : AddsUp s orders T k square) where
+          module _ (a : apart ≡ true) (square : Bool) (sums : AddsUp s orders T k square) where
             square-is : (A : Accepted) → Sorted A s rows primes orders T k
-                → everyLevel (A .C .P) (s .m) T (λ i. eqb (squaresOf (A .C .P) (s .m) T i) (order (A .C .P) i)) ≡ square
-            square-is A S = sym (squares .is (A .C .P) (record { ordered = S .ordered; known = λ i l. S .passed i l .adds-up }))
+                → everyLevel (A .C .P) (s .m) T (λ i. eqb (squares (A .C .P) (s .m) T i) (order (A .C .P) i)) ≡ square
+            square-is A S = sym (sums .is (A .C .P) (record { ordered = S .ordered; known = λ i l. S .passed i l .adds-up }))
 
             pub found-26 : square ≡ false → JudgedFormed s rows primes orders T k 26
             found-26 e = record {
@@ -141,60 +143,64 @@ module _ {s : Scope} {rows : List (List ℕ)} {primes orders T : List ℕ} {k : 
 
 -- ---- 21
 
-module _ (T : List ℕ) {n m : ℕ} {rows : List (List ℕ)} {primes : List ℕ} (s : Scope) (lines : s .lines ≡ length T / 8) (gens : s .gens ≡ n) (modulus : s .m ≡ m)
-  where
-    pub counted-of : (A : Accepted) → Task A n m rows primes → Scoped s T
-    counted-of A K = counted s T lines (omega (arith, gens, K .gens-are, A .positive)) (omega (arith, gens, K .ready .few))
+module _ (T : List ℕ) {n m : ℕ} {rows : List (List ℕ)} {primes : List ℕ} (s : Scope) (lines : s .lines ≡ length T / 8) (gens : s .gens ≡ n)
+    (modulus : s .m ≡ m) where
+  pub counted-of : (A : Accepted) → Task A n m rows primes → Scoped s T
+  counted-of A K = counted s T lines (omega (arith, gens, K .gens-are, A .positive)) (omega (arith, gens, K .ready .few))
 
-    module _ {orders : List ℕ} (levels : LevelOrders primes n orders) {k : ℕ} (fit : FittingLevels s rows primes orders T k) where
-      module _ (A : Accepted) (K : Task A n m rows primes) where
-        gens-are : s .gens ≡ A .C .P .n
-        gens-are = gens ∙ K .gens-are
+  module _ {orders : List ℕ} (levels : LevelOrders primes n orders) {k : ℕ} (fit : FittingLevels s rows primes orders T k) where
+    module _ (A : Accepted) (K : Task A n m rows primes) where
+      gens-are : s .gens ≡ A .C .P .n
+      gens-are = gens ∙ K .gens-are
 
-        form-ordered : Ordered (A .C .P) s orders
-        form-ordered = form.ordered (A .C .P) s gens-are (λ j l. K .reads .p-is j (omega (arith, gens))) (subst (λ k. LevelOrders primes k orders) (sym gens) levels)
+      form-ordered : Ordered (A .C .P) s orders
+      form-ordered =
+          form.ordered (A .C .P) s gens-are (λ j l. K .reads .p-is j (omega (arith, gens)))
+          (subst (λ k. LevelOrders primes k orders) (sym gens) levels)
 
-        fitting : (i : ℕ) → i < k → LevelPasses (A .C .P) (s .m) T i
-        fitting = fit .pass A (subst (λ k. Reads (A .C .P) k primes rows) (sym gens) (K .reads)) form-ordered
+      fitting : (i : ℕ) → i < k → LevelPasses (A .C .P) (s .m) T i
+      fitting = fit .pass A (subst (λ k. Reads (A .C .P) k primes rows) (sym gens) (K .reads)) form-ordered
 
-        -- what is known of 21 then
-        pub known-form : FormBehind s orders T k
-        known-form = record {
-          heads = fit .heads;
-          levels = record { within = fit .within; known = λ i l. form.level-known s (A .C .P) gens-are T i (fitting i l .formed) };
-        }
-
-      -- all levels are counted
-      pub found-fitting : k ≡ n → Judged n m rows primes T 0
-      found-fitting e = record {
-        is = λ A K.
-            let P : Presentation = A .C .P in
-            let all : k ≡ P .n = e ∙ K .gens-are in
-            let h : headsOk (P .n) T (ordersIn orders) ≡ true
-            = subst (λ n. headsOk n T (ordersIn orders) ≡ true) (gens-are A K) (fit .heads (omega (arith, all, A .positive))) in
-            sym (ap (λ m. judgement P m T) (sym modulus)
-            ∙ all-pass P (s .m) T (λ i l. fitting A K i (omega (arith, all))) (heads-whole (P .n) T _ h) (heads-complete (P .n) T _ (A .positive) h));
+      -- what is known of 21 then
+      pub known-form : FormBehind s orders T k
+      known-form = record {
+        heads = fit .heads;
+        levels = record { within = fit .within; known = λ i l. form.level-known s (A .C .P) gens-are T i (fitting i l .formed) };
       }
 
-      pub found-21 : TellsForm s orders T false → Judged n m rows primes T 21
-      found-21 F = record {
-        is = λ A K.
-            let e : malformed (A .C .P) (s .m) T ≡ true = not-false _ (sym (F .is (A .C .P) (form-ordered A K))) in
-            sym (judged-21 A m (K .modulus .0) T (subst (λ m. malformed (A .C .P) m T ≡ true) modulus e));
+    -- all levels are counted
+    pub found-fitting : k ≡ n → Judged n m rows primes T 0
+    found-fitting e = record {
+      is = λ A K.
+          let P : Presentation = A .C .P in
+          let all : k ≡ P .n = e ∙ K .gens-are in
+          let h : headsOk (P .n) T (ordersIn orders) ≡ true
+          = subst (λ n. headsOk n T (ordersIn orders) ≡ true) (gens-are A K) (fit .heads (omega (arith, all, A .positive))) in
+          sym (ap (λ m. judgement P m T) (sym modulus)
+          ∙ all-pass P (s .m) T (λ i l. fitting A K i (omega (arith, all))) (heads-whole (P .n) T _ h) (heads-complete (P .n) T _ (A .positive) h));
+    }
+
+    pub found-21 : TellsForm s orders T false → Judged n m rows primes T 21
+    found-21 F = record {
+      is = λ A K.
+          let e : malformed (A .C .P) (s .m) T ≡ true = not-false _ (sym (F .is (A .C .P) (form-ordered A K))) in
+          sym (judged-21 A m (K .modulus .0) T (subst (λ m. malformed (A .C .P) m T ≡ true) modulus e));
+    }
+
+    module _ (F : TellsForm s orders T true) where
+      pub sorted-of : (A : Accepted) → Task A n m rows primes → Sorted A s rows primes orders T k
+      sorted-of A K = record {
+        posed = record {
+          formed =
+              form.formed s orders T (counted-of A K) (A .C .P) (form-ordered A K)
+              (subst (λ m. (0 < m) × (m ≤ maxModulus)) (sym modulus) (K .modulus)) F;
+          ready = subst (λ k. Ranged k primes rows) (sym gens) (K .ready);
+          reads = subst (λ k. Reads (A .C .P) k primes rows) (sym gens) (K .reads);
+        };
+        ordered = form-ordered A K;
+        within = subst (λ n. k ≤ n) (gens-are A K) (fit .within);
+        passed = fitting A K;
       }
 
-      module _ (F : TellsForm s orders T true) where
-        pub sorted-of : (A : Accepted) → Task A n m rows primes → Sorted A s rows primes orders T k
-        sorted-of A K = record {
-          posed = record {
-            formed = form.formed s orders T (counted-of A K) (A .C .P) (form-ordered A K) (subst (λ m. (0 < m) × (m ≤ maxModulus)) (sym modulus) (K .modulus)) F;
-            ready = subst (λ k. Ranged k primes rows) (sym gens) (K .ready);
-            reads = subst (λ k. Reads (A .C .P) k primes rows) (sym gens) (K .reads);
-          };
-          ordered = form-ordered A K;
-          within = subst (λ n. k ≤ n) (gens-are A K) (fit .within);
-          passed = fitting A K;
-        }
-
-        pub found-formed : {a : ℕ} → JudgedFormed s rows primes orders T k a → Judged n m rows primes T a
-        found-formed J = record { is = λ A K. J .is A (sorted-of A K) ∙ ap (λ m. judgement (A .C .P) m T) modulus }
+      pub found-formed : {a : ℕ} → JudgedFormed s rows primes orders T k a → Judged n m rows primes T a
+      found-formed J = record { is = λ A K. J .is A (sorted-of A K) ∙ ap (λ m. judgement (A .C .P) m T) modulus }

@@ -19,8 +19,8 @@ levels-ok-requires : tie.Need-levels-ok-requires
 levels-ok-requires c κs =
     let a = c .before .before .before in
     let heads = c .before .heads-ok in
-    let whole = form-whole (a .args .s) (now (a .args .orders)) (now (a .args .words)) (a .pre .0) (sym (heads .ensures) ∙ not-false (heads .result) (c .if1 .left)) in
-    (whole, a .pre .1 .levels)
+    let ok = sym (heads .ensures) ∙ not-false (heads .result) (c .if1 .left) in
+    (form-whole (a .args .s) (now (a .args .orders)) (now (a .args .words)) (a .pre .0) ok, a .pre .1 .levels)
 
 returns-2 : tie.Need-returns-2
 returns-2 c =

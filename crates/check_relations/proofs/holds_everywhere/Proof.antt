@@ -38,7 +38,10 @@ returns c =
     let A = Behind (asked (a .q)) (a .s) (now (a .rows)) (now (a .primes)) T (a .from) in
     let told = level-told (asked (a .q)) (a .s) (now (a .rows)) (now (a .primes)) T (l .loop .i) (t .ensures) in
     let no = not-true (t .result) (c .if1 .taken) in
-    record { is = table-fails (a .s) T A (asks (asked (a .q)) (a .s) T) (a .s .m) (λ P p. p .posed .formed .gens-are) (l .loop .inv) (omega arith) (λ P p. told P (p .posed)) no }
+    record {
+      is = table-fails (a .s) T A (asks (asked (a .q)) (a .s) T) (a .s .m) (λ P p. p .posed .formed .gens-are) (l .loop .inv) (omega arith)
+          (λ P p. told P (p .posed)) no;
+    }
 
 add-i : tie.Need-add-i Inv-loop μ-loop
 add-i c = omega arith
