@@ -25,13 +25,16 @@ use Rattle.monomial.proofs.Residues.{residues}
 use Rattle.clifford.specs.Stands.{frame, Stands, Restricts}
 use Rattle.clifford.proofs.Lines.{Agrees}
 
-pub target-listed : (C : Context) (n m : ℕ) (pos : 0 < m) (i : ℕ) (L : Level) {Ω : Type 0} (F : Family (residues m pos) Ω (level C i) (conjNf C i) i n) → Stands C n m pos i L F
+pub target-listed : (C : Context) (n m : ℕ) (pos : 0 < m) (i : ℕ) (L : Level) {Ω : Type 0}
+    (F : Family (residues m pos) Ω (level C i) (conjNf C i) i n) → Stands C n m pos i L F
     → (j : ℕ) → i ≤ j → j < n → (r : ℕ) → r < length L → F .target j r < length L
 target-listed C n m pos i L {Ω} F St j a b r h =
     let x : Ω = St .complete .find r 0 h (St .degree-pos r h) in
-    subst (λ z. z < length L) (F .maps-to j a b x ∙ ap (F .target j) (St .complete .find-rep r 0 h (St .degree-pos r h))) (St .complete .rep-below ((F .X j x) .0))
+    subst (λ z. z < length L) (F .maps-to j a b x ∙ ap (F .target j) (St .complete .find-rep r 0 h (St .degree-pos r h)))
+    (St .complete .rep-below ((F .X j x) .0))
 
-module _ (C : Context) (n m : ℕ) (pos : 0 < m) (i : ℕ) (l : i ≤ n) (L M : Level) (A : Agrees n L M) {Ω : Type 0} (F : Family (residues m pos) Ω (level C i) (conjNf C i) i n)
+module _ (C : Context) (n m : ℕ) (pos : 0 < m) (i : ℕ) (l : i ≤ n) (L M : Level) (A : Agrees n L M) {Ω : Type 0}
+    (F : Family (residues m pos) Ω (level C i) (conjNf C i) i n)
     (St : Stands C n m pos i L F) where
   open Stands St using (column, complete)
 
@@ -47,7 +50,8 @@ module _ (C : Context) (n m : ℕ) (pos : 0 < m) (i : ℕ) (l : i ≤ n) (L M : 
   abbrev ΦM : Layout Ω
   ΦM = frame M (F .rep) column below
 
-  agree-shows : (r s g : ℕ) (B : Map (residues m pos) Ω) → r < length L → g < n → Shows m (frame L (F .rep) column (St .column-below)) r s (repOf L r .matrix g) B → Shows m ΦM r s (repOf M r .matrix g) B
+  agree-shows : (r s g : ℕ) (B : Map (residues m pos) Ω) → r < length L → g < n
+      → Shows m (frame L (F .rep) column (St .column-below)) r s (repOf L r .matrix g) B → Shows m ΦM r s (repOf M r .matrix g) B
   agree-shows r s g B h a sh = record {
     size = A .size r g h a;
     maps-to = sh .maps-to;
@@ -70,11 +74,14 @@ module _ (C : Context) (n m : ℕ) (pos : 0 < m) (i : ℕ) (l : i ≤ n) (L M : 
     refers = λ j a b r h c d. sym (A .same-ref r j c (here r h) b (column-in r c (here r h) d)) ∙ St .refers j a b r (here r h) c (column-in r c (here r h) d);
     nonempty = subst (λ z. 0 < z) (A .same-length) (St .nonempty);
     degree-pos = λ r h. subst (λ z. 0 < z) (A .same-degree r (here r h)) (St .degree-pos r (here r h));
-    degree-target = λ j a b r h. sym (A .same-degree (F .target j r) (target-listed C n m pos i L F St j a b r (here r h))) ∙ St .degree-target j a b r (here r h) ∙ A .same-degree r (here r h);
-    squares = ap (λ z. sum z (λ r. repOf M r .deg * repOf M r .deg)) (sym (A .same-length)) ∙ sum-below (length L) _ (λ r. repOf L r .deg * repOf L r .deg) (λ r h. ap (λ d. d * d) (sym (A .same-degree r h))) ∙ St .squares;
+    degree-target = λ j a b r h. sym (A .same-degree (F .target j r) (target-listed C n m pos i L F St j a b r (here r h)))
+        ∙ St .degree-target j a b r (here r h) ∙ A .same-degree r (here r h);
+    squares = ap (λ z. sum z (λ r. repOf M r .deg * repOf M r .deg)) (sym (A .same-length))
+        ∙ sum-below (length L) _ (λ r. repOf L r .deg * repOf L r .deg) (λ r h. ap (λ d. d * d) (sym (A .same-degree r h))) ∙ St .squares;
   }
 
-pub agree-restricts : (n i : ℕ) → i < n → (low low′ L L′ : Level) → Agrees n low low′ → Agrees n L L′ → (r : ℕ) → r < length L → Restricts i low (repOf L r) → Restricts i low′ (repOf L′ r)
+pub agree-restricts : (n i : ℕ) → i < n → (low low′ L L′ : Level) → Agrees n low low′ → Agrees n L L′ → (r : ℕ) → r < length L
+    → Restricts i low (repOf L r) → Restricts i low′ (repOf L′ r)
 agree-restricts n i l low low′ L L′ A B r h Q = record {
   count = Q .count;
   width = Q .width;
@@ -86,7 +93,8 @@ agree-restricts n i l low low′ L L′ A B r h Q = record {
   refers = λ g a b c e f. sym (B .same-ref r g (b * Q .width + c) h (omega arith) (inside b c e f)) ∙ Q .refers g a b c e f;
   acts = λ k a b c e f.
       sym (B .same-column r k (b * Q .width + c) h (omega arith) (inside b c e f)) ∙ Q .acts k a b c e f
-      ∙ ap (λ (x : Entry). entry (b * Q .width + x .row) (x .exp)) (A .same-column (Q .part b) k c (Q .part-below b e) (omega arith) (subst (λ z. c < z) (sym (Q .part-degree b e)) f));
+      ∙ ap (λ (x : Entry). entry (b * Q .width + x .row) (x .exp))
+      (A .same-column (Q .part b) k c (Q .part-below b e) (omega arith) (subst (λ z. c < z) (sym (Q .part-degree b e)) f));
 }
   where
     inside : (b c : ℕ) → b < Q .count → c < Q .width → b * Q .width + c < repOf L r .deg

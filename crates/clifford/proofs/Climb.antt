@@ -59,12 +59,14 @@ module _ (R : Rung) where
       let o = next-find R r′ 0 h (next-degree-pos r′ h) in
       let x : Index R = o .index in
       ap (λ r. repOf (next R) (next-target R j r) .deg) (sym (o .is-rep)) ∙ ap (λ r. repOf (next R) r .deg) (sym (family R .maps-to j ij jn x))
-      ∙ go x (next-X R j x .0) (ap (λ f. base R ((f x) .0)) (next-X-is R j ij jn) ∙ mapped-base x) (ℕ-discrete (τ R (rep R (base R x))) (rep R (base R x))) ∙ ap (λ r. repOf (next R) r .deg) (o .is-rep)
+      ∙ go x (next-X R j x .0) (ap (λ f. base R ((f x) .0)) (next-X-is R j ij jn) ∙ mapped-base x)
+      (ℕ-discrete (τ R (rep R (base R x))) (rep R (base R x))) ∙ ap (λ r. repOf (next R) r .deg) (o .is-rep)
     where
       mapped-base : (x : Index R) → base R ((mapped R j ij jn x) .0) ≡ (F .X j (base R x)) .0
       mapped-base x = unfold mapped in refl
 
-      go : (x y : Index R) → base R y ≡ (F .X j (base R x)) .0 → Dec (τ R (rep R (base R x)) ≡ rep R (base R x)) → repOf (next R) (next-rep R y) .deg ≡ repOf (next R) (next-rep R x) .deg
+      go : (x y : Index R) → base R y ≡ (F .X j (base R x)) .0 → Dec (τ R (rep R (base R x)) ≡ rep R (base R x))
+          → repOf (next R) (next-rep R y) .deg ≡ repOf (next R) (next-rep R x) .deg
       go x y e d =
           let r : ℕ = rep R (base R x) in
           let h : r < N R = rep-below R (base R x) in
@@ -72,12 +74,15 @@ module _ (R : Rung) where
           let same : deg R (rep R (base R y)) ≡ deg R r = ap (deg R) ry ∙ stands .degree-target j (omega arith) jn r h in
           split r h ry same d
         where
-          split : (r : ℕ) (h : r < N R) → rep R (base R y) ≡ F .target j r → deg R (rep R (base R y)) ≡ deg R (rep R (base R x)) → Dec (τ R (rep R (base R x)) ≡ rep R (base R x))
+          split : (r : ℕ) (h : r < N R) → rep R (base R y) ≡ F .target j r → deg R (rep R (base R y)) ≡ deg R (rep R (base R x))
+              → Dec (τ R (rep R (base R x)) ≡ rep R (base R x))
               → repOf (next R) (next-rep R y) .deg ≡ repOf (next R) (next-rep R x) .deg
           split r h ry same (yes f) =
-              degree-fixed R y (subst (λ s. τ R s ≡ s) (sym (ap (rep R) e ∙ F .maps-to j (omega arith) jn (base R x))) (target-fixed R j ij jn (rep R (base R x)) (rep-below R (base R x)) f)) ∙ same ∙ sym (degree-fixed R x f)
+              degree-fixed R y (subst (λ s. τ R s ≡ s) (sym (ap (rep R) e ∙ F .maps-to j (omega arith) jn (base R x)))
+              (target-fixed R j ij jn (rep R (base R x)) (rep-below R (base R x)) f)) ∙ same ∙ sym (degree-fixed R x f)
           split r h ry same (no f) =
-              degree-moved R y (λ g. target-moved R j ij jn (rep R (base R x)) (rep-below R (base R x)) f (subst (λ s. τ R s ≡ s) (ap (rep R) e ∙ F .maps-to j (omega arith) jn (base R x)) g))
+              degree-moved R y (λ g. target-moved R j ij jn (rep R (base R x)) (rep-below R (base R x)) f
+              (subst (λ s. τ R s ≡ s) (ap (rep R) e ∙ F .maps-to j (omega arith) jn (base R x)) g))
               ∙ ap (λ d. p R * d) same ∙ sym (degree-moved R x f)
 
   pub next-stands : Stands (T .context) (T .n) m pos (suc i) (next R) (family R)
@@ -133,11 +138,13 @@ module _ (R : Rung) where
     acts = λ k l b c a e.
         ap (λ M. col M (b * deg R s + c)) (induction-low R s k (omega arith) ∙ cond-lt k i _ _ l)
         ∙ getD-even (λ b. Steps.lift (b * deg R s) (repOf L (orb R s h mv own b) .matrix k)) (deg R s) (entry 0 0) (p R) b c (λ b l′. length-block k l b) a e
-        ∙ lift-col (b * deg R s) (repOf L (orb R s h mv own b) .matrix k) c (subst (λ z. c < z) (sym (stands .represents k l (orb R s h mv own b) (orb-below R s h mv own b) .size ∙ orb-degree R s h mv own b)) e);
+        ∙ lift-col (b * deg R s) (repOf L (orb R s h mv own b) .matrix k) c
+        (subst (λ z. c < z) (sym (stands .represents k l (orb R s h mv own b) (orb-below R s h mv own b) .size ∙ orb-degree R s h mv own b)) e);
   }
     where
       length-block : (k : ℕ) → k < i → (b : ℕ) → length (Steps.lift (b * deg R s) (repOf L (orb R s h mv own b) .matrix k)) ≡ deg R s
-      length-block k l b = lift-length (b * deg R s) (repOf L (orb R s h mv own b) .matrix k) ∙ stands .represents k l (orb R s h mv own b) (orb-below R s h mv own b) .size ∙ orb-degree R s h mv own b
+      length-block k l b = lift-length (b * deg R s) (repOf L (orb R s h mv own b) .matrix k)
+          ∙ stands .represents k l (orb R s h mv own b) (orb-below R s h mv own b) .size ∙ orb-degree R s h mv own b
 
   pub next-restricts : (r′ : ℕ) → r′ < length (next R) → Restricts i L (repOf (next R) r′)
   next-restricts r′ h = at-source R (Restricts i L (repOf (next R) r′)) r′ h

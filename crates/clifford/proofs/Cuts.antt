@@ -45,7 +45,8 @@ module _ (i : ℕ) (low : Level) (D : Rep) (Q : Restricts i low D) where
           let inside : b * width < D .deg = subst (λ z. b * width < z) (sym (Q .degree)) (omega (arith, mul-le-mul-right width l, Q .width-pos)) in
           let z : b * width + width ≡ suc b * width = omega arith in
           ap (all q) (cond-lt (b * width) (D .deg) _ _ inside)
-          ∙ and-intro _ _ (h b l) (ap (λ w. all q (Judgement.cutsFrom low D f (b * width + w))) (width-at b l) ∙ ap (λ w. all q (Judgement.cutsFrom low D f w)) z ∙ rec (suc b))
+          ∙ and-intro _ _ (h b l)
+          (ap (λ w. all q (Judgement.cutsFrom low D f (b * width + w))) (width-at b l) ∙ ap (λ w. all q (Judgement.cutsFrom low D f w)) z ∙ rec (suc b))
       go (no l) rec =
           let out : D .deg ≤ b * width = subst (λ z. z ≤ b * width) (sym (Q .degree)) (mul-le-mul-right width (omega arith)) in
           ap (all q) (cond-ge (b * width) (D .deg) _ _ out)
@@ -58,7 +59,8 @@ module _ (i : ℕ) (low : Level) (D : Rep) (Q : Restricts i low D) where
   unfolding Judgement.wholeBlock
   whole b l =
       let w : repOf low (D .ref 0 (b * width)) .deg ≡ width = width-at b l in
-      let fits : b * width + repOf low (D .ref 0 (b * width)) .deg ≤ D .deg = subst (λ z. b * width + z ≤ D .deg) (sym w) (subst (λ z. b * width + width ≤ z) (sym (Q .degree)) (omega (arith, mul-le-mul-right width l))) in
+      let fits : b * width + repOf low (D .ref 0 (b * width)) .deg ≤ D .deg =
+      subst (λ z. b * width + z ≤ D .deg) (sym w) (subst (λ z. b * width + width ≤ z) (sym (Q .degree)) (omega (arith, mul-le-mul-right width l))) in
       and-intro _ _ (and-intro _ _ (lt-ltb _ _ (subst (λ z. z < length low) (sym (ref-start b l)) (Q .part-below b l))) (le-leb _ _ fits))
       (allBelow-intro _ _ (λ c a. eq-eqb _ _ (Q .refers 0 (omega arith) b c l (subst (λ z. c < z) w a) ∙ sym (ref-start b l))))
 
@@ -72,8 +74,10 @@ module _ (i : ℕ) (low : Level) (D : Rep) (Q : Restricts i low D) where
       let e : c ≡ b * width + k = omega (arith, mod-add-div' c width) in
       ap (D .ref g) e ∙ Q .refers g l b k b-below k-below ∙ sym (ap (D .ref 0) e ∙ Q .refers 0 (omega arith) b k b-below k-below)
 
-  pub whole-alike : all (Judgement.wholeBlock low D) (Judgement.cuts low D) && allBelow (suc i) (λ g. allBelow (D .deg) (λ c. eqb (D .ref g c) (D .ref 0 c))) ≡ true
-  whole-alike = and-intro _ _ (cuts-pass (Judgement.wholeBlock low D) whole) (allBelow-intro (suc i) _ (λ g l. allBelow-intro (D .deg) _ (λ c a. eq-eqb _ _ (alike g l c a))))
+  pub whole-alike : all (Judgement.wholeBlock low D) (Judgement.cuts low D)
+      && allBelow (suc i) (λ g. allBelow (D .deg) (λ c. eqb (D .ref g c) (D .ref 0 c))) ≡ true
+  whole-alike = and-intro _ _ (cuts-pass (Judgement.wholeBlock low D) whole)
+      (allBelow-intro (suc i) _ (λ g l. allBelow-intro (D .deg) _ (λ c a. eq-eqb _ _ (alike g l c a))))
 
 module _ (P : Presentation) (m : ℕ) (table : List ℕ) (i : ℕ) (D : Rep) (Q : Restricts i (levelAt (P .n) table i) D) where
   open Restricts Q using (count, width, part)
@@ -89,7 +93,8 @@ module _ (P : Presentation) (m : ℕ) (table : List ℕ) (i : ℕ) (D : Rep) (Q 
       let ref : D .ref 0 (b * width) ≡ part b = ref-start i (levelAt (P .n) table i) D Q b l in
       allBelow-intro i _ (λ k a. allBelow-intro _ _ (λ c e.
       let c-below : c < width = subst (λ z. c < z) (width-at i (levelAt (P .n) table i) D Q b l) e in
-      let same : col (D .matrix k) (b * width + c) ≡ entry (b * width + col (repOf low (D .ref 0 (b * width)) .matrix k) c .row) (col (repOf low (D .ref 0 (b * width)) .matrix k) c .exp)
+      let same : col (D .matrix k) (b * width + c) ≡ entry (b * width + col (repOf low (D .ref 0 (b * width)) .matrix k) c .row)
+      (col (repOf low (D .ref 0 (b * width)) .matrix k) c .exp)
       = Q .acts k a b c l c-below ∙ ap (λ r. entry (b * width + col (repOf low r .matrix k) c .row) (col (repOf low r .matrix k) c .exp)) (sym ref) in
       and-intro _ _ (eq-eqb _ _ (ap (λ (x : Entry). x .row) same)) (eq-eqb _ _ (ap (λ (x : Entry). x .exp % m) same))))
 

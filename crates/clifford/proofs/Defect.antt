@@ -105,7 +105,8 @@ module _ {G G⁺ : Type 0} {𝓖 : Mul G} {𝓖⁺ : Mul G⁺} {conj : ℕ → G
 
   pub defect-power : (k : ℕ) (a : Ω) → defect ((pow (X i) k a) .0) ≡ defect a
   defect-power zero a = ap (λ z. defect (z .0)) (column 𝓔 (power-zero (maps 𝓔 Ω) (X i)) a ∙ at-one 𝓔 a)
-  defect-power (suc k) a = ap (λ z. defect (z .0)) (column 𝓔 (power-suc (maps 𝓔 Ω) (X i) k) a ∙ at-mul 𝓔 (X i) (pow (X i) k) a) ∙ defect-step _ ∙ defect-power k a
+  defect-power (suc k) a = ap (λ z. defect (z .0)) (column 𝓔 (power-suc (maps 𝓔 Ω) (X i) k) a ∙ at-mul 𝓔 (X i) (pow (X i) k) a) ∙ defect-step _
+      ∙ defect-power k a
 
   pub last-block : (k : ℕ) → suc k ≡ p → (a : Ω)
       → ((X i ((pow (X i) k a) .0)) .0 ≡ (d u a) .0)
@@ -166,5 +167,6 @@ module _ {G G⁺ : Type 0} {𝓖 : Mul G} {𝓖⁺ : Mul G⁺} {conj : ℕ → G
         (d y a) .1,
         z,
         ap (λ s. s .1) line,
-        ap (λ s. s .1) (sym (power-fixes 𝓔 (d y) a _ stays (S .order)) ∙ column 𝓔 (sym (power-hom (F .hom) y (S .order)) ∙ ap d (S .order-one y) ∙ F .hom .on-one) a ∙ at-one 𝓔 a),
+        ap (λ s. s .1) (sym (power-fixes 𝓔 (d y) a _ stays (S .order))
+            ∙ column 𝓔 (sym (power-hom (F .hom) y (S .order)) ∙ ap d (S .order-one y) ∙ F .hom .on-one) a ∙ at-one 𝓔 a),
       )

@@ -77,10 +77,13 @@ module _ (R : Rung) where
 
   pub image-shows : (r : ℕ) → r < N R → (x : Nf (T .context) i) → Shows m Φ r r (image m (repOf L r) i (x .0)) (F .d x)
   unfolding image
-  image-shows r h x = shows-map m pos Φ (shows-value m pos Φ refl (repOf L r .matrix) (λ k. F .d (genNf C i k)) i (λ k l. stands .represents k l r h) (x .0)) (d-value x)
+  image-shows r h x = shows-map m pos Φ
+      (shows-value m pos Φ refl (repOf L r .matrix) (λ k. F .d (genNf C i k)) i (λ k l. stands .represents k l r h) (x .0)) (d-value x)
 
-  pub raised-value : (𝓨 : Normed (S R) F) (x : Nf (T .context) (suc i)) → value (maps E Ω) (λ k. raised (S R) F 𝓨 (genNf (T .context) (suc i) k)) (suc i) (x .0) ≡ raised (S R) F 𝓨 x
-  raised-value 𝓨 x = sym (value-hom (raised-hom (S R) F 𝓨) (genNf C (suc i)) (suc i) (x .0)) ∙ ap (raised (S R) F 𝓨) (group T (suc i) (R .in-range) .gen-value x)
+  pub raised-value : (𝓨 : Normed (S R) F) (x : Nf (T .context) (suc i))
+      → value (maps E Ω) (λ k. raised (S R) F 𝓨 (genNf (T .context) (suc i) k)) (suc i) (x .0) ≡ raised (S R) F 𝓨 x
+  raised-value 𝓨 x = sym (value-hom (raised-hom (S R) F 𝓨) (genNf C (suc i)) (suc i) (x .0))
+      ∙ ap (raised (S R) F 𝓨) (group T (suc i) (R .in-range) .gen-value x)
 
   -- what shows the generators of the extension shows its words and conjugates; the frame is free
   module _ (Ψ : Layout Ω) (𝓨 : Normed (S R) F) (B : Rep) (r : ℕ) (is : Ψ .degree r ≡ B .deg)
@@ -93,7 +96,8 @@ module _ (R : Rung) where
     unfolding conjugate φ wNf
     conjugate-shows j ij jn =
         shows-map m pos Ψ (shows-mul m pos Ψ (shows i (omega arith)) (word-shows (wNf C i j)))
-        (sym (raised-hom (S R) F 𝓨 .on-mul _ _) ∙ ap (raised (S R) F 𝓨) (ap (level C (suc i) .mul (genNf C (suc i) i)) (sym (group T (suc i) (R .in-range) .gen-value (wNf C i j)))
+        (sym (raised-hom (S R) F 𝓨 .on-mul _ _)
+        ∙ ap (raised (S R) F 𝓨) (ap (level C (suc i) .mul (genNf C (suc i) i)) (sym (group T (suc i) (R .in-range) .gen-value (wNf C i j)))
         ∙ sym (group T (suc i) (R .in-range) .conj-gen j (omega arith) i (omega arith)) ∙ ap (conjNf C (suc i) j) (gen-top C i)))
 
   pub gen-below : (𝓨 : Normed (S R) F) (k : ℕ) → k < i → raised (S R) F 𝓨 (genNf (T .context) (suc i) k) ≡ F .d (genNf (T .context) i k)
@@ -120,7 +124,8 @@ module _ (R : Rung) where
   pub s-is : (r : ℕ) → r < N R → τ R r ≡ r → Steps.s (P R) m i L r ≡ (neg (defect (S R) F (first r))) .0
   unfolding Steps.s uNf
   s-is r h f =
-      ap₂ (less m) (first-shown h (image-shows r h (uNf C i))) (first-shown h (shows-power m pos Φ refl (fixed-shows r h f) (p R)) ∙ ap (λ z. z .1 .0) (defect-eq (S R) F (first r)))
+      ap₂ (less m) (first-shown h (image-shows r h (uNf C i)))
+      (first-shown h (shows-power m pos Φ refl (fixed-shows r h f) (p R)) ∙ ap (λ z. z .1 .0) (defect-eq (S R) F (first r)))
       ∙ less-value m pos _ _ ∙ ap (λ z. z .0) (neg-of E (defect (S R) F (first r)) _ (turn (defect (S R) F (first r)) ((F .d (uNf C i) (first r)) .1)))
     where
       swap : (t x y : Residue m) → add t (add x y) ≡ add (add t x) y
@@ -134,21 +139,27 @@ module _ (R : Rung) where
 
   pub extended-shows : (r κ : ℕ) → r < N R → τ R r ≡ r → Shows m Φ r r (Steps.extended (P R) m i L r κ) (Y (S R) F (numbered (S R) F 𝓢 ρ κ))
   unfolding Steps.extended
-  extended-shows r κ h f = shows-scale m pos Φ (Steps.s (P R) m i L r / p R + κ * (m / p R)) (fixed-shows r h f) (λ a e. (ap (λ z. z .0) (Y-numbered-at (S R) F 𝓢 ρ κ a), exps a e))
+  extended-shows r κ h f = shows-scale m pos Φ (Steps.s (P R) m i L r / p R + κ * (m / p R)) (fixed-shows r h f)
+      (λ a e. (ap (λ z. z .0) (Y-numbered-at (S R) F 𝓢 ρ κ a), exps a e))
     where
       σ-is : (a : Ω) → rep R a ≡ r → σ (S R) m pos F (ready R) (rep R a) .0 ≡ Steps.s (P R) m i L r / p R
-      σ-is a e = ap (λ r. σ (S R) m pos F (ready R) r .0) e ∙ ap (λ z. z .0) (σ-fixed (S R) m pos F (ready R) r f) ∙ part-value m pos _ _ ∙ ap (λ z. z / p R) (sym (s-is r h f))
+      σ-is a e = ap (λ r. σ (S R) m pos F (ready R) r .0) e ∙ ap (λ z. z .0) (σ-fixed (S R) m pos F (ready R) r f) ∙ part-value m pos _ _
+          ∙ ap (λ z. z / p R) (sym (s-is r h f))
 
       exps : (a : Ω) → rep R a ≡ r → (Y (S R) F (numbered (S R) F 𝓢 ρ κ) a) .1 .0 ≡ ((F .X i a) .1 .0 + (Steps.s (P R) m i L r / p R + κ * (m / p R))) % m
       exps a e =
           ap (λ z. z .1 .0) (Y-numbered-at (S R) F 𝓢 ρ κ a) ∙ add-value m pos _ _
-          ∙ ap (λ z. ((F .X i a) .1 .0 + z) % m) (add-value m pos _ _ ∙ ap₂ (λ x y. (x + y) % m) (σ-is a e) (times-value m pos κ _ ∙ ap (λ z. (κ * z) % m) (unit-value m pos _ ∙ sym share-is)) ∙ add-mod-mod _ _ _)
+          ∙ ap (λ z. ((F .X i a) .1 .0 + z) % m)
+          (add-value m pos _ _
+          ∙ ap₂ (λ x y. (x + y) % m) (σ-is a e) (times-value m pos κ _ ∙ ap (λ z. (κ * z) % m) (unit-value m pos _ ∙ sym share-is)) ∙ add-mod-mod _ _ _)
           ∙ add-mod-mod _ _ _
 
   pub base-shows : (r κ : ℕ) → r < N R → τ R r ≡ r → (k : ℕ) → k < suc i → Shows m Φ r r (Steps.extensionBase (P R) m i L r κ .matrix k) (D κ k)
   base-shows r κ h f = below-suc i (λ k. Shows m Φ r r (Steps.extensionBase (P R) m i L r κ .matrix k) (D κ k))
-      (λ k l. subst (λ M. Shows m Φ r r M (D κ k)) (sym (cond-lt k i _ _ l)) (shows-map m pos Φ (stands .represents k l r h) (sym (gen-below (numbered (S R) F 𝓢 ρ κ) k l))))
-      (subst (λ M. Shows m Φ r r M (D κ i)) (sym (cond-ge i i _ _ (omega arith))) (shows-map m pos Φ (extended-shows r κ h f) (sym (gen-last (numbered (S R) F 𝓢 ρ κ)))))
+      (λ k l. subst (λ M. Shows m Φ r r M (D κ k)) (sym (cond-lt k i _ _ l))
+      (shows-map m pos Φ (stands .represents k l r h) (sym (gen-below (numbered (S R) F 𝓢 ρ κ) k l))))
+      (subst (λ M. Shows m Φ r r M (D κ i)) (sym (cond-ge i i _ _ (omega arith)))
+      (shows-map m pos Φ (extended-shows r κ h f) (sym (gen-last (numbered (S R) F 𝓢 ρ κ)))))
 
   -- ---- l
 
@@ -166,7 +177,8 @@ module _ (R : Rung) where
     tr-below = subst (λ s. s < N R) (F .maps-to j (omega arith) jn (first r) ∙ ap (F .target j) (first-rep r h)) (rep-below R ((F .X j (first r)) .0))
 
     tr-fixed : τ R tr ≡ tr
-    tr-fixed = subst (λ s. τ R (F .target j s) ≡ F .target j s) (first-rep r h) (fixed-stays (S R) F 𝓢 j ij jn (first r) (subst (λ s. τ R s ≡ s) (sym (first-rep r h)) f))
+    tr-fixed = subst (λ s. τ R (F .target j s) ≡ F .target j s) (first-rep r h)
+        (fixed-stays (S R) F 𝓢 j ij jn (first r) (subst (λ s. τ R s ≡ s) (sym (first-rep r h)) f))
 
     Xj : Shows m Φ r tr (repOf L r .matrix j) (F .X j)
     Xj = stands .intertwines j (omega arith) jn r h
@@ -175,26 +187,34 @@ module _ (R : Rung) where
     unfolding φ
     φ-zero = ap (λ g. g (conjNf C (suc i) j (top C i))) (numbered-zero (S R) F 𝓢 ρ)
 
-    pub left-shows : Shows m Φ r (F .target j r) (product m (repOf L r .matrix j) (conjugate m (P R) (Steps.extensionBase (P R) m i L r 0) i j)) (F .X j *′ φ (S R) F 𝓢 j ij jn)
-    left-shows = shows-mul m pos Φ Xj (shows-map m pos Φ (conjugate-shows Φ (numbered (S R) F 𝓢 ρ 0) (Steps.extensionBase (P R) m i L r 0) r refl (base-shows r 0 h f) j ij jn) φ-zero)
+    pub left-shows : Shows m Φ r (F .target j r) (product m (repOf L r .matrix j) (conjugate m (P R) (Steps.extensionBase (P R) m i L r 0) i j))
+        (F .X j *′ φ (S R) F 𝓢 j ij jn)
+    left-shows = shows-mul m pos Φ Xj
+        (shows-map m pos Φ (conjugate-shows Φ (numbered (S R) F 𝓢 ρ 0) (Steps.extensionBase (P R) m i L r 0) r refl (base-shows r 0 h f) j ij jn) φ-zero)
 
     right : (k : ℕ) → Shows m Φ r tr (product m (Steps.extended (P R) m i L tr k) (repOf L r .matrix j)) (Y (S R) F (numbered (S R) F 𝓢 ρ k) *′ F .X j)
     right k = shows-mul m pos Φ (extended-shows tr k tr-below tr-fixed) Xj
 
     -- extension 0 has the scalars of the family
-    pub right-shows-zero : Shows m Φ r (F .target j r) (product m (Steps.extended (P R) m i L (Steps.target (P R) m i L j r) 0) (repOf L r .matrix j)) (Y (S R) F 𝓢 *′ F .X j)
-    right-shows-zero = subst (λ s. Shows m Φ r tr (product m (Steps.extended (P R) m i L s 0) (repOf L r .matrix j)) (Y (S R) F 𝓢 *′ F .X j)) (sym literal-target)
-        (shows-map m pos Φ (right 0) (ap (λ z. z *′ F .X j) (sym (raised-top (S R) F (numbered (S R) F 𝓢 ρ 0)) ∙ ap (λ g. g (top C i)) (numbered-zero (S R) F 𝓢 ρ) ∙ raised-top (S R) F 𝓢)))
+    pub right-shows-zero : Shows m Φ r (F .target j r)
+        (product m (Steps.extended (P R) m i L (Steps.target (P R) m i L j r) 0) (repOf L r .matrix j)) (Y (S R) F 𝓢 *′ F .X j)
+    right-shows-zero = subst (λ s. Shows m Φ r tr (product m (Steps.extended (P R) m i L s 0) (repOf L r .matrix j)) (Y (S R) F 𝓢 *′ F .X j))
+        (sym literal-target)
+        (shows-map m pos Φ (right 0)
+        (ap (λ z. z *′ F .X j) (sym (raised-top (S R) F (numbered (S R) F 𝓢 ρ 0)) ∙ ap (λ g. g (top C i)) (numbered-zero (S R) F 𝓢 ρ) ∙ raised-top (S R) F 𝓢)))
 
     ε^ : ℕ → Residue m
     ε^ k = times E k (ρ .ε)
 
     -- the two sides differ by the multiple k of the root
-    right-at : (k : ℕ) (a : Ω) → (Y (S R) F (numbered (S R) F 𝓢 ρ k) *′ F .X j) a ≡ (((Y (S R) F 𝓢 *′ F .X j) a) .0, add (ε^ k) (((Y (S R) F 𝓢 *′ F .X j) a) .1))
+    right-at : (k : ℕ) (a : Ω) → (Y (S R) F (numbered (S R) F 𝓢 ρ k) *′ F .X j) a
+        ≡ (((Y (S R) F 𝓢 *′ F .X j) a) .0, add (ε^ k) (((Y (S R) F 𝓢 *′ F .X j) a) .1))
     unfolding ε^
     right-at k a =
         at-mul E (Y (S R) F (numbered (S R) F 𝓢 ρ k)) (F .X j) a ∙ ap (λ z. (z .0, add (z .1) ((F .X j a) .1))) (Y-numbered-at (S R) F 𝓢 ρ k ((F .X j a) .0))
-        ∙ pair E refl (move _ _ _ _) ∙ sym (ap (λ z. (z .0, add (ε^ k) (z .1))) (at-mul E (Y (S R) F 𝓢) (F .X j) a ∙ ap (λ z. (z .0, add (z .1) ((F .X j a) .1))) (Y-at (S R) F 𝓢 ((F .X j a) .0))))
+        ∙ pair E refl (move _ _ _ _)
+        ∙ sym (ap (λ z. (z .0, add (ε^ k) (z .1)))
+        (at-mul E (Y (S R) F 𝓢) (F .X j) a ∙ ap (λ z. (z .0, add (z .1) ((F .X j a) .1))) (Y-at (S R) F 𝓢 ((F .X j a) .0))))
       where
         move : (x s e y : Residue m) → add (add x (add s e)) y ≡ add e (add (add x s) y)
         move x s e y = simp (E .assoc, E .comm, lcomm E)
@@ -202,23 +222,28 @@ module _ (R : Rung) where
     agree : (k : ℕ) → ε^ k ≡ qr → (a : Ω) → rep R a ≡ r → (Y (S R) F (numbered (S R) F 𝓢 ρ k) *′ F .X j) a ≡ (F .X j *′ φ (S R) F 𝓢 j ij jn) a
     agree k e a ra =
         right-at k a
-        ∙ pair E refl (ap (λ z. add z (((Y (S R) F 𝓢 *′ F .X j) a) .1)) (e ∙ ap (q̂ (S R) m pos F (ready R) j ij jn) (sym ra) ∙ q-first (S R) m pos F (ready R) j ij jn a)) ∙ sym (q-eq (S R) F 𝓢 j ij jn a)
+        ∙ pair E refl (ap (λ z. add z (((Y (S R) F 𝓢 *′ F .X j) a) .1))
+        (e ∙ ap (q̂ (S R) m pos F (ready R) j ij jn) (sym ra) ∙ q-first (S R) m pos F (ready R) j ij jn a)) ∙ sym (q-eq (S R) F 𝓢 j ij jn a)
 
     log-is : ε^ (log m pos (parts (S R) m pos F (ready R)) qr) ≡ qr
     unfolding ε^
     log-is =
-        subst (λ s. times E (log m pos (parts (S R) m pos F (ready R)) (q̂ (S R) m pos F (ready R) j ij jn s)) (unit m pos (parts (S R) m pos F (ready R))) ≡ q̂ (S R) m pos F (ready R) j ij jn s) (first-rep r h)
+        subst (λ s. times E (log m pos (parts (S R) m pos F (ready R)) (q̂ (S R) m pos F (ready R) j ij jn s))
+        (unit m pos (parts (S R) m pos F (ready R))) ≡ q̂ (S R) m pos F (ready R) j ij jn s) (first-rep r h)
         (log-q (S R) m pos F (ready R) j ij jn (first r) (subst (λ s. τ R s ≡ s) (sym (first-rep r h)) f))
 
     pub l-is : Steps.l (P R) m i L j r ≡ log m pos (parts (S R) m pos F (ready R)) (q̂ (S R) m pos F (ready R) j ij jn r)
     unfolding Steps.l ε^
     l-is =
-        ap (λ s. least (p R) (λ k. sameMatrix m (product m (repOf L r .matrix j) (conjugate m (P R) (Steps.extensionBase (P R) m i L r 0) i j)) (product m (Steps.extended (P R) m i L s k) (repOf L r .matrix j)))) literal-target
+        ap (λ s. least (p R)
+        (λ k. sameMatrix m (product m (repOf L r .matrix j) (conjugate m (P R) (Steps.extensionBase (P R) m i L r 0) i j))
+        (product m (Steps.extended (P R) m i L s k) (repOf L r .matrix j)))) literal-target
         ∙ least-is (p R) _ (log m pos (parts (S R) m pos F (ready R)) qr) (log-below m pos _ qr)
         (same-shown m pos Φ complete h left-shows (shows-on m pos Φ (right _) (agree _ log-is)))
         (λ k l e. unit-injective m pos (parts (S R) m pos F (ready R)) k _ l (log-below m pos _ qr) (one k e ∙ sym log-is))
       where
-        one : (k : ℕ) → sameMatrix m (product m (repOf L r .matrix j) (conjugate m (P R) (Steps.extensionBase (P R) m i L r 0) i j)) (product m (Steps.extended (P R) m i L tr k) (repOf L r .matrix j)) ≡ true
+        one : (k : ℕ) → sameMatrix m (product m (repOf L r .matrix j) (conjugate m (P R) (Steps.extensionBase (P R) m i L r 0) i j))
+            (product m (Steps.extended (P R) m i L tr k) (repOf L r .matrix j)) ≡ true
             → ε^ k ≡ qr
         one k e =
             let a : Ω = first r in

@@ -50,7 +50,8 @@ module _ (R : Rung) where
       (col (product m (Steps.extended (P R) m i L (Steps.target (P R) m i L j r) 0) (repOf L r .matrix j)) 0 .exp) / (m / p R)
   l-formula j ij jn r h f =
       l-is R j ij jn r h f ∙ log-value m pos (parts (S R) m pos F (ready R)) _
-      ∙ ap₂ (_/_) (sym (ap₂ (less m) (first-shown R h (left-shows R j ij jn r h f) ∙ ap (λ z. z .1 .0) (q-eq (S R) F (𝓢 R) j ij jn (first R r))) (first-shown R h (right-shows-zero R j ij jn r h f)) ∙ less-back _ _ ∙ q-is)) (sym share-is)
+      ∙ ap₂ (_/_) (sym (ap₂ (less m) (first-shown R h (left-shows R j ij jn r h f) ∙ ap (λ z. z .1 .0) (q-eq (S R) F (𝓢 R) j ij jn (first R r)))
+      (first-shown R h (right-shows-zero R j ij jn r h f)) ∙ less-back _ _ ∙ q-is)) (sym share-is)
     where
       q-is : (q (S R) F (𝓢 R) j ij jn (first R r)) .0 ≡ (q̂ (S R) m pos F (ready R) j ij jn r) .0
       q-is = unfold q̂ in refl
@@ -59,14 +60,17 @@ module _ (R : Rung) where
 
   module _ (r : ℕ) (h : r < N R) (mv : ¬ (τ R r ≡ r)) (own : leader (O R) r ≡ r) where
     -- the scalar that undoes the defect, from one column
-    pub defect-formula : less m (col (image m (repOf L r) i (P R .u i)) 0 .exp) (col (Steps.along (P R) m i L r (p R)) 0 .exp) ≡ (residues m pos .neg (defect (S R) F (first R r))) .0
+    pub defect-formula : less m (col (image m (repOf L r) i (P R .u i)) 0 .exp) (col (Steps.along (P R) m i L r (p R)) 0 .exp)
+        ≡ (residues m pos .neg (defect (S R) F (first R r))) .0
     unfolding uNf
     defect-formula =
-        ap₂ (less m) (first-shown R h (image-shows R r h (uNf (T .context) i))) (first-shown R h (along-shows R r h mv own (p R)) ∙ ap (λ z. z .1 .0) (defect-eq (S R) F (first R r)))
+        ap₂ (less m) (first-shown R h (image-shows R r h (uNf (T .context) i)))
+        (first-shown R h (along-shows R r h mv own (p R)) ∙ ap (λ z. z .1 .0) (defect-eq (S R) F (first R r)))
         ∙ less-over _ _
 
     pub last-formula : Steps.lastBlock (P R) m i L r
-        ≡ scale m (less m (col (image m (repOf L r) i (P R .u i)) 0 .exp) (col (Steps.along (P R) m i L r (p R)) 0 .exp)) (repOf L (Steps.orbit (P R) m i L r (p R - 1)) .matrix i)
+        ≡ scale m (less m (col (image m (repOf L r) i (P R .u i)) 0 .exp) (col (Steps.along (P R) m i L r (p R)) 0 .exp))
+        (repOf L (Steps.orbit (P R) m i L r (p R - 1)) .matrix i)
     last-formula =
         shown-unique m pos (Φ R) complete (iter-below (O R) e r h) (last-shows R r h mv own) scaled
         ∙ ap (λ s. scale m k (repOf L s .matrix i)) (sym (orbit-same R r e))
@@ -83,7 +87,8 @@ module _ (R : Rung) where
         -- along the orbit the defect is that of r
         defect-here : (a : Ω) → rep R a ≡ t → defect (S R) F a ≡ defect (S R) F (first R r)
         defect-here a q =
-            defect-const (S R) F a _ (q ∙ sym (rep-power F (τ R) (F .X i) (X-maps (S R) F) e (first R r) ∙ ap (iter (τ R) e) (first-rep R r h))) ∙ defect-power (S R) F e (first R r)
+            defect-const (S R) F a _ (q ∙ sym (rep-power F (τ R) (F .X i) (X-maps (S R) F) e (first R r) ∙ ap (iter (τ R) e) (first-rep R r h)))
+            ∙ defect-power (S R) F e (first R r)
 
         σ-here : (a : Ω) → rep R a ≡ t → σ (S R) m pos F (ready R) (rep R a) .0 ≡ k
         σ-here a q =

@@ -83,16 +83,19 @@ module _ (R : Rung) where
 
   -- ---- The representation of an index
 
-  pub rep-fixed : (x : Index) → τ R (rep R (base x)) ≡ rep R (base x) → repOf (next R) (next-rep x) ≡ Steps.extension (T .context .P) m i L (rep R (base x)) (number x)
+  pub rep-fixed : (x : Index) → τ R (rep R (base x)) ≡ rep R (base x)
+      → repOf (next R) (next-rep x) ≡ Steps.extension (T .context .P) m i L (rep R (base x)) (number x)
   unfolding next-rep
   rep-fixed x f =
       ap (λ s. repOf (next R) (sum s (made R) + number x)) (leader-fixed (O R) (rep R (base x)) (rep-below R (base x)) f)
       ∙ given-fixed R (rep R (base x)) (number x) (rep-below R (base x)) f (number-fixed x f)
 
-  pub rep-moved : (x : Index) → ¬ (τ R (rep R (base x)) ≡ rep R (base x)) → repOf (next R) (next-rep x) ≡ Steps.induction (T .context .P) m i L (leader (O R) (rep R (base x)))
+  pub rep-moved : (x : Index) → ¬ (τ R (rep R (base x)) ≡ rep R (base x))
+      → repOf (next R) (next-rep x) ≡ Steps.induction (T .context .P) m i L (leader (O R) (rep R (base x)))
   unfolding next-rep
   rep-moved x f =
-      given-moved R (leaderAt (base x)) (number x) (leader-below (O R) (rep R (base x)) (rep-below R (base x))) (leader-moved (O R) (rep R (base x)) (rep-below R (base x)) f)
+      given-moved R (leaderAt (base x)) (number x) (leader-below (O R) (rep R (base x)) (rep-below R (base x)))
+      (leader-moved (O R) (rep R (base x)) (rep-below R (base x)) f)
       (leader-leader (O R) (rep R (base x)) (rep-below R (base x))) (number-moved x f)
 
   pub degree-fixed : (x : Index) → τ R (rep R (base x)) ≡ rep R (base x) → repOf (next R) (next-rep x) .deg ≡ deg R (rep R (base x))
@@ -107,14 +110,16 @@ module _ (R : Rung) where
   wide-below x = go (ℕ-discrete (τ R (rep R (base x))) (rep R (base x)))
     where
       go : Dec (Fixed (base x)) → wide (base x) < repOf (next R) (next-rep x) .deg
-      go (yes f) = subst (λ s. s < repOf (next R) (next-rep x) .deg) (sym (wide-fixed (base x) f)) (subst (λ d. column (base x) < d) (sym (degree-fixed x f)) (column-below (base x)))
+      go (yes f) = subst (λ s. s < repOf (next R) (next-rep x) .deg) (sym (wide-fixed (base x) f))
+          (subst (λ d. column (base x) < d) (sym (degree-fixed x f)) (column-below (base x)))
       go (no f) = subst (λ s. s < repOf (next R) (next-rep x) .deg) (sym (wide-moved (base x) f))
           (subst (λ d. position (O R) (rep R (base x)) * deg R (rep R (base x)) + column (base x) < d) (sym (degree-moved x f))
           (digits-lt (position-below (O R) (rep R (base x)) (rep-below R (base x))) (column-below (base x))))
 
   pub next-below : (x : Index) → next-rep x < length (next R)
   unfolding next-rep
-  next-below x = subst (λ s. sum (leaderAt (base x)) (made R) + number x < s) (sym (next-length R)) (stretch-below (made R) (leaderAt (base x)) (number x) (N R) (x .1) (leader-below (O R) (rep R (base x)) (rep-below R (base x))))
+  next-below x = subst (λ s. sum (leaderAt (base x)) (made R) + number x < s) (sym (next-length R))
+      (stretch-below (made R) (leaderAt (base x)) (number x) (N R) (x .1) (leader-below (O R) (rep R (base x)) (rep-below R (base x))))
 
   abbrev pub next-frame : Layout Index
   next-frame = frame (next R) next-rep (λ x. wide (base x)) wide-below
@@ -139,7 +144,8 @@ module _ (R : Rung) where
           split : Dec (τ R s ≡ s) → IndexFound r c
           split (yes f) =
               let κ-below : o .κ < p R = subst (λ z. o .κ < z) (made-fixed R s f) (o .κ-below) in
-              let d : repOf (next R) r .deg ≡ deg R s = ap (λ r. repOf (next R) r .deg) (sym (o .is)) ∙ ap (λ (D : Rep). D .deg) (given-fixed R s (o .κ) (o .s-below) f κ-below) in
+              let d : repOf (next R) r .deg ≡ deg R s = ap (λ r. repOf (next R) r .deg) (sym (o .is))
+              ∙ ap (λ (D : Rep). D .deg) (given-fixed R s (o .κ) (o .s-below) f κ-below) in
               let c-below : c < deg R s = subst (λ z. c < z) d l in
               let a : Ω = complete .find s c (o .s-below) c-below in
               let e : rep R a ≡ s = complete .find-rep s c (o .s-below) c-below in
@@ -170,7 +176,8 @@ module _ (R : Rung) where
               record {
                 index = mk a (o .κ) (subst (λ z. o .κ < made R z) (sym q) (o .κ-below));
                 is-rep = ap (λ z. sum z (made R) + o .κ) q ∙ o .is;
-                is-column = wide-moved a am ∙ ap₂ (λ x y. x * y + column a) ps (ap (deg R) e ∙ dt) ∙ ap (λ z. b * deg R s + z) (complete .find-column t (c % deg R s) t-below c-below)
+                is-column = wide-moved a am ∙ ap₂ (λ x y. x * y + column a) ps (ap (deg R) e ∙ dt)
+                    ∙ ap (λ z. b * deg R s + z) (complete .find-column t (c % deg R s) t-below c-below)
                     ∙ omega (arith, mod-add-div' c (deg R s));
               }
 
@@ -191,7 +198,8 @@ module _ (R : Rung) where
 
       go : leaderAt a ≡ leaderAt b → Dec (Fixed a) → Dec (Fixed b) → a ≡ b
       go e (yes f) (yes g) =
-          complete .known a b (sym (leader-fixed (O R) (rep R a) (rep-below R a) f) ∙ e ∙ leader-fixed (O R) (rep R b) (rep-below R b) g) (sym (wide-fixed a f) ∙ w ∙ wide-fixed b g)
+          complete .known a b (sym (leader-fixed (O R) (rep R a) (rep-below R a) f) ∙ e ∙ leader-fixed (O R) (rep R b) (rep-below R b) g)
+          (sym (wide-fixed a f) ∙ w ∙ wide-fixed b g)
       go e (yes f) (no g) = absurd (separate a b e f g)
       go e (no f) (yes g) = absurd (separate b a (sym e) g f)
       go e (no f) (no g) =
@@ -200,8 +208,10 @@ module _ (R : Rung) where
           let cb : column b < d = subst (λ z. column b < z) same (column-below b) in
           let line : position (O R) (rep R a) * d + column a ≡ position (O R) (rep R b) * d + column b
           = sym (wide-moved a f) ∙ w ∙ wide-moved b g ∙ ap (λ z. position (O R) (rep R b) * z + column b) same in
-          let ps : position (O R) (rep R a) ≡ position (O R) (rep R b) = sym (digits-div (position (O R) (rep R a)) (column-below a)) ∙ ap (λ z. z / d) line ∙ digits-div (position (O R) (rep R b)) cb in
-          let cs : column a ≡ column b = sym (digits-mod (position (O R) (rep R a)) (column-below a)) ∙ ap (λ z. z % d) line ∙ digits-mod (position (O R) (rep R b)) cb in
+          let ps : position (O R) (rep R a) ≡ position (O R) (rep R b) = sym (digits-div (position (O R) (rep R a)) (column-below a))
+          ∙ ap (λ z. z / d) line ∙ digits-div (position (O R) (rep R b)) cb in
+          let cs : column a ≡ column b = sym (digits-mod (position (O R) (rep R a)) (column-below a)) ∙ ap (λ z. z % d) line
+          ∙ digits-mod (position (O R) (rep R b)) cb in
           complete .known a b (sym (position-back (O R) (rep R a) (rep-below R a)) ∙ ap₂ (iter (τ R)) ps e ∙ position-back (O R) (rep R b) (rep-below R b)) cs
 
   pub next-complete : Complete next-frame (length (next R))

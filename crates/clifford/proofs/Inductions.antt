@@ -100,7 +100,8 @@ module _ (R : Rung) where
           subst (λ s. wide R a < s) (sym (ap spread (leader-fixed (O R) (rep R a) (rep-below R a) f) ∙ spread-fixed (rep R a) f))
           (subst (λ s. s < deg R (rep R a)) (sym (wide-fixed R a f)) (column-below a))
       go (no f) =
-          subst (λ s. wide R a < s) (sym (spread-moved (leaderAt a) (leader-moved (O R) (rep R a) (rep-below R a) f) ∙ ap (λ d. p R * d) (degree-leader R (rep R a) (rep-below R a))))
+          subst (λ s. wide R a < s)
+          (sym (spread-moved (leaderAt a) (leader-moved (O R) (rep R a) (rep-below R a) f) ∙ ap (λ d. p R * d) (degree-leader R (rep R a) (rep-below R a))))
           (subst (λ s. s < p R * deg R (rep R a)) (sym (wide-moved R a f)) (digits-lt (position-below (O R) (rep R a) (rep-below R a)) (column-below a)))
 
   abbrev pub Ψ : Layout Ω
@@ -158,7 +159,8 @@ module _ (R : Rung) where
         }
 
     pub position-of : (k : ℕ) → k < p R → position (O R) (iter (τ R) k r) ≡ k
-    position-of k l = position-is (O R) (iter (τ R) k r) k (iter-below (O R) k r h) (iter-moved (O R) k r h mv) l (ap (iter (τ R) k) (leader-iter (O R) k r h ∙ own))
+    position-of k l = position-is (O R) (iter (τ R) k r) k (iter-below (O R) k r h) (iter-moved (O R) k r h mv) l
+        (ap (iter (τ R) k) (leader-iter (O R) k r h ∙ own))
 
     pub position-mod : (k : ℕ) → position (O R) (iter (τ R) k r) ≡ k % p R
     position-mod k = ap (position (O R)) (sym (iter-mod (O R) k r h)) ∙ position-of (k % p R) (mod-lt k (omega (arith, two)))
@@ -175,7 +177,8 @@ module _ (R : Rung) where
       maps-to = ld;
       shown = λ a e.
           let M = member a e in
-          ap (col (blocks (p R) f)) (M .wide-is) ∙ getD-even f d (entry 0 0) (p R) (position (O R) (rep R a)) (column a) len (M .below) (M .column-lt) ∙ ent a e;
+          ap (col (blocks (p R) f)) (M .wide-is)
+          ∙ getD-even f d (entry 0 0) (p R) (position (O R) (rep R a)) (column a) len (M .below) (M .column-lt) ∙ ent a e;
     }
 
     abbrev pub orb : ℕ → ℕ
@@ -221,13 +224,15 @@ module _ (R : Rung) where
     pub along-shows : (k : ℕ) → Shows m (Φ R) r (iter (τ R) k r) (Steps.along (P R) m i L r k) (power (maps (E R) Ω) (F .X i) k)
     unfolding Steps.along
     along-shows zero =
-        subst (λ s. Shows m (Φ R) r s (identity d) (pow zero)) (sym (iter-zero (τ R) r)) (shows-map m pos (Φ R) (shows-one m pos (Φ R) r) (sym (power-zero (maps (E R) Ω) (F .X i))))
+        subst (λ s. Shows m (Φ R) r s (identity d) (pow zero)) (sym (iter-zero (τ R) r))
+        (shows-map m pos (Φ R) (shows-one m pos (Φ R) r) (sym (power-zero (maps (E R) Ω) (F .X i))))
     along-shows (suc k) =
         subst (λ s. Shows m (Φ R) r s (product m (repOf L (orb k) .matrix i) (Steps.along (P R) m i L r k)) (pow (suc k))) (sym (iter-out (τ R) k r))
         (shows-map m pos (Φ R) (shows-mul m pos (Φ R) step (along-shows k)) (sym (power-suc (maps (E R) Ω) (F .X i) k)))
       where
         step : Shows m (Φ R) (iter (τ R) k r) (τ R (iter (τ R) k r)) (repOf L (orb k) .matrix i) (F .X i)
-        step = subst (λ s. Shows m (Φ R) (iter (τ R) k r) (τ R (iter (τ R) k r)) (repOf L s .matrix i) (F .X i)) (sym (orbit-same R r k)) (stands .intertwines i (omega arith) (R .in-range) (iter (τ R) k r) (iter-below (O R) k r h))
+        step = subst (λ s. Shows m (Φ R) (iter (τ R) k r) (τ R (iter (τ R) k r)) (repOf L s .matrix i) (F .X i)) (sym (orbit-same R r k))
+            (stands .intertwines i (omega arith) (R .in-range) (iter (τ R) k r) (iter-below (O R) k r h))
 
     abbrev e : ℕ
     e = p R - 1
@@ -259,7 +264,8 @@ module _ (R : Rung) where
     pub last-shows : Shows m (Φ R) (iter (τ R) (p R - 1) r) r (Steps.lastBlock (P R) m i L r) (Y (S R) F (𝓢 R))
     unfolding Steps.lastBlock uNf
     last-shows =
-        shows-on m pos (Φ R) (shows-mul m pos (Φ R) (image-shows R r h (uNf C i)) (shows-inverse m pos (Φ R) complete h (along-shows e) W (degree-iter R e r h) from-last)) same
+        shows-on m pos (Φ R)
+        (shows-mul m pos (Φ R) (image-shows R r h (uNf C i)) (shows-inverse m pos (Φ R) complete h (along-shows e) W (degree-iter R e r h) from-last)) same
       where
         same : (a : Ω) → rep R a ≡ t → (F .d (uNf C i) *′ W .to) a ≡ Y (S R) F (𝓢 R) a
         same a q =
@@ -288,19 +294,23 @@ module _ (R : Rung) where
     unfolding Steps.blockCycle cycle-block
     cycle-is =
         ap (λ k. blocks k cycle-block) (sym e-suc) ∙ blocks-suc e cycle-block
-        ∙ ap₂ (_++_) (blocks-below e cycle-block (λ b. Steps.lift (suc b * d) (repOf L (orb b) .matrix i)) (λ b l. cond-ne b e _ _ (λ q. omega arith))) (cond-eq e e _ _ refl)
+        ∙ ap₂ (_++_) (blocks-below e cycle-block (λ b. Steps.lift (suc b * d) (repOf L (orb b) .matrix i))
+        (λ b l. cond-ne b e _ _ (λ q. omega arith))) (cond-eq e e _ _ refl)
 
     Y-inside : (a : Ω) → leaderAt a ≡ r → leaderAt ((Y (S R) F (𝓢 R) a) .0) ≡ r
     Y-inside a q =
-        ap (leader (O R)) (Y-maps (S R) F (𝓢 R) a ∙ sym (iter-suc (τ R) 0 (rep R a) ∙ iter-zero (τ R) (τ R (rep R a)))) ∙ leader-iter (O R) 1 (rep R a) (rep-below R a) ∙ q
+        ap (leader (O R)) (Y-maps (S R) F (𝓢 R) a ∙ sym (iter-suc (τ R) 0 (rep R a) ∙ iter-zero (τ R) (τ R (rep R a))))
+        ∙ leader-iter (O R) 1 (rep R a) (rep-below R a) ∙ q
 
     pub cycle-shows : Shows m Ψ r r (Steps.blockCycle (P R) m i L r) (Y (S R) F (𝓢 R))
     unfolding cycle-block
-    cycle-shows = subst (λ M. Shows m Ψ r r M (Y (S R) F (𝓢 R))) cycle-is (shows-blocks cycle-block (λ b l. len b (ℕ-discrete b e)) Y-inside (λ a q. entries a q (ℕ-discrete (position (O R) (rep R a)) e)))
+    cycle-shows = subst (λ M. Shows m Ψ r r M (Y (S R) F (𝓢 R))) cycle-is
+        (shows-blocks cycle-block (λ b l. len b (ℕ-discrete b e)) Y-inside (λ a q. entries a q (ℕ-discrete (position (O R) (rep R a)) e)))
       where
         len : (b : ℕ) → Dec (b ≡ e) → length (cycle-block b) ≡ d
         len b (yes q) = ap length (cond-eq b e _ _ q) ∙ last-shows .size ∙ degree-iter R e r h
-        len b (no q) = ap length (cond-ne b e _ _ q) ∙ lift-length (suc b * d) (repOf L (orb b) .matrix i) ∙ stands .intertwines i (omega arith) (R .in-range) (orb b) (orb-below b) .size ∙ orb-degree b
+        len b (no q) = ap length (cond-ne b e _ _ q) ∙ lift-length (suc b * d) (repOf L (orb b) .matrix i)
+            ∙ stands .intertwines i (omega arith) (R .in-range) (orb b) (orb-below b) .size ∙ orb-degree b
 
         entries : (a : Ω) → leaderAt a ≡ r → Dec (position (O R) (rep R a) ≡ e) → col (cycle-block (position (O R) (rep R a))) (column a)
             ≡ entry (wide R ((Y (S R) F (𝓢 R) a) .0)) ((Y (S R) F (𝓢 R) a) .1 .0)
@@ -308,7 +318,8 @@ module _ (R : Rung) where
             let M = member a q in
             let ra : rep R a ≡ t = sym (M .back) ∙ ap (λ k. iter (τ R) k r) b in
             let M′ = member ((Y (S R) F (𝓢 R) a) .0) (Y-inside a q) in
-            let zero-position : position (O R) (rep R ((Y (S R) F (𝓢 R) a) .0)) ≡ 0 = ap (position (O R)) (last-shows .maps-to a ra) ∙ ap (position (O R)) (sym (iter-zero (τ R) r)) ∙ position-of 0 (omega (arith, two)) in
+            let zero-position : position (O R) (rep R ((Y (S R) F (𝓢 R) a) .0)) ≡ 0 = ap (position (O R)) (last-shows .maps-to a ra)
+            ∙ ap (position (O R)) (sym (iter-zero (τ R) r)) ∙ position-of 0 (omega (arith, two)) in
             let z : 0 * d + column ((Y (S R) F (𝓢 R) a) .0) ≡ column ((Y (S R) F (𝓢 R) a) .0) = omega arith in
             ap (λ M. col M (column a)) (cond-eq _ e _ _ b) ∙ last-shows .shown a ra
             ∙ entry-path (sym (M′ .wide-is ∙ ap (λ k. k * d + column ((Y (S R) F (𝓢 R) a) .0)) zero-position ∙ z)) refl
@@ -333,5 +344,7 @@ module _ (R : Rung) where
 
     pub induced-shows : (k : ℕ) → k < suc i → Shows m Ψ r r (Steps.inductionBase (P R) m i L r .matrix k) (raised (S R) F (𝓢 R) (genNf (T .context) (suc i) k))
     induced-shows = below-suc i (λ k. Shows m Ψ r r (Steps.inductionBase (P R) m i L r .matrix k) (raised (S R) F (𝓢 R) (genNf C (suc i) k)))
-        (λ k l. subst (λ M. Shows m Ψ r r M (raised (S R) F (𝓢 R) (genNf C (suc i) k))) (sym (cond-lt k i _ _ l)) (shows-map m pos Ψ (diagonal-shows k l) (sym (gen-below R (𝓢 R) k l))))
-        (subst (λ M. Shows m Ψ r r M (raised (S R) F (𝓢 R) (genNf C (suc i) i))) (sym (cond-ge i i _ _ (omega arith))) (shows-map m pos Ψ cycle-shows (sym (gen-last R (𝓢 R)))))
+        (λ k l. subst (λ M. Shows m Ψ r r M (raised (S R) F (𝓢 R) (genNf C (suc i) k))) (sym (cond-lt k i _ _ l))
+        (shows-map m pos Ψ (diagonal-shows k l) (sym (gen-below R (𝓢 R) k l))))
+        (subst (λ M. Shows m Ψ r r M (raised (S R) F (𝓢 R) (genNf C (suc i) i))) (sym (cond-ge i i _ _ (omega arith)))
+        (shows-map m pos Ψ cycle-shows (sym (gen-last R (𝓢 R)))))

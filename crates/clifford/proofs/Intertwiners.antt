@@ -116,8 +116,10 @@ module _ (R : Rung) where
             let M′ = member R s s-below s-moved s-own a′ (mapped-to a e) in
             let pw : position (O R) (rep R a′) * deg R s + column a′ ≡ position (O R) (to (rep R a)) * d + column a′
             = ap₂ (λ x y. position (O R) x * y + column a′) (F .maps-to j (omega arith) jn a) s-degree in
-            ap (λ t. col (Steps.lift (Steps.position (P R) m i L (Steps.target (P R) m i L j t) * d) (scale m (k b) (repOf L t .matrix j))) (column a)) (orb-back R r h mv own a e)
-            ∙ lift-col _ (scale m (k b) (repOf L (rep R a) .matrix j)) (column a) (subst (λ z. column a < z) (sym (scale-length m (k b) (repOf L (rep R a) .matrix j))) l)
+            ap (λ t. col (Steps.lift (Steps.position (P R) m i L (Steps.target (P R) m i L j t) * d) (scale m (k b) (repOf L t .matrix j)))
+            (column a)) (orb-back R r h mv own a e)
+            ∙ lift-col _ (scale m (k b) (repOf L (rep R a) .matrix j)) (column a)
+            (subst (λ z. column a < z) (sym (scale-length m (k b) (repOf L (rep R a) .matrix j))) l)
             ∙ ap₂ (λ u (x : Entry). entry (u * d + x .row) (x .exp)) (position-same R _ ∙ ap (position (O R)) (literal (rep R a)))
             (scale-col m (k b) (repOf L (rep R a) .matrix j) (column a) l ∙ ap (λ (x : Entry). entry (x .row) ((x .exp + k b) % m)) (sh .shown a refl))
             ∙ entry-path (sym (ap (wide R) (is a e .0) ∙ M′ .wide-is ∙ pw)) (sym (is a e .1))
@@ -137,7 +139,8 @@ module _ (R : Rung) where
     pub right-shows : Shows m (Ψ R) r (leader (O R) (F .target j r)) (Steps.rightSide (P R) m i L j r) (Y (S R) F (𝓢 R) *′ F .X j)
     unfolding Steps.rightSide
     right-shows =
-        subst (λ t. Shows m (Ψ R) r s (product m (Steps.blockCycle (P R) m i L t) (Steps.blockIntertwiner (P R) m i L j r (λ b. 0))) (Y (S R) F (𝓢 R) *′ F .X j))
+        subst (λ t. Shows m (Ψ R) r s (product m (Steps.blockCycle (P R) m i L t) (Steps.blockIntertwiner (P R) m i L j r (λ b. 0)))
+        (Y (S R) F (𝓢 R) *′ F .X j))
         (sym (leader-same R _ ∙ ap (leader (O R)) (literal r)))
         (shows-mul m pos (Ψ R) (cycle-shows R s s-below s-moved s-own) plain-shows)
 
@@ -156,9 +159,11 @@ module _ (R : Rung) where
     unfolding member-of
     member-wide b l =
         of (member-of b) (member-leader b) .wide-is
-        ∙ ap₂ (λ x y. x * d + y) (ap (position (O R)) (member-rep b) ∙ position-of R r h mv own b l) (firstOf-column R (iter (τ R) b r) (decLt (iter (τ R) b r) (N R))) ∙ add-zero _
+        ∙ ap₂ (λ x y. x * d + y) (ap (position (O R)) (member-rep b) ∙ position-of R r h mv own b l)
+        (firstOf-column R (iter (τ R) b r) (decLt (iter (τ R) b r) (N R))) ∙ add-zero _
 
-    pub at-block : {t : ℕ} {M : Matrix} {B : Map (E R) Ω} → Shows m (Ψ R) r t M B → (b : ℕ) → b < p R → col M (b * deg R r) ≡ entry (wide R ((B (member-of b)) .0)) ((B (member-of b)) .1 .0)
+    pub at-block : {t : ℕ} {M : Matrix} {B : Map (E R) Ω} → Shows m (Ψ R) r t M B → (b : ℕ) → b < p R
+        → col M (b * deg R r) ≡ entry (wide R ((B (member-of b)) .0)) ((B (member-of b)) .1 .0)
     at-block {t} {M} sh b l = ap (col M) (sym (member-wide b l)) ∙ sh .shown (member-of b) (member-leader b)
 
     -- ---- The blocks along generator i
@@ -169,7 +174,8 @@ module _ (R : Rung) where
         let a : Ω = (φ (S R) F (𝓢 R) j ij jn (member-of b)) .0 in
         let M = of a (conj-shows .maps-to (member-of b) (member-leader b)) in
         ap (λ (x : Entry). x .row / d) (at-block conj-shows b l) ∙ ap (λ z. z / d) (M .wide-is) ∙ digits-div (position (O R) (rep R a)) (M .column-lt)
-        ∙ ap (position (O R)) (φ-maps (S R) F (𝓢 R) j ij jn (member-of b) ∙ ap (iter (τ R) A) (member-rep b) ∙ iter-add (τ R) b A r) ∙ position-mod R r h mv own (b + A)
+        ∙ ap (position (O R)) (φ-maps (S R) F (𝓢 R) j ij jn (member-of b) ∙ ap (iter (τ R) A) (member-rep b) ∙ iter-add (τ R) b A r)
+        ∙ position-mod R r h mv own (b + A)
 
     pub block-after : (t : ℕ) → Steps.blockAfter (P R) m i L j r t ≡ (S R .shift j * t) % p R
     unfolding Steps.blockAfter
@@ -202,7 +208,8 @@ module _ (R : Rung) where
         let l : b < p R = mod-lt _ (omega (arith, two)) in
         let a : Ω = member-of b in
         let y : Residue m = ((Y (S R) F (𝓢 R) *′ F .X j) a) .1 in
-        ap (λ k. less m (Steps.scalarAfter (P R) m i L j r t + col (Steps.rightSide (P R) m i L j r) (k * d) .exp) (col (Steps.leftSide (P R) m i L j r) (k * d) .exp)) (block-after t)
+        ap (λ k. less m (Steps.scalarAfter (P R) m i L j r t + col (Steps.rightSide (P R) m i L j r) (k * d) .exp)
+        (col (Steps.leftSide (P R) m i L j r) (k * d) .exp)) (block-after t)
         ∙ ap₂ (λ (x z : Entry). less m (Steps.scalarAfter (P R) m i L j r t + x .exp) (z .exp)) (at-block right-shows b l) (at-block left-shows b l)
         ∙ ap₂ (λ x z. less m (x + y .0) (z .1 .0)) (scalar-after t) (q-eq (S R) F (𝓢 R) j ij jn a)
         ∙ forced (q (S R) F (𝓢 R) j ij jn a) y (total (E R) g t)
@@ -221,7 +228,8 @@ module _ (R : Rung) where
         ∙ ap (λ z. z .0) (sym (c-moved (S R) m pos F (ready R) j ij jn (rep R a) (of a e .moved)))
 
     -- the intertwiner of the steps
-    pub mapped-shows : {B : Map (E R) Ω} → ((a : Ω) → leader (O R) (rep R a) ≡ r → B a ≡ ((F .X j a) .0, residues m pos .add ((F .X j a) .1) (c (S R) m pos F (ready R) j ij jn (rep R a))))
+    pub mapped-shows : {B : Map (E R) Ω}
+        → ((a : Ω) → leader (O R) (rep R a) ≡ r → B a ≡ ((F .X j a) .0, residues m pos .add ((F .X j a) .1) (c (S R) m pos F (ready R) j ij jn (rep R a))))
         → Shows m (Ψ R) r (leader (O R) (F .target j r)) (Steps.blockIntertwiner (P R) m i L j r (Steps.c (P R) m i L j r)) B
     mapped-shows is = intertwiner-shows (Steps.c (P R) m i L j r) (λ a e. (
       ap (λ z. z .0) (is a e),

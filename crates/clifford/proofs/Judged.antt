@@ -78,7 +78,8 @@ module _ (C : Context) (tests : (k : ℕ) → k < C .P .n → Test C k) (m : ℕ
   form-shows : (r : ℕ) → r < length L → (x : Nf C i) → Shows m Φ r r (image m (Rp r) i (x .0)) (F .d x)
   form-shows r h x = shows-map m pos Φ (word-shows r i h (omega arith) (x .0)) (ap (F .d) (group T i l .gen-value x))
 
-  conj-shows : (r k j : ℕ) → r < length L → k < i → Shows m Φ r r (conjugate m P (Rp r) k j) (F .d (level C i .mul (genNf C i k) (value (level C i) (genNf C i) (suc k) (P .w k j))))
+  conj-shows : (r k j : ℕ) → r < length L → k < i
+      → Shows m Φ r r (conjugate m P (Rp r) k j) (F .d (level C i .mul (genNf C i k) (value (level C i) (genNf C i) (suc k) (P .w k j))))
   unfolding conjugate
   conj-shows r k j h a = shows-map m pos Φ (shows-mul m pos Φ (St .represents k a r h) (word-shows r (suc k) h a (P .w k j))) (sym (F .hom .on-mul _ _))
 
@@ -87,14 +88,17 @@ module _ (C : Context) (tests : (k : ℕ) → k < C .P .n → Test C k) (m : ℕ
   power-holds : (r j : ℕ) → r < length L → j < i → Judgement.powerHolds P m table (Rp r) j ≡ true
   unfolding Judgement.powerHolds
   power-holds r j h a =
-      same-shown m pos Φ complete h (shows-map m pos Φ (shows-power m pos Φ refl (St .represents j a r h) (P .p j)) (sym (power-hom (F .hom) (genNf C i j) (P .p j)) ∙ ap (F .d) (group T i l .satisfies .powers j a)))
+      same-shown m pos Φ complete h
+      (shows-map m pos Φ (shows-power m pos Φ refl (St .represents j a r h) (P .p j))
+      (sym (power-hom (F .hom) (genNf C i j) (P .p j)) ∙ ap (F .d) (group T i l .satisfies .powers j a)))
       (word-shows r j h (omega arith) (P .u j))
 
   commutator-holds : (r k j : ℕ) → r < length L → k < j → j < i → Judgement.commutatorHolds P m table (Rp r) k j ≡ true
   unfolding Judgement.commutatorHolds
   commutator-holds r k j h a b =
       same-shown m pos Φ complete h
-      (shows-map m pos Φ (shows-mul m pos Φ (St .represents k (omega arith) r h) (St .represents j b r h)) (sym (F .hom .on-mul _ _) ∙ ap (F .d) (group T i l .satisfies .commutators k j a b) ∙ F .hom .on-mul _ _))
+      (shows-map m pos Φ (shows-mul m pos Φ (St .represents k (omega arith) r h) (St .represents j b r h))
+      (sym (F .hom .on-mul _ _) ∙ ap (F .d) (group T i l .satisfies .commutators k j a b) ∙ F .hom .on-mul _ _))
       (shows-mul m pos Φ (St .represents j b r h) (conj-shows r k j h (omega arith)))
 
   pub relations-hold : (r : ℕ) → r < length (levelAt (C .P .n) table i) → Judgement.relationsHold (C .P) m table i (repOf (levelAt (C .P .n) table i) r) ≡ true
@@ -112,8 +116,10 @@ module _ (C : Context) (tests : (k : ℕ) → k < C .P .n → Test C k) (m : ℕ
       let ref : Rp r .ref j 0 ≡ F .target j r = St .refers j a b r h 0 (St .degree-pos r h) in
       and-intro _ _ (eq-eqb _ _ (ap (λ z. Rp z .deg) ref ∙ St .degree-target j a b r h)) (allBelow-intro i _ (λ k c.
       same-shown m pos Φ complete h
-      (shows-map m pos Φ (shows-mul m pos Φ (St .intertwines j a b r h) (conj-shows r k j h c)) (ap (λ z. F .X j *′ F .d z) (sym (group T i l .conj-gen j a k c)) ∙ F .past j a b (genNf C i k)))
-      (subst (λ z. Shows m Φ r (F .target j r) (product m (Rp z .matrix k) (Rp r .matrix j)) (D k *′ F .X j)) (sym ref) (shows-mul m pos Φ (St .represents k c (F .target j r) (target-in j a b r h)) (St .intertwines j a b r h)))))
+      (shows-map m pos Φ (shows-mul m pos Φ (St .intertwines j a b r h) (conj-shows r k j h c))
+      (ap (λ z. F .X j *′ F .d z) (sym (group T i l .conj-gen j a k c)) ∙ F .past j a b (genNf C i k)))
+      (subst (λ z. Shows m Φ r (F .target j r) (product m (Rp z .matrix k) (Rp r .matrix j)) (D k *′ F .X j)) (sym ref)
+      (shows-mul m pos Φ (St .represents k c (F .target j r) (target-in j a b r h)) (St .intertwines j a b r h)))))
 
   below-or : (j : ℕ) (q : Bool) → (i ≤ j → q ≡ true) → ltb j i || q ≡ true
   below-or j q h = go (decLt j i)
@@ -122,7 +128,8 @@ module _ (C : Context) (tests : (k : ℕ) → k < C .P .n → Test C k) (m : ℕ
       go (yes a) = or-left (ltb j i) q (lt-ltb j i a)
       go (no a) = or-right (ltb j i) q (h (omega arith))
 
-  pub intertwiners-hold : (r : ℕ) → r < length (levelAt (C .P .n) table i) → Judgement.intertwinersHold (C .P) m table i (repOf (levelAt (C .P .n) table i) r) ≡ true
+  pub intertwiners-hold : (r : ℕ) → r < length (levelAt (C .P .n) table i)
+      → Judgement.intertwinersHold (C .P) m table i (repOf (levelAt (C .P .n) table i) r) ≡ true
   unfolding Judgement.intertwinersHold
   intertwiners-hold r h = allBelow-intro n _ (λ j b. below-or j _ (λ a. intertwines-holds r j h a b))
 
@@ -159,21 +166,25 @@ module _ (C : Context) (tests : (k : ℕ) → k < C .P .n → Test C k) (m : ℕ
     home : (x : Ω) → iter (F .target j) N (F .rep x) ≡ F .rep x
     home x =
         sym (rep-power F (F .target j) (F .X j) (F .maps-to j a b) N x)
-        ∙ ap (F .rep) (commuting-fixes F (power (maps (residues m pos) Ω) (F .X j) N) (power-commutes F (F .X j) (conjNf C i j) (F .past j a b) N (conj-period T i j a b)) x)
+        ∙ ap (F .rep) (commuting-fixes F (power (maps (residues m pos) Ω) (F .X j) N)
+        (power-commutes F (F .X j) (conjNf C i j) (F .past j a b) N (conj-period T i j a b)) x)
 
     -- different representations are mapped to different ones
     target-injective : (x y : Ω) → F .target j (F .rep x) ≡ F .target j (F .rep y) → F .rep x ≡ F .rep y
     target-injective x y q = back x ∙ ap (iter (F .target j) (N - 1)) q ∙ sym (back y)
       where
         back : (x : Ω) → F .rep x ≡ iter (F .target j) (N - 1) (F .target j (F .rep x))
-        back x = let e : N ≡ suc (N - 1) = omega (arith, order-positive C (suc j)) in sym (home x) ∙ ap (λ k. iter (F .target j) k (F .rep x)) e ∙ iter-suc (F .target j) (N - 1) (F .rep x)
+        back x = let e : N ≡ suc (N - 1) = omega (arith, order-positive C (suc j)) in sym (home x) ∙ ap (λ k. iter (F .target j) k (F .rep x)) e
+            ∙ iter-suc (F .target j) (N - 1) (F .rep x)
 
     X-back : (r : ℕ) → r < length L → (x : Ω) → F .rep x ≡ F .target j r → F .rep ((X-inverse .to x) .0) ≡ r
     X-back r h x q =
         let y : Ω = (X-inverse .to x) .0 in
         let z : Ω = complete .find r 0 h (St .degree-pos r h) in
         let rz : F .rep z ≡ r = complete .find-rep r 0 h (St .degree-pos r h) in
-        let there : (F .X j y) .0 ≡ x = ap (λ z. z .0) (sym (at-mul (residues m pos) (F .X j) (X-inverse .to) x) ∙ at-column (residues m pos) (X-inverse .right) x ∙ at-one (residues m pos) x) in
+        let there : (F .X j y) .0 ≡ x =
+        ap (λ z. z .0) (sym (at-mul (residues m pos) (F .X j) (X-inverse .to) x) ∙ at-column (residues m pos) (X-inverse .right) x
+        ∙ at-one (residues m pos) x) in
         target-injective y z (sym (F .maps-to j a b y) ∙ ap (F .rep) there ∙ q ∙ ap (F .target j) (sym rz)) ∙ rz
 
   matrix-valid : (r g : ℕ) → r < length L → g < n → valid m (Rp r .deg) (Rp r .matrix g) ≡ true
@@ -182,12 +193,14 @@ module _ (C : Context) (tests : (k : ℕ) → k < C .P .n → Test C k) (m : ℕ
     where
       go : Dec (g < i) → valid m (Rp r .deg) (Rp r .matrix g) ≡ true
       go (yes a) = shows-valid m pos Φ complete h (St .represents g a r h) (D-inverse g) h refl (λ x q. F .inside _ x ∙ q)
-      go (no a) = shows-valid m pos Φ complete h (St .intertwines g (omega arith) b r h) (X-inverse g (omega arith) b) (target-in g (omega arith) b r h) (St .degree-target g (omega arith) b r h) (X-back g (omega arith) b r h)
+      go (no a) = shows-valid m pos Φ complete h (St .intertwines g (omega arith) b r h) (X-inverse g (omega arith) b)
+          (target-in g (omega arith) b r h) (St .degree-target g (omega arith) b r h) (X-back g (omega arith) b r h)
 
   pub valid-holds : (r : ℕ) → r < length (levelAt (C .P .n) table i) → Judgement.matricesValid (C .P) m table i (repOf (levelAt (C .P .n) table i) r) ≡ true
   unfolding Judgement.matricesValid
   valid-holds r h =
-      and-intro _ _ (and-intro _ _ (lt-ltb _ _ (St .degree-pos r h)) (le-leb _ _ (subst (λ z. Rp r .deg * Rp r .deg ≤ z) (St .squares) (term-le (λ r. Rp r .deg * Rp r .deg) (length L) r h))))
+      and-intro _ _ (and-intro _ _ (lt-ltb _ _ (St .degree-pos r h))
+      (le-leb _ _ (subst (λ z. Rp r .deg * Rp r .deg ≤ z) (St .squares) (term-le (λ r. Rp r .deg * Rp r .deg) (length L) r h))))
       (allBelow-intro n _ (λ g b. matrix-valid r g h b))
 
   pub listed-holds : (r : ℕ) → r < length (levelAt (C .P .n) table i) → Judgement.targetsListed (C .P) m table i (repOf (levelAt (C .P .n) table i) r) ≡ true
@@ -195,4 +208,5 @@ module _ (C : Context) (tests : (k : ℕ) → k < C .P .n → Test C k) (m : ℕ
   listed-holds r h = allBelow-intro n _ (λ j b. below-or j _ (λ a.
       let ref : (c : ℕ) → c < Rp r .deg → Rp r .ref j c ≡ F .target j r = λ c e. St .refers j a b r h c e in
       let zero-ref = ref 0 (St .degree-pos r h) in
-      and-intro _ _ (lt-ltb _ _ (subst (λ z. z < length L) (sym zero-ref) (target-in j a b r h))) (allBelow-intro (Rp r .deg) _ (λ c e. eq-eqb _ _ (ref c e ∙ sym zero-ref)))))
+      and-intro _ _ (lt-ltb _ _ (subst (λ z. z < length L) (sym zero-ref) (target-in j a b r h)))
+      (allBelow-intro (Rp r .deg) _ (λ c e. eq-eqb _ _ (ref c e ∙ sym zero-ref)))))

@@ -62,8 +62,11 @@ module _ (C : Context) (i : ℕ) where
       × (restNf (level C (suc i) .mul x z) ≡ level C i .mul (uNf C i) (level C i .mul (iter (conjNf C i i) (exponentNf z) (restNf x)) (restNf z)))
   unfolding level uNf
   mul-over x z l =
-      let q = mul-suc (C .P) i (x .0) (z .0) ∙ mulStep-over (C .P .p i) (mul (C .P) i) (conj (C .P) i i) (C .P .u i) (x .0) (z .0) l in
-      (ap (λ t. t .0) q, Nf-path C i _ _ (ap (λ t. t .1) q ∙ ap (λ t. mul (C .P) i (C .P .u i) (mul (C .P) i t (z .0 .1))) (sym (conj-iter (z .0 .0) (restNf x)))))
+      let q = mul-suc (C .P) i (x .0) (z .0) ∙ mulStep-over (C .P .p i) (mul (C .P) i) (conj (C .P) i i) (C .P .u i) (x .0) (z .0) l in (
+        ap (λ t. t .0) q,
+        Nf-path C i _ _
+            (ap (λ t. t .1) q ∙ ap (λ t. mul (C .P) i (C .P .u i) (mul (C .P) i t (z .0 .1))) (sym (conj-iter (z .0 .0) (restNf x)))),
+      )
 
   module _ {M : Type 0} {𝓜 : Mul M} (𝓛 : Laws 𝓜) (d : Nf C i → M) (H : Hom (level C i) 𝓜 d) (y : M)
       (past : (x : Nf C i) → 𝓜 .mul y (d (conjNf C i i x)) ≡ 𝓜 .mul (d x) y) (root : power 𝓜 y (C .P .p i) ≡ d (uNf C i)) where
@@ -79,17 +82,22 @@ module _ (C : Context) (i : ℕ) where
         ap₂ (_*_) (power-add 𝓛 y a b) (H .on-mul _ _) ∙ assoc _ _ _
         ∙ ap (λ s. pow a * s) (sym (assoc _ _ _) ∙ ap (λ s. s * d h) (iter-past 𝓛 d y (conjNf C i i) past b g) ∙ assoc _ _ _) ∙ sym (assoc _ _ _)
 
-    raise-mul : (x z : Nf C (suc i)) → pow (exponentNf (level C (suc i) .mul x z)) * d (restNf (level C (suc i) .mul x z)) ≡ pow (exponentNf x) * d (restNf x) * (pow (exponentNf z) * d (restNf z))
+    raise-mul : (x z : Nf C (suc i)) → pow (exponentNf (level C (suc i) .mul x z)) * d (restNf (level C (suc i) .mul x z))
+        ≡ pow (exponentNf x) * d (restNf x) * (pow (exponentNf z) * d (restNf z))
     raise-mul x z = go (decLt (exponentNf x + exponentNf z) (C .P .p i))
       where
         go : Dec (exponentNf x + exponentNf z < C .P .p i)
-            → pow (exponentNf (level C (suc i) .mul x z)) * d (restNf (level C (suc i) .mul x z)) ≡ pow (exponentNf x) * d (restNf x) * (pow (exponentNf z) * d (restNf z))
+            → pow (exponentNf (level C (suc i) .mul x z)) * d (restNf (level C (suc i) .mul x z))
+            ≡ pow (exponentNf x) * d (restNf x) * (pow (exponentNf z) * d (restNf z))
         go (yes l) = let (a, b) = mul-below x z l in ap₂ (λ s t. pow s * d t) a b ∙ together _ _ _ _
         go (no l) =
             let (a, b) = mul-over x z (omega arith) in
             let e : exponentNf x + exponentNf z - C .P .p i + C .P .p i ≡ exponentNf x + exponentNf z = omega arith in
-            ap₂ (λ s t. pow s * d t) a b ∙ ap (λ s. pow (exponentNf x + exponentNf z - C .P .p i) * s) (H .on-mul _ _ ∙ ap (λ s. s * d (level C i .mul (iter (conjNf C i i) (exponentNf z) (restNf x)) (restNf z))) (sym root))
-            ∙ sym (assoc _ _ _) ∙ ap (λ s. s * d (level C i .mul (iter (conjNf C i i) (exponentNf z) (restNf x)) (restNf z))) (sym (power-add 𝓛 y _ _) ∙ ap pow e) ∙ together _ _ _ _
+            ap₂ (λ s t. pow s * d t) a b
+            ∙ ap (λ s. pow (exponentNf x + exponentNf z - C .P .p i) * s)
+            (H .on-mul _ _ ∙ ap (λ s. s * d (level C i .mul (iter (conjNf C i i) (exponentNf z) (restNf x)) (restNf z))) (sym root))
+            ∙ sym (assoc _ _ _) ∙ ap (λ s. s * d (level C i .mul (iter (conjNf C i i) (exponentNf z) (restNf x)) (restNf z)))
+            (sym (power-add 𝓛 y _ _) ∙ ap pow e) ∙ together _ _ _ _
 
     pub raise : Hom (level C (suc i)) 𝓜 (λ x. 𝓜 .mul (power 𝓜 y (exponentNf x)) (d (restNf x)))
     unfolding level trivial

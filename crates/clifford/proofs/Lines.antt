@@ -73,18 +73,21 @@ module _ (W : LevelsListed) where
   rep-words : (k r : ℕ) → length (repWords n (suc k) r (repOf (L k) r)) ≡ lineWords * repLines k r
   unfolding repWords repLines
   rep-words k r =
-      length-even (λ g. blocks (deg k r) (λ c. line k r g c)) (deg k r * lineWords) n (λ g l. length-even (λ c. line k r g c) lineWords (deg k r) (λ c a. line-length k r g c))
+      length-even (λ g. blocks (deg k r) (λ c. line k r g c)) (deg k r * lineWords) n
+      (λ g l. length-even (λ c. line k r g c) lineWords (deg k r) (λ c a. line-length k r g c))
       ∙ omega arith
 
   level-words : (k : ℕ) → length (levelWords n (suc k) (L k)) ≡ lineWords * levelLines k
   unfolding levelWords levelLines
   level-words k =
-      length-blocks (length (L k)) (λ r. repWords n (suc k) r (repOf (L k) r)) ∙ sum-below (length (L k)) _ (λ r. lineWords * repLines k r) (λ r l. rep-words k r)
+      length-blocks (length (L k)) (λ r. repWords n (suc k) r (repOf (L k) r))
+      ∙ sum-below (length (L k)) _ (λ r. lineWords * repLines k r) (λ r l. rep-words k r)
       ∙ sum-mul (length (L k)) lineWords (repLines k)
 
   pub table-length : length table ≡ lineWords * sum n levelLines
   unfolding table
-  table-length = length-blocks n (λ k. levelWords n (suc k) (L k)) ∙ sum-below n _ (λ k. lineWords * levelLines k) (λ k l. level-words k) ∙ sum-mul n lineWords levelLines
+  table-length = length-blocks n (λ k. levelWords n (suc k) (L k)) ∙ sum-below n _ (λ k. lineWords * levelLines k) (λ k l. level-words k)
+      ∙ sum-mul n lineWords levelLines
 
   pub line-count : lineCount table ≡ sum n levelLines
   unfolding lineCount lineWords
@@ -106,18 +109,22 @@ module _ (W : LevelsListed) where
     in-level : getD (levelWords n (suc k) (L k)) (lineWords * (sum r (repLines k) + (g * deg k r + c)) + w) 0 ≡ getD (line k r g c) w 0
     unfolding levelWords repLines
     in-level =
-        let start : sum r (λ r. length (repWords n (suc k) r (repOf (L k) r))) ≡ lineWords * sum r (repLines k) = sum-below r _ (λ r. lineWords * repLines k r) (λ r l. rep-words k r) ∙ sum-mul r lineWords (repLines k) in
+        let start : sum r (λ r. length (repWords n (suc k) r (repOf (L k) r))) ≡ lineWords * sum r (repLines k) =
+        sum-below r _ (λ r. lineWords * repLines k r) (λ r l. rep-words k r) ∙ sum-mul r lineWords (repLines k) in
         let e : lineWords * (sum r (repLines k) + (g * deg k r + c)) + w ≡ lineWords * sum r (repLines k) + (lineWords * (g * deg k r + c) + w) = omega arith in
         let gl : g * deg k r + c < n * deg k r = digits-lt g-below c-below in
         let l : lineWords * (g * deg k r + c) + w < lineWords * repLines k r = omega (arith, mul-le-mul-left lineWords gl) in
-        ap (λ z. getD (blocks (length (L k)) (λ r. repWords n (suc k) r (repOf (L k) r))) z 0) (e ∙ ap (λ z. z + (lineWords * (g * deg k r + c) + w)) (sym start))
-        ∙ getD-blocks 0 (length (L k)) (λ r. repWords n (suc k) r (repOf (L k) r)) r (lineWords * (g * deg k r + c) + w) r-below (subst (λ z. lineWords * (g * deg k r + c) + w < z) (sym (rep-words k r)) l)
+        ap (λ z. getD (blocks (length (L k)) (λ r. repWords n (suc k) r (repOf (L k) r))) z 0)
+        (e ∙ ap (λ z. z + (lineWords * (g * deg k r + c) + w)) (sym start))
+        ∙ getD-blocks 0 (length (L k)) (λ r. repWords n (suc k) r (repOf (L k) r)) r (lineWords * (g * deg k r + c) + w) r-below
+        (subst (λ z. lineWords * (g * deg k r + c) + w < z) (sym (rep-words k r)) l)
         ∙ in-rep
 
     pub word-at : wordAt table (lineNumber k r g c) w ≡ getD (lineOf (suc k) r (repOf (L k) r) g c) w 0
     unfolding wordAt table lineNumber repLines levelLines
     word-at =
-        let start : sum k (λ k. length (levelWords n (suc k) (L k))) ≡ lineWords * sum k levelLines = sum-below k _ (λ k. lineWords * levelLines k) (λ k l. level-words k) ∙ sum-mul k lineWords levelLines in
+        let start : sum k (λ k. length (levelWords n (suc k) (L k))) ≡ lineWords * sum k levelLines =
+        sum-below k _ (λ k. lineWords * levelLines k) (λ k l. level-words k) ∙ sum-mul k lineWords levelLines in
         let κ : ℕ = sum r (repLines k) + (g * deg k r + c) in
         let e : lineWords * (sum k levelLines + κ) + w ≡ lineWords * sum k levelLines + (lineWords * κ + w) = omega arith in
         let gl : g * deg k r + c < repLines k r = digits-lt g-below c-below in
@@ -134,11 +141,14 @@ module _ (W : LevelsListed) where
     pick l = cond (begins table (suc i) l) (wordAt table l 2 ∷ []) []
 
     -- the line of a level, representation, generator and column
-    pick-at : (k r g c : ℕ) → k < n → r < length (L k) → g < n → c < deg k r → pick (lineNumber k r g c) ≡ cond (eqb (suc k) (suc i) && eqb (suc g) 1 && eqb c 0) (deg k r ∷ []) []
+    pick-at : (k r g c : ℕ) → k < n → r < length (L k) → g < n → c < deg k r
+        → pick (lineNumber k r g c) ≡ cond (eqb (suc k) (suc i) && eqb (suc g) 1 && eqb c 0) (deg k r ∷ []) []
     unfolding pick begins lineWords lineOf
     pick-at k r g c a b d e =
         let w : (x : ℕ) → x < lineWords → wordAt table (lineNumber k r g c) x ≡ getD (line k r g c) x 0 = λ x l. word-at k r g c x a b d e l in
-        ap₂ (λ t x. cond t (x ∷ []) []) (ap₂ (_&&_) (ap₂ (λ x y. eqb x (suc i) && eqb y 1) (w 0 (omega arith)) (w 3 (omega arith))) (ap (λ x. eqb x 0) (w 5 (omega arith)))) (w 2 (omega arith))
+        ap₂ (λ t x. cond t (x ∷ []) [])
+        (ap₂ (_&&_) (ap₂ (λ x y. eqb x (suc i) && eqb y 1) (w 0 (omega arith)) (w 3 (omega arith))) (ap (λ x. eqb x 0) (w 5 (omega arith))))
+        (w 2 (omega arith))
 
     abbrev chosen : ℕ → ℕ → ℕ → ℕ → List ℕ
     chosen k r g c = cond (eqb (suc k) (suc i) && eqb (suc g) 1 && eqb c 0) (deg k r ∷ []) []
@@ -152,10 +162,16 @@ module _ (W : LevelsListed) where
 
     -- nothing is chosen but the first column of the first generator of level i
     other-level : (k r g c : ℕ) → ¬ (k ≡ i) → chosen k r g c ≡ []
-    other-level k r g c ne = cond-false _ (deg k r ∷ []) [] (and-false (eqb (suc k) (suc i) && eqb (suc g) 1) (eqb c 0) (and-false (eqb (suc k) (suc i)) (eqb (suc g) 1) (ne-eqb (suc k) (suc i) (λ e. ne (omega arith)))))
+    other-level k r g c ne =
+        cond-false _ (deg k r ∷ []) []
+        (and-false (eqb (suc k) (suc i) && eqb (suc g) 1) (eqb c 0)
+        (and-false (eqb (suc k) (suc i)) (eqb (suc g) 1) (ne-eqb (suc k) (suc i) (λ e. ne (omega arith)))))
 
     other-generator : (k r g c : ℕ) → ¬ (g ≡ 0) → chosen k r g c ≡ []
-    other-generator k r g c ne = cond-false _ (deg k r ∷ []) [] (and-false (eqb (suc k) (suc i) && eqb (suc g) 1) (eqb c 0) (and-right-false (eqb (suc k) (suc i)) (eqb (suc g) 1) (ne-eqb (suc g) 1 (λ e. ne (omega arith)))))
+    other-generator k r g c ne =
+        cond-false _ (deg k r ∷ []) []
+        (and-false (eqb (suc k) (suc i) && eqb (suc g) 1) (eqb c 0)
+        (and-right-false (eqb (suc k) (suc i)) (eqb (suc g) 1) (ne-eqb (suc g) 1 (λ e. ne (omega arith)))))
 
     other-column : (k r g c : ℕ) → ¬ (c ≡ 0) → chosen k r g c ≡ []
     other-column k r g c ne = cond-false _ (deg k r ∷ []) [] (and-right-false (eqb (suc k) (suc i) && eqb (suc g) 1) (eqb c 0) (ne-eqb c 0 ne))
@@ -171,7 +187,8 @@ module _ (W : LevelsListed) where
         ∙ blocks-stretches (λ g. deg k r) n (λ κ. pick (sum k levelLines + (sum r (repLines k) + κ)))
         ∙ blocks-below n _ (λ g. blocks (deg k r) (chosen k r g)) (λ g l. blocks-below (deg k r) _ (chosen k r g) (λ c e.
         ap (λ z. pick (sum k levelLines + (sum r (repLines k) + (z + c)))) (sum-const g (deg k r)) ∙ pick-at k r g c a b l e))
-        ∙ blocks-single n (λ g. blocks (deg k r) (chosen k r g)) 0 (W .positive) (λ g l ne. blocks-none (deg k r) (chosen k r g) (λ c e. other-generator k r g c ne))
+        ∙ blocks-single n (λ g. blocks (deg k r) (chosen k r g)) 0 (W .positive)
+        (λ g l ne. blocks-none (deg k r) (chosen k r g) (λ c e. other-generator k r g c ne))
         ∙ blocks-single (deg k r) (chosen k r 0) 0 (W .degree-pos k r a b) (λ c l ne. other-column k r 0 c ne)
 
     of-level : (k : ℕ) → k < n → blocks (levelLines k) (λ κ. pick (sum k levelLines + κ)) ≡ blocks (length (L k)) (λ r. chosen k r 0 0)
@@ -185,7 +202,8 @@ module _ (W : LevelsListed) where
     degrees-are =
         ap (λ z. blocks z pick) line-count ∙ blocks-stretches levelLines n pick
         ∙ blocks-below n _ (λ k. blocks (length (L k)) (λ r. chosen k r 0 0)) (λ k l. of-level k l)
-        ∙ blocks-single n (λ k. blocks (length (L k)) (λ r. chosen k r 0 0)) i i-below (λ k l ne. blocks-none (length (L k)) (λ r. chosen k r 0 0) (λ r e. other-level k r 0 0 ne))
+        ∙ blocks-single n (λ k. blocks (length (L k)) (λ r. chosen k r 0 0)) i i-below
+        (λ k l ne. blocks-none (length (L k)) (λ r. chosen k r 0 0) (λ r e. other-level k r 0 0 ne))
         ∙ blocks-below (length (L i)) (λ r. chosen i r 0 0) (λ r. deg i r ∷ []) (λ r l. the-one r)
 
     pub degrees-length : length (degrees table (suc i)) ≡ length (L i)
@@ -205,9 +223,11 @@ module _ (W : LevelsListed) where
   pub first-line : (i r : ℕ) → i < n → r ≤ length (L i) → firstLine n table (suc i) r ≡ sum i levelLines + sum r (repLines i)
   unfolding firstLine columns repLines levelLines
   first-line i r a b =
-      ap₂ (λ x y. n * (x + y)) (sum-below i _ (λ k. sum (length (L k)) (deg k)) (λ k l. all-columns k (omega arith))) (sum-below r _ (deg i) (λ q l. degrees-at i a q (omega arith)))
+      ap₂ (λ x y. n * (x + y)) (sum-below i _ (λ k. sum (length (L k)) (deg k)) (λ k l. all-columns k (omega arith)))
+      (sum-below r _ (deg i) (λ q l. degrees-at i a q (omega arith)))
       ∙ mul-add n (sum i (λ k. sum (length (L k)) (deg k))) (sum r (deg i))
-      ∙ ap₂ (_+_) (sym (sum-below i levelLines (λ k. n * sum (length (L k)) (deg k)) (λ k l. sum-mul (length (L k)) n (deg k)) ∙ sum-mul i n (λ k. sum (length (L k)) (deg k)))) (sym (sum-mul r n (deg i)))
+      ∙ ap₂ (_+_) (sym (sum-below i levelLines (λ k. n * sum (length (L k)) (deg k)) (λ k l. sum-mul (length (L k)) n (deg k))
+      ∙ sum-mul i n (λ k. sum (length (L k)) (deg k)))) (sym (sum-mul r n (deg i)))
 
   -- ---- Read back
 
@@ -221,10 +241,12 @@ module _ (W : LevelsListed) where
     rep-read : (r : ℕ) → r < length (L i) → repOf M r ≡ repAt table (start r) (deg i r)
     unfolding repOf levelAt start
     rep-read r l =
-        getD-table (λ r. repAt table (firstLine n table (suc i) r) (getD (degrees table (suc i)) r 0)) (length (degrees table (suc i))) r noRep (subst (λ z. r < z) (sym (degrees-length i i-below)) l)
+        getD-table (λ r. repAt table (firstLine n table (suc i) r) (getD (degrees table (suc i)) r 0)) (length (degrees table (suc i))) r noRep
+        (subst (λ z. r < z) (sym (degrees-length i i-below)) l)
         ∙ ap₂ (repAt table) (first-line i r i-below (omega arith)) (degrees-at i i-below r l)
 
-    word-read : (r g c w : ℕ) → r < length (L i) → g < n → c < deg i r → w < lineWords → wordAt table (start r + g * deg i r + c) w ≡ getD (lineOf (suc i) r (repOf (L i) r) g c) w 0
+    word-read : (r g c w : ℕ) → r < length (L i) → g < n → c < deg i r → w < lineWords
+        → wordAt table (start r + g * deg i r + c) w ≡ getD (lineOf (suc i) r (repOf (L i) r) g c) w 0
     unfolding start lineNumber
     word-read r g c w a b d e =
         let q : sum i levelLines + sum r (repLines i) + g * deg i r + c ≡ sum i levelLines + (sum r (repLines i) + (g * deg i r + c)) = omega arith in

@@ -95,7 +95,8 @@ module _ (R : Rung) where
 
   raised-number : (x : Index R) (w : Nf C (suc i)) → number R x < made R (leader (O R) (rep R ((raised (S R) F (𝓨 (number R x)) w (base R x)) .0)))
   raised-number x w =
-      subst (λ s. number R x < made R s) (sym (ap (leader (O R)) (raised-maps (S R) F (𝓨 (number R x)) w (base R x)) ∙ leader-iter (O R) _ (rep R (base R x)) (rep-below R (base R x)))) (x .1)
+      subst (λ s. number R x < made R s)
+      (sym (ap (leader (O R)) (raised-maps (S R) F (𝓨 (number R x)) w (base R x)) ∙ leader-iter (O R) _ (rep R (base R x)) (rep-below R (base R x)))) (x .1)
 
   unfoldable pub next-d : Nf (T .context) (suc i) → Map (E R) (Index R)
   unfolding raised-number
@@ -114,10 +115,12 @@ module _ (R : Rung) where
 
         go : Dec (τ R r ≡ r) → ν′ r (number R x) < made R (leader (O R) (F .target j r))
         go (yes f) =
-            subst (λ s. ν′ r (number R x) < s) (sym (made-of-fixed R (F .target j r) (target-below j ij jn r (rep-below R (base R x))) (target-fixed j ij jn r (rep-below R (base R x)) f)))
+            subst (λ s. ν′ r (number R x) < s)
+            (sym (made-of-fixed R (F .target j r) (target-below j ij jn r (rep-below R (base R x))) (target-fixed j ij jn r (rep-below R (base R x)) f)))
             (ν-below (S R) m pos F (ready R) j ij jn r (number R x))
         go (no f) =
-            subst (λ s. ν′ r (number R x) < s) (sym (made-of R (F .target j r) (target-below j ij jn r (rep-below R (base R x))) (target-moved j ij jn r (rep-below R (base R x)) f)))
+            subst (λ s. ν′ r (number R x) < s)
+            (sym (made-of R (F .target j r) (target-below j ij jn r (rep-below R (base R x))) (target-moved j ij jn r (rep-below R (base R x)) f)))
             (omega (arith, ν-moved (S R) m pos F (ready R) j ij jn r (number R x) f))
 
     unfoldable pub mapped : Map (E R) (Index R)
@@ -151,17 +154,21 @@ module _ (R : Rung) where
     literal-target : (r : ℕ) → Steps.target (P R) m i L j r ≡ F .target j r
     literal-target r = ap (λ t. t r) (target-same R j)
 
-    ref-fixed : τ R rx ≡ rx → next-target j (next-rep R x) ≡ sum to-rx (made R) + (log m pos (parts (S R) m pos F (ready R)) (q̂ (S R) m pos F (ready R) j ij jn rx) + number R x * A j) % p R
+    ref-fixed : τ R rx ≡ rx
+        → next-target j (next-rep R x)
+        ≡ sum to-rx (made R) + (log m pos (parts (S R) m pos F (ready R)) (q̂ (S R) m pos F (ready R) j ij jn rx) + number R x * A j) % p R
     unfolding Steps.extension Steps.a
     ref-fixed f =
         ap (λ (D : Rep). D .ref j 0) (rep-fixed R x f) ∙ above _ _
-        ∙ ap₂ (λ s l. s + (l + number R x * A j) % p R) (start-same R _ ∙ ap (λ r. sum r (made R)) (literal-target rx)) (l-is R j ij jn rx (rep-below R (base R x)) f)
+        ∙ ap₂ (λ s l. s + (l + number R x * A j) % p R) (start-same R _ ∙ ap (λ r. sum r (made R)) (literal-target rx))
+        (l-is R j ij jn rx (rep-below R (base R x)) f)
 
     ref-moved : ¬ (τ R rx ≡ rx) → next-target j (next-rep R x) ≡ sum (leader (O R) to-rx) (made R)
     unfolding Steps.induction
     ref-moved f =
         ap (λ (D : Rep). D .ref j 0) (rep-moved R x f) ∙ above _ _ ∙ start-same R _
-        ∙ ap (λ s. sum s (made R)) (leader-same R _ ∙ ap (leader (O R)) (literal-target (leader (O R) rx)) ∙ target-leader j ij jn rx (rep-below R (base R x)) f)
+        ∙ ap (λ s. sum s (made R))
+        (leader-same R _ ∙ ap (leader (O R)) (literal-target (leader (O R) rx)) ∙ target-leader j ij jn rx (rep-below R (base R x)) f)
 
     mapped-target : next-rep R ((mapped j ij jn x) .0) ≡ next-target j (next-rep R x)
     unfolding mapped next-rep
@@ -170,9 +177,11 @@ module _ (R : Rung) where
         start : sum (leader (O R) (rep R ((F .X j (base R x)) .0))) (made R) ≡ sum (leader (O R) to-rx) (made R)
         start = ap (λ s. sum (leader (O R) s) (made R)) (F .maps-to j (omega arith) jn (base R x))
 
-        go : Dec (τ R rx ≡ rx) → sum (leader (O R) (rep R ((F .X j (base R x)) .0))) (made R) + ν (S R) m pos F (ready R) j ij jn rx (number R x) ≡ next-target j (next-rep R x)
+        go : Dec (τ R rx ≡ rx) → sum (leader (O R) (rep R ((F .X j (base R x)) .0))) (made R) + ν (S R) m pos F (ready R) j ij jn rx (number R x)
+            ≡ next-target j (next-rep R x)
         go (yes f) =
-            ap₂ (_+_) (start ∙ ap (λ s. sum s (made R)) (leader-fixed (O R) to-rx (target-below j ij jn rx (rep-below R (base R x))) (target-fixed j ij jn rx (rep-below R (base R x)) f)))
+            ap₂ (_+_) (start ∙ ap (λ s. sum s (made R))
+            (leader-fixed (O R) to-rx (target-below j ij jn rx (rep-below R (base R x))) (target-fixed j ij jn rx (rep-below R (base R x)) f)))
             (ν-fixed (S R) m pos F (ready R) j ij jn rx (number R x) f) ∙ sym (ref-fixed f)
         go (no f) =
             let z : sum (leader (O R) to-rx) (made R) + 0 ≡ sum (leader (O R) to-rx) (made R) = omega arith in
@@ -180,7 +189,8 @@ module _ (R : Rung) where
 
   -- ---- The step
 
-  same-orbit : (x y : Index R) → leader (O R) (rep R (base R x)) ≡ leader (O R) (rep R (base R y)) → (k : ℕ) × (iter (τ R) k (rep R (base R x)) ≡ rep R (base R y))
+  same-orbit : (x y : Index R) → leader (O R) (rep R (base R x)) ≡ leader (O R) (rep R (base R y))
+      → (k : ℕ) × (iter (τ R) k (rep R (base R x)) ≡ rep R (base R y))
   same-orbit x y e =
       let r : ℕ = rep R (base R x) in
       let h : r < N R = rep-below R (base R x) in
@@ -189,7 +199,8 @@ module _ (R : Rung) where
       let b′ : ℕ = position (O R) (rep R (base R y)) in
       let w : b + (p R - b) ≡ p R = omega arith in
       let back : iter (τ R) (p R - b) r ≡ leader (O R) r
-      = ap (iter (τ R) (p R - b)) (sym (position-back (O R) r h)) ∙ iter-add (τ R) b (p R - b) (leader (O R) r) ∙ ap (λ k. iter (τ R) k (leader (O R) r)) w ∙ O R .home (leader (O R) r) (leader-below (O R) r h) in
+      = ap (iter (τ R) (p R - b)) (sym (position-back (O R) r h)) ∙ iter-add (τ R) b (p R - b) (leader (O R) r)
+      ∙ ap (λ k. iter (τ R) k (leader (O R) r)) w ∙ O R .home (leader (O R) r) (leader-below (O R) r h) in
       (p R - b + b′, sym (iter-add (τ R) (p R - b) b′ r) ∙ ap (iter (τ R) b′) (back ∙ e) ∙ position-back (O R) (rep R (base R y)) (rep-below R (base R y)))
 
   pub step : StepUp (S R) F (𝓢 R) (ρ R) (base R) (number R) next-d next-X (next-rep R) next-target
@@ -219,7 +230,9 @@ module _ (R : Rung) where
       up : (j : ℕ) (ij : i < j) (jn : j < T .n) (x : Index R)
           → At (E R) (base R) (number R) (next-X j x) ((F .X j (base R x)) .0) (ν (S R) m pos F (ready R) j ij jn (rep R (base R x)) (number R x))
           (E R .add ((F .X j (base R x)) .1) (c (S R) m pos F (ready R) j ij jn (rep R (base R x))))
-      up j ij jn x = subst (λ (f : Map (E R) (Index R)). At (E R) (base R) (number R) (f x) ((F .X j (base R x)) .0) (ν (S R) m pos F (ready R) j ij jn (rep R (base R x)) (number R x))
+      up j ij jn x = subst
+          (λ (f : Map (E R) (Index R)). At (E R) (base R) (number R) (f x) ((F .X j (base R x)) .0)
+          (ν (S R) m pos F (ready R) j ij jn (rep R (base R x)) (number R x))
           (E R .add ((F .X j (base R x)) .1) (c (S R) m pos F (ready R) j ij jn (rep R (base R x)))))
           (sym (next-X-is j ij jn)) (unfold mapped in (record { is-base = refl; is-number = refl; is-exponent = refl }))
 

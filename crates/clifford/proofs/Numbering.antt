@@ -53,7 +53,8 @@ module _ (R : Rung) where
   abbrev pub τ : ℕ → ℕ
   τ = F .target i
 
-  abbrev pub S : Extension (level (R .T .context) (R .i)) (level (R .T .context) (suc (R .i))) (conjNf (R .T .context) (R .i)) (conjNf (R .T .context) (suc (R .i))) (R .i) (R .T .n)
+  abbrev pub S : Extension (level (R .T .context) (R .i)) (level (R .T .context) (suc (R .i))) (conjNf (R .T .context) (R .i))
+      (conjNf (R .T .context) (suc (R .i))) (R .i) (R .T .n)
   S = extension (R .T) (R .i) (R .in-range)
 
   -- ---- Ready for the scalars
@@ -205,7 +206,14 @@ module _ (R : Rung) where
   pub source : (r : ℕ) → r < length next → GivenBy r
   source r l =
       let o = owner made N r (subst (λ z. r < z) next-length l) in
-      record { s = o .s; κ = o .κ; s-below = o .s-below; κ-below = o .κ-below; is = o .is; own = own-leader (o .s) (o .κ) (o .s-below) (o .κ-below) (ℕ-discrete (τ (o .s)) (o .s)) (ℕ-discrete (leader O (o .s)) (o .s)) }
+      record {
+        s = o .s;
+        κ = o .κ;
+        s-below = o .s-below;
+        κ-below = o .κ-below;
+        is = o .is;
+        own = own-leader (o .s) (o .κ) (o .s-below) (o .κ-below) (ℕ-discrete (τ (o .s)) (o .s)) (ℕ-discrete (leader O (o .s)) (o .s));
+      }
     where
       own-leader : (s κ : ℕ) → s < N → κ < made s → Dec (τ s ≡ s) → Dec (leader O s ≡ s) → leader O s ≡ s
       own-leader s κ h l (yes f) d = leader-fixed O s h f

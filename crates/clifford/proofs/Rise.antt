@@ -45,7 +45,8 @@ module _ (R : Rung) where
 
   -- ---- From the orbits to the next level
 
-  pub shows-above : (s t κ r′ t′ : ℕ) (M : Matrix) (A : Map (E R) Ω) (A′ : Map (E R) (Index R)) → κ < made R s → sum s (made R) + κ ≡ r′ → Shows m (Ψ R) s t M A → spread R s ≡ repOf (next R) r′ .deg
+  pub shows-above : (s t κ r′ t′ : ℕ) (M : Matrix) (A : Map (E R) Ω) (A′ : Map (E R) (Index R)) → κ < made R s → sum s (made R) + κ ≡ r′
+      → Shows m (Ψ R) s t M A → spread R s ≡ repOf (next R) r′ .deg
       → ((x : Index R) → leader (O R) (rep R (base R x)) ≡ s → number R x ≡ κ → (base R ((A′ x) .0) ≡ (A (base R x)) .0) × ((A′ x) .1 ≡ (A (base R x)) .1))
       → ((x : Index R) → next-rep R x ≡ r′ → next-rep R ((A′ x) .0) ≡ t′) → Shows m (next-frame R) r′ t′ M A′
   unfolding next-rep
@@ -87,7 +88,16 @@ module _ (R : Rung) where
           split : Dec (τ R (o .s) ≡ o .s) → Q
           split (yes f) =
               let l : o .κ < p R = subst (λ z. o .κ < z) (made-fixed R (o .s) f) (o .κ-below) in
-              ext (record { s = o .s; κ = o .κ; s-below = o .s-below; κ-below = o .κ-below; κ-small = l; is = o .is; fixed = f; rep-is = ap (repOf (next R)) (sym (o .is)) ∙ given-fixed R (o .s) (o .κ) (o .s-below) f l })
+              ext (record {
+                s = o .s;
+                κ = o .κ;
+                s-below = o .s-below;
+                κ-below = o .κ-below;
+                κ-small = l;
+                is = o .is;
+                fixed = f;
+                rep-is = ap (repOf (next R)) (sym (o .is)) ∙ given-fixed R (o .s) (o .κ) (o .s-below) f l;
+              })
           split (no f) =
               let l : o .κ < 1 = subst (λ z. o .κ < z) (made-leader R (o .s) f (o .own)) (o .κ-below) in
               let z : o .κ ≡ 0 = omega arith in
@@ -149,18 +159,24 @@ module _ (R : Rung) where
 
   -- what the maps of the next level lie above
   d-above : (g : Nf C (suc i)) (κ : ℕ) (x : Index R) → number R x ≡ κ
-      → (base R ((next-d R g x) .0) ≡ (raised (S R) F (numbered (S R) F (𝓢 R) (ρ R) κ) g (base R x)) .0) × ((next-d R g x) .1 ≡ (raised (S R) F (numbered (S R) F (𝓢 R) (ρ R) κ) g (base R x)) .1)
+      → (base R ((next-d R g x) .0) ≡ (raised (S R) F (numbered (S R) F (𝓢 R) (ρ R) κ) g (base R x)) .0)
+      × ((next-d R g x) .1 ≡ (raised (S R) F (numbered (S R) F (𝓢 R) (ρ R) κ) g (base R x)) .1)
   unfolding next-d
-  d-above g κ x b = (ap (λ κ. (raised (S R) F (numbered (S R) F (𝓢 R) (ρ R) κ) g (base R x)) .0) b, ap (λ κ. (raised (S R) F (numbered (S R) F (𝓢 R) (ρ R) κ) g (base R x)) .1) b)
+  d-above g κ x b = (
+    ap (λ κ. (raised (S R) F (numbered (S R) F (𝓢 R) (ρ R) κ) g (base R x)) .0) b,
+    ap (λ κ. (raised (S R) F (numbered (S R) F (𝓢 R) (ρ R) κ) g (base R x)) .1) b,
+  )
 
   mapped-above : (j : ℕ) (ij : suc i ≤ j) (jn : j < T .n) (x : Index R)
-      → (base R ((mapped R j ij jn x) .0) ≡ (F .X j (base R x)) .0) × ((mapped R j ij jn x) .1 ≡ E R .add ((F .X j (base R x)) .1) (c (S R) m pos F (ready R) j ij jn (rep R (base R x))))
+      → (base R ((mapped R j ij jn x) .0) ≡ (F .X j (base R x)) .0)
+      × ((mapped R j ij jn x) .1 ≡ E R .add ((F .X j (base R x)) .1) (c (S R) m pos F (ready R) j ij jn (rep R (base R x))))
   unfolding mapped
   mapped-above j ij jn x = (refl, refl)
 
   -- ---- Generators of the level
 
-  pub next-represents : (k : ℕ) → k < suc i → (r′ : ℕ) → r′ < length (next R) → Shows m (next-frame R) r′ r′ (repOf (next R) r′ .matrix k) (family R .d (genNf (T .context) (suc i) k))
+  pub next-represents : (k : ℕ) → k < suc i → (r′ : ℕ) → r′ < length (next R)
+      → Shows m (next-frame R) r′ r′ (repOf (next R) r′ .matrix k) (family R .d (genNf (T .context) (suc i) k))
   next-represents k l r′ h = at-source (Shows m (next-frame R) r′ r′ (repOf (next R) r′ .matrix k) (family R .d g)) r′ h ext ind
     where
       g : Nf C (suc i)
@@ -171,7 +187,8 @@ module _ (R : Rung) where
 
       ext : Extended r′ → Shows m (next-frame R) r′ r′ (repOf (next R) r′ .matrix k) (family R .d g)
       ext e =
-          subst (λ (M : Matrix). Shows m (next-frame R) r′ r′ M (family R .d g)) (sym (ap (λ (D : Rep). D .matrix k) (e .rep-is) ∙ extension-low (e .s) (e .κ) k l))
+          subst (λ (M : Matrix). Shows m (next-frame R) r′ r′ M (family R .d g))
+          (sym (ap (λ (D : Rep). D .matrix k) (e .rep-is) ∙ extension-low (e .s) (e .κ) k l))
           (shows-above (e .s) (e .s) (e .κ) r′ r′ _ (raised (S R) F (numbered (S R) F (𝓢 R) (ρ R) (e .κ)) g) (family R .d g) (e .κ-below) (e .is)
           (fixed-spreads R (e .fixed) (e .s-below) (e .fixed) (base-shows R (e .s) (e .κ) (e .s-below) (e .fixed) k l)) (extended-degree r′ e)
           (λ x a b. d-above g (e .κ) x b) inside)
@@ -179,8 +196,12 @@ module _ (R : Rung) where
       ind : Induced r′ → Shows m (next-frame R) r′ r′ (repOf (next R) r′ .matrix k) (family R .d g)
       ind e =
           subst (λ (M : Matrix). Shows m (next-frame R) r′ r′ M (family R .d g)) (sym (ap (λ (D : Rep). D .matrix k) (e .rep-is) ∙ induction-low (e .s) k l))
-          (shows-above (e .s) (e .s) 0 r′ r′ _ (raised (S R) F (𝓢 R) g) (family R .d g) (e .κ-below) (e .is) (induced-shows R (e .s) (e .s-below) (e .moved) (e .own) k l) (induced-degree r′ e)
-          (λ x a b. let (y, z) = d-above g 0 x b in (y ∙ ap (λ f. (f g (base R x)) .0) (numbered-zero (S R) F (𝓢 R) (ρ R)), z ∙ ap (λ f. (f g (base R x)) .1) (numbered-zero (S R) F (𝓢 R) (ρ R)))) inside)
+          (shows-above (e .s) (e .s) 0 r′ r′ _ (raised (S R) F (𝓢 R) g) (family R .d g) (e .κ-below) (e .is)
+          (induced-shows R (e .s) (e .s-below) (e .moved) (e .own) k l) (induced-degree r′ e)
+          (λ x a b. let (y, z) = d-above g 0 x b in (
+            y ∙ ap (λ f. (f g (base R x)) .0) (numbered-zero (S R) F (𝓢 R) (ρ R)),
+            z ∙ ap (λ f. (f g (base R x)) .1) (numbered-zero (S R) F (𝓢 R) (ρ R)),
+          )) inside)
 
   -- ---- Generators above
 
@@ -199,17 +220,24 @@ module _ (R : Rung) where
 
         ext : Extended r′ → Shows m (next-frame R) r′ (next-target R j r′) (repOf (next R) r′ .matrix j) (mapped R j ij jn)
         ext e =
-            subst (λ (M : Matrix). Shows m (next-frame R) r′ (next-target R j r′) M (mapped R j ij jn)) (sym (ap (λ (D : Rep). D .matrix j) (e .rep-is) ∙ extension-up (e .s) (e .κ) j ij))
+            subst (λ (M : Matrix). Shows m (next-frame R) r′ (next-target R j r′) M (mapped R j ij jn))
+            (sym (ap (λ (D : Rep). D .matrix j) (e .rep-is) ∙ extension-up (e .s) (e .κ) j ij))
             (shows-above (e .s) (F .target j (e .s)) (e .κ) r′ (next-target R j r′) (repOf L (e .s) .matrix j) (F .X j) (mapped R j ij jn) (e .κ-below) (e .is)
-            (fixed-spreads R (e .fixed) (target-below R j ij jn (e .s) (e .s-below)) (target-fixed R j ij jn (e .s) (e .s-below) (e .fixed)) (stands .intertwines j (omega arith) jn (e .s) (e .s-below))) (extended-degree r′ e)
-            (λ x a b. let (y, z) = mapped-above j ij jn x in (y, z ∙ ap (E R .add ((F .X j (base R x)) .1)) (c-fixed (S R) m pos F (ready R) j ij jn (rep R (base R x)) (fixed-at e x a)) ∙ idr (E R) _)) maps-to)
+            (fixed-spreads R (e .fixed) (target-below R j ij jn (e .s) (e .s-below)) (target-fixed R j ij jn (e .s) (e .s-below) (e .fixed))
+            (stands .intertwines j (omega arith) jn (e .s) (e .s-below))) (extended-degree r′ e)
+            (λ x a b. let (y, z) = mapped-above j ij jn x in (
+              y,
+              z ∙ ap (E R .add ((F .X j (base R x)) .1)) (c-fixed (S R) m pos F (ready R) j ij jn (rep R (base R x)) (fixed-at e x a))
+                  ∙ idr (E R) _,
+            )) maps-to)
           where
             fixed-at : (e : Extended r′) (x : Index R) → leaderAt x ≡ e .s → τ R (rep R (base R x)) ≡ rep R (base R x)
             fixed-at e x a = subst (λ s. τ R s ≡ s) (sym (rep-of-fixed R (base R x) (e .s) a (e .fixed))) (e .fixed)
 
         ind : Induced r′ → Shows m (next-frame R) r′ (next-target R j r′) (repOf (next R) r′ .matrix j) (mapped R j ij jn)
         ind e =
-            subst (λ (M : Matrix). Shows m (next-frame R) r′ (next-target R j r′) M (mapped R j ij jn)) (sym (ap (λ (D : Rep). D .matrix j) (e .rep-is) ∙ induction-up (e .s) j ij))
+            subst (λ (M : Matrix). Shows m (next-frame R) r′ (next-target R j r′) M (mapped R j ij jn))
+            (sym (ap (λ (D : Rep). D .matrix j) (e .rep-is) ∙ induction-up (e .s) j ij))
             (shows-above (e .s) (leader (O R) (F .target j (e .s))) 0 r′ (next-target R j r′) _ scaled (mapped R j ij jn) (e .κ-below) (e .is)
             (mapped-shows R j ij jn (e .s) (e .s-below) (e .moved) (e .own) (λ a q. refl)) (induced-degree r′ e) (λ x a b. mapped-above j ij jn x) maps-to)
 

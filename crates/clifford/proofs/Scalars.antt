@@ -98,7 +98,8 @@ module _ {G G⁺ : Type 0} {𝓖 : Mul G} {𝓖⁺ : Mul G⁺} {conj : ℕ → G
         fixed : τ (rep a) ≡ rep a → total 𝓔 (λ k. σ (iter τ k (rep a))) p ≡ neg (T a)
         fixed f =
             total-ext 𝓔 (λ k. σ (iter τ k (rep a))) (λ k. σ (rep a)) p (λ k h. ap σ (iter-fix τ (rep a) f k)) ∙ ap (times 𝓔 p) (σ-fixed (rep a) f)
-            ∙ (part-times m pos parts (neg (T (first (rep a)))) (neg-divides m pos parts (T (first (rep a))) (subst (λ s. p ∣ s .0) (sym (T-first a)) (T-divides a f))))
+            ∙ (part-times m pos parts (neg (T (first (rep a))))
+            (neg-divides m pos parts (T (first (rep a))) (subst (λ s. p ∣ s .0) (sym (T-first a)) (T-divides a f))))
             ∙ ap neg (T-first a)
 
         -- only the last position of the orbit counts
@@ -200,12 +201,14 @@ module _ {G G⁺ : Type 0} {𝓖 : Mul G} {𝓖⁺ : Mul G⁺} {conj : ℕ → G
           ∙ around S F normed j ij jn a
 
       pub log-q : (a : Ω) → τ (rep a) ≡ rep a → times 𝓔 (log m pos parts (q̂ (rep a))) (unit m pos parts) ≡ q̂ (rep a)
-      log-q a f = log-times m pos parts (q̂ (rep a)) (total-ext 𝓔 (λ k. q̂ (rep a)) (λ k. q̂ (iter τ (A * k) (rep a))) p (λ k h. ap q̂ (sym (iter-fix τ (rep a) f (A * k)))) ∙ cycle a)
+      log-q a f = log-times m pos parts (q̂ (rep a))
+          (total-ext 𝓔 (λ k. q̂ (rep a)) (λ k. q̂ (iter τ (A * k) (rep a))) p (λ k h. ap q̂ (sym (iter-fix τ (rep a) f (A * k)))) ∙ cycle a)
 
       abbrev ε : Residue m
       ε = unit m pos parts
 
-      closes-fixed : (a : Ω) (κ : ℕ) → τ (rep a) ≡ rep a → add (Qj a) (add (times 𝓔 A (times 𝓔 κ ε)) (c (iter τ A (rep a)))) ≡ add (c (rep a)) (times 𝓔 (ν (rep a) κ) ε)
+      closes-fixed : (a : Ω) (κ : ℕ) → τ (rep a) ≡ rep a → add (Qj a) (add (times 𝓔 A (times 𝓔 κ ε)) (c (iter τ A (rep a))))
+          ≡ add (c (rep a)) (times 𝓔 (ν (rep a) κ) ε)
       closes-fixed a κ f =
           let w : A * κ ≡ κ * A = omega arith in
           ap (λ s. add (Qj a) (add (times 𝓔 A (times 𝓔 κ ε)) s)) (ap c (iter-fix τ (rep a) f A) ∙ c-fixed (rep a) f) ∙ ap (add (Qj a)) (idr 𝓔 _)
@@ -216,7 +219,8 @@ module _ {G G⁺ : Type 0} {𝓖 : Mul G} {𝓖⁺ : Mul G⁺} {conj : ℕ → G
       pub closes-moved : (a : Ω) → ¬ (τ (rep a) ≡ rep a) → add (q S F normed j ij jn a) (c (iter τ A (rep a))) ≡ c (rep a)
       closes-moved a mv =
           ap (add (Qj a)) (c-moved (iter τ A r) (iter-moved orbits A r (rep-below a) mv)
-          ∙ ap₂ (λ o s. neg (total 𝓔 (λ k. q̂ (iter τ (A * k) o)) s)) (leader-iter orbits A r (rep-below a)) (paces-next orbits A (unit-shift a mv) r (rep-below a) mv))
+          ∙ ap₂ (λ o s. neg (total 𝓔 (λ k. q̂ (iter τ (A * k) o)) s)) (leader-iter orbits A r (rep-below a))
+          (paces-next orbits A (unit-shift a mv) r (rep-below a) mv))
           ∙ go (decLt (e + 1) p) ∙ sym (c-moved r mv)
         where
           r : ℕ
@@ -232,7 +236,8 @@ module _ {G G⁺ : Type 0} {𝓖 : Mul G} {𝓖⁺ : Mul G⁺} {conj : ℕ → G
           q-here = sym (q-first a) ∙ ap q̂ (sym (paces-back orbits A (unit-shift a mv) r (rep-below a)))
 
           leader-cycle : total 𝓔 g p ≡ nil
-          leader-cycle = subst (λ o. total 𝓔 (λ k. q̂ (iter τ (A * k) o)) p ≡ nil) (first-rep (leader orbits r) (leader-below orbits r (rep-below a))) (cycle (first (leader orbits r)))
+          leader-cycle = subst (λ o. total 𝓔 (λ k. q̂ (iter τ (A * k) o)) p ≡ nil)
+              (first-rep (leader orbits r) (leader-below orbits r (rep-below a))) (cycle (first (leader orbits r)))
 
           swap₃ : (s x y : Residue m) → add s (add x y) ≡ add (add x s) y
           swap₃ s x y = simp (𝓔 .assoc, 𝓔 .comm, lcomm 𝓔)
@@ -241,20 +246,25 @@ module _ {G G⁺ : Type 0} {𝓖 : Mul G} {𝓖⁺ : Mul G⁺} {conj : ℕ → G
           step = neg-of 𝓔 _ _ (swap₃ _ _ _ ∙ 𝓔 .negr _)
 
           go : Dec (e + 1 < p) → add (Qj a) (neg (total 𝓔 g ((e + 1) % p))) ≡ neg (total 𝓔 g e)
-          go (yes h) = let w : (e + 1) % p ≡ suc e = mod-eq-of-lt h ∙ omega arith in ap₂ (λ s k. add s (neg (total 𝓔 g k))) q-here w ∙ ap (λ s. add (g e) (neg s)) (total-suc 𝓔 g e) ∙ step
+          go (yes h) = let w : (e + 1) % p ≡ suc e = mod-eq-of-lt h ∙ omega arith in ap₂ (λ s k. add s (neg (total 𝓔 g k))) q-here w
+              ∙ ap (λ s. add (g e) (neg s)) (total-suc 𝓔 g e) ∙ step
           go (no h) =
               let b : e < p = paces-below orbits A (unit-shift a mv) r (rep-below a) in
               let w : p ≡ suc e = omega arith in
               let w₂ : e + 1 ≡ p = omega arith in
               let z : (e + 1) % p ≡ 0 = ap (λ x. x % p) w₂ ∙ mod-self p in
-              ap₂ (λ s k. add s (neg (total 𝓔 g k))) q-here z ∙ ap (λ s. add (g e) (neg s)) (total-zero 𝓔 g ∙ sym (ap (total 𝓔 g) (sym w) ∙ leader-cycle) ∙ total-suc 𝓔 g e) ∙ step
+              ap₂ (λ s k. add s (neg (total 𝓔 g k))) q-here z
+              ∙ ap (λ s. add (g e) (neg s)) (total-zero 𝓔 g ∙ sym (ap (total 𝓔 g) (sym w) ∙ leader-cycle) ∙ total-suc 𝓔 g e) ∙ step
 
       pub closes : (a : Ω) (κ : ℕ) → (¬ (τ (rep a) ≡ rep a) → κ ≡ 0)
-          → add (q S F normed j ij jn a) (add (times 𝓔 A (times 𝓔 κ (unit m pos parts))) (c (iter τ A (rep a)))) ≡ add (c (rep a)) (times 𝓔 (ν (rep a) κ) (unit m pos parts))
+          → add (q S F normed j ij jn a) (add (times 𝓔 A (times 𝓔 κ (unit m pos parts))) (c (iter τ A (rep a))))
+          ≡ add (c (rep a)) (times 𝓔 (ν (rep a) κ) (unit m pos parts))
       closes a κ plain = go (ℕ-discrete (τ (rep a)) (rep a))
         where
           go : Dec (τ (rep a) ≡ rep a) → add (Qj a) (add (times 𝓔 A (times 𝓔 κ ε)) (c (iter τ A (rep a)))) ≡ add (c (rep a)) (times 𝓔 (ν (rep a) κ) ε)
           go (yes f) = closes-fixed a κ f
           go (no f) =
-              ap (λ s. add (Qj a) (add s (c (iter τ A (rep a))))) (ap (λ k. times 𝓔 A (times 𝓔 k ε)) (plain f) ∙ ap (times 𝓔 A) (total-zero 𝓔 (λ k. ε)) ∙ times-nil 𝓔 A)
-              ∙ ap (add (Qj a)) (𝓔 .idl _) ∙ closes-moved a f ∙ sym (ap (add (c (rep a))) (ap (λ k. times 𝓔 k ε) (ν-moved (rep a) κ f) ∙ total-zero 𝓔 (λ k. ε)) ∙ idr 𝓔 _)
+              ap (λ s. add (Qj a) (add s (c (iter τ A (rep a)))))
+              (ap (λ k. times 𝓔 A (times 𝓔 k ε)) (plain f) ∙ ap (times 𝓔 A) (total-zero 𝓔 (λ k. ε)) ∙ times-nil 𝓔 A)
+              ∙ ap (add (Qj a)) (𝓔 .idl _) ∙ closes-moved a f
+              ∙ sym (ap (add (c (rep a))) (ap (λ k. times 𝓔 k ε) (ν-moved (rep a) κ f) ∙ total-zero 𝓔 (λ k. ε)) ∙ idr 𝓔 _)

@@ -71,7 +71,8 @@ any-forms P (suc i) q x v h =
 
 -- ---- A level in any frame
 
-module _ (C : Context) (m : ℕ) (pos : 0 < m) (table : List ℕ) (i : ℕ) {Ω : Type 0} {rep column : Ω → ℕ} (below : (a : Ω) → column a < repOf (levelAt (C .P .n) table i) (rep a) .deg)
+module _ (C : Context) (m : ℕ) (pos : 0 < m) (table : List ℕ) (i : ℕ) {Ω : Type 0} {rep column : Ω → ℕ}
+    (below : (a : Ω) → column a < repOf (levelAt (C .P .n) table i) (rep a) .deg)
     (K : Complete (frame (levelAt (C .P .n) table i) rep column below) (length (levelAt (C .P .n) table i))) (d : Nf C i → Map (residues m pos) Ω)
     (shows : (r : ℕ) → r < length (levelAt (C .P .n) table i) → (x : Nf C i)
     → Shows m (frame (levelAt (C .P .n) table i) rep column below) r r (image m (repOf (levelAt (C .P .n) table i) r) i (x .0)) (d x)) where
@@ -84,13 +85,15 @@ module _ (C : Context) (m : ℕ) (pos : 0 < m) (table : List ℕ) (i : ℕ) {Ω 
   abbrev Rp : ℕ → Rep
   Rp r = repOf L r
 
-  reach-holds : (r k : ℕ) (h : r < length L) (o : 0 < Rp r .deg) (a : k < Rp r .deg) → (w : Nf C i) × ((d w (K .find r 0 h o)) .0 ≡ K .find r k h a) → Judgement.reaches P m table i (Rp r) k ≡ true
+  reach-holds : (r k : ℕ) (h : r < length L) (o : 0 < Rp r .deg) (a : k < Rp r .deg) → (w : Nf C i) × ((d w (K .find r 0 h o)) .0 ≡ K .find r k h a)
+      → Judgement.reaches P m table i (Rp r) k ≡ true
   unfolding Judgement.reaches
   reach-holds r k h o a (w, e) =
       any-forms P i _ (w .0) (w .1) (eq-eqb _ _ (ap (λ z. col (image m (Rp r) i (w .0)) z .row) (sym (K .find-column r 0 h o))
       ∙ ap (λ (y : Entry). y .row) (shows r h w .shown (K .find r 0 h o) (K .find-rep r 0 h o)) ∙ ap column e ∙ K .find-column r k h a))
 
-  pair-holds : (r k r′ k′ : ℕ) (h : r < length L) (a : k < Rp r .deg) (h′ : r′ < length L) (a′ : k′ < Rp r′ .deg) → Separated (residues m pos) Ω d (K .find r k h a) (K .find r′ k′ h′ a′)
+  pair-holds : (r k r′ k′ : ℕ) (h : r < length L) (a : k < Rp r .deg) (h′ : r′ < length L) (a′ : k′ < Rp r′ .deg)
+      → Separated (residues m pos) Ω d (K .find r k h a) (K .find r′ k′ h′ a′)
       → any (Judgement.tells P m table i (Rp r) k (Rp r′) k′) (Judgement.allForms P i) ≡ true
   unfolding Judgement.tells
   pair-holds r k r′ k′ h a h′ a′ s =
@@ -98,11 +101,15 @@ module _ (C : Context) (m : ℕ) (pos : 0 < m) (table : List ℕ) (i : ℕ) {Ω 
       let y′ : col (image m (Rp r′) i (s .by .0)) k′ ≡ entry k′ (s .y .0) = at r′ k′ h′ a′ (s .by) (s .y) (s .fixes′) in
       any-forms P i _ (s .by .0) (s .by .1)
       (and-intro _ _ (and-intro _ _ (eq-eqb _ _ (ap (λ (z : Entry). z .row) y)) (eq-eqb _ _ (ap (λ (z : Entry). z .row) y′)))
-      (ap not (ne-eqb _ _ (λ e. s .differ (Residue-path m (s .x) (s .y) (sym (mod-eq-of-lt (s .x .1)) ∙ sym (ap (λ (z : Entry). z .exp % m) y) ∙ e ∙ ap (λ (z : Entry). z .exp % m) y′ ∙ mod-eq-of-lt (s .y .1)))))))
+      (ap not (ne-eqb _ _ (λ e. s .differ
+      (Residue-path m (s .x) (s .y)
+      (sym (mod-eq-of-lt (s .x .1)) ∙ sym (ap (λ (z : Entry). z .exp % m) y) ∙ e ∙ ap (λ (z : Entry). z .exp % m) y′ ∙ mod-eq-of-lt (s .y .1)))))))
     where
-      at : (r k : ℕ) (h : r < length L) (a : k < Rp r .deg) (w : Nf C i) (x : Residue m) → d w (K .find r k h a) ≡ (K .find r k h a, x) → col (image m (Rp r) i (w .0)) k ≡ entry k (x .0)
+      at : (r k : ℕ) (h : r < length L) (a : k < Rp r .deg) (w : Nf C i) (x : Residue m) → d w (K .find r k h a) ≡ (K .find r k h a, x)
+          → col (image m (Rp r) i (w .0)) k ≡ entry k (x .0)
       at r k h a w x f =
-          ap (col (image m (Rp r) i (w .0))) (sym (K .find-column r k h a)) ∙ shows r h w .shown (K .find r k h a) (K .find-rep r k h a) ∙ ap (λ z. entry (column (z .0)) (z .1 .0)) f
+          ap (col (image m (Rp r) i (w .0))) (sym (K .find-column r k h a)) ∙ shows r h w .shown (K .find r k h a) (K .find-rep r k h a)
+          ∙ ap (λ z. entry (column (z .0)) (z .1 .0)) f
           ∙ ap (λ z. entry z (x .0)) (K .find-column r k h a)
 
   pub separates-from : (r : ℕ) (h : r < length (levelAt (C .P .n) table i)) (o : 0 < repOf (levelAt (C .P .n) table i) r .deg)
@@ -110,13 +117,18 @@ module _ (C : Context) (m : ℕ) (pos : 0 < m) (table : List ℕ) (i : ℕ) {Ω 
       → ((x y : Ω) → ¬ (x ≡ y) → Separated (residues m pos) Ω d x y) → Judgement.separates (C .P) m table i r ≡ true
   unfolding Judgement.separates
   separates-from r h o reach sep =
-      allBelow-intro (Rp r .deg) _ (λ k a. and-intro _ _ (reach-holds r k h o a (reach k a)) (allBelow-intro (length L) _ (λ r′ h′. allBelow-intro (Rp r′ .deg) _ (λ k′ a′. same-or k a r′ k′ h′ a′ (ℕ-discrete r r′) (ℕ-discrete k k′)))))
+      allBelow-intro (Rp r .deg) _
+      (λ k a. and-intro _ _ (reach-holds r k h o a (reach k a))
+      (allBelow-intro (length L) _ (λ r′ h′. allBelow-intro (Rp r′ .deg) _ (λ k′ a′. same-or k a r′ k′ h′ a′ (ℕ-discrete r r′) (ℕ-discrete k k′)))))
     where
-      other : (k : ℕ) (a : k < Rp r .deg) (r′ k′ : ℕ) (h′ : r′ < length L) (a′ : k′ < Rp r′ .deg) → ¬ ((r ≡ r′) × (k ≡ k′)) → ¬ (K .find r k h a ≡ K .find r′ k′ h′ a′)
-      other k a r′ k′ h′ a′ ne e = ne (sym (K .find-rep r k h a) ∙ ap rep e ∙ K .find-rep r′ k′ h′ a′, sym (K .find-column r k h a) ∙ ap column e ∙ K .find-column r′ k′ h′ a′)
+      other : (k : ℕ) (a : k < Rp r .deg) (r′ k′ : ℕ) (h′ : r′ < length L) (a′ : k′ < Rp r′ .deg) → ¬ ((r ≡ r′) × (k ≡ k′))
+          → ¬ (K .find r k h a ≡ K .find r′ k′ h′ a′)
+      other k a r′ k′ h′ a′ ne e =
+          ne (sym (K .find-rep r k h a) ∙ ap rep e ∙ K .find-rep r′ k′ h′ a′, sym (K .find-column r k h a) ∙ ap column e ∙ K .find-column r′ k′ h′ a′)
 
       same-or : (k : ℕ) (a : k < Rp r .deg) (r′ k′ : ℕ) (h′ : r′ < length L) (a′ : k′ < Rp r′ .deg) → Dec (r ≡ r′) → Dec (k ≡ k′)
           → (eqb r r′ && eqb k k′) || any (Judgement.tells P m table i (Rp r) k (Rp r′) k′) (Judgement.allForms P i) ≡ true
       same-or k a r′ k′ h′ a′ (yes p) (yes q) = or-left (eqb r r′ && eqb k k′) _ (and-intro _ _ (eq-eqb r r′ p) (eq-eqb k k′ q))
-      same-or k a r′ k′ h′ a′ (yes p) (no q) = or-right (eqb r r′ && eqb k k′) _ (pair-holds r k r′ k′ h a h′ a′ (sep _ _ (other k a r′ k′ h′ a′ (λ u. q (u .1)))))
+      same-or k a r′ k′ h′ a′ (yes p) (no q) =
+          or-right (eqb r r′ && eqb k k′) _ (pair-holds r k r′ k′ h a h′ a′ (sep _ _ (other k a r′ k′ h′ a′ (λ u. q (u .1)))))
       same-or k a r′ k′ h′ a′ (no p) d = or-right (eqb r r′ && eqb k k′) _ (pair-holds r k r′ k′ h a h′ a′ (sep _ _ (other k a r′ k′ h′ a′ (λ u. p (u .0)))))

@@ -61,7 +61,8 @@ module _ (O : Orbits) (v : ℕ → ℕ) (along : (k r : ℕ) → r < O .N → v 
           let e′ : p - b + b ≡ p = omega arith in
           sym (sum-below N (λ r. χ (iter τ b r) * v r) (λ r. χ (iter τ b r) * v (iter τ b r)) (λ r h. ap (λ z. χ (iter τ b r) * z) (sym (along b r h)))
           ∙ sum-permuted N (iter τ b) (iter τ (p - b)) (λ r h. iter-below O b r h) (λ r h. iter-below O (p - b) r h)
-          (λ r h. iter-add τ (p - b) b r ∙ ap (λ m. iter τ m r) e′ ∙ home r h) (λ r h. iter-add τ b (p - b) r ∙ ap (λ m. iter τ m r) e ∙ home r h) (λ r. χ r * v r))
+          (λ r h. iter-add τ (p - b) b r ∙ ap (λ m. iter τ m r) e′ ∙ home r h) (λ r h. iter-add τ b (p - b) r ∙ ap (λ m. iter τ m r) e ∙ home r h)
+          (λ r. χ r * v r))
 
       swapped : (r : ℕ) → sum p (λ b. χ (iter τ b r) * v r) ≡ v r * sum p (λ b. χ (iter τ b r))
       swapped r = sum-below p (λ b. χ (iter τ b r) * v r) (λ b. v r * χ (iter τ b r)) (λ b l. omega arith) ∙ sum-mul p (v r) (λ b. χ (iter τ b r))
@@ -111,7 +112,8 @@ module _ (R : Rung) where
 
   -- what the representations that r gives have together
   given-squares : (r : ℕ) → r < N R
-      → sum (made R r) (λ κ. repOf (next R) (sum r (made R) + κ) .deg * repOf (next R) (sum r (made R) + κ) .deg) ≡ p R * (w r + p R * (chosen (leader (O R) r) r * v r))
+      → sum (made R r) (λ κ. repOf (next R) (sum r (made R) + κ) .deg * repOf (next R) (sum r (made R) + κ) .deg)
+      ≡ p R * (w r + p R * (chosen (leader (O R) r) r * v r))
   unfolding square Steps.extension Steps.induction
   given-squares r h = go (ℕ-discrete (τ R r) r) (ℕ-discrete (leader (O R) r) r)
     where
@@ -121,7 +123,8 @@ module _ (R : Rung) where
       go : Dec (τ R r ≡ r) → Dec (leader (O R) r ≡ r) → sum (made R r) g ≡ p R * (w r + p R * (chosen (leader (O R) r) r * v r))
       go (yes f) d =
           let z : p R * square r ≡ p R * (square r + p R * (chosen (leader (O R) r) r * 0)) = omega arith in
-          ap (λ k. sum k g) (made-fixed R r f) ∙ sum-below (p R) g (λ κ. square r) (λ κ l. ap (λ (D : Rep). D .deg * D .deg) (given-fixed R r κ h f l)) ∙ sum-const (p R) (square r)
+          ap (λ k. sum k g) (made-fixed R r f)
+          ∙ sum-below (p R) g (λ κ. square r) (λ κ l. ap (λ (D : Rep). D .deg * D .deg) (given-fixed R r κ h f l)) ∙ sum-const (p R) (square r)
           ∙ z ∙ sym (ap₂ (λ x y. p R * (x + p R * (chosen (leader (O R) r) r * y))) (w-fixed r f) (v-fixed r f))
       go (no f) (yes e) =
           let one : g 0 ≡ p R * deg R r * (p R * deg R r) = ap (λ (D : Rep). D .deg * D .deg) (given-moved R r 0 h f e refl) in
@@ -131,7 +134,8 @@ module _ (R : Rung) where
           ∙ sym (ap₂ (λ x y. p R * (x + p R * y)) (w-moved r f) (ap₂ (_*_) (chosen-same (leader (O R) r) r e) (v-moved r f)))
       go (no f) (no e) =
           let z : 0 ≡ p R * (0 + p R * (0 * v r)) = omega arith in
-          ap (λ k. sum k g) (made-other R r f e) ∙ sum-zero g ∙ z ∙ sym (ap₂ (λ x y. p R * (x + p R * (y * v r))) (w-moved r f) (chosen-other (leader (O R) r) r e))
+          ap (λ k. sum k g) (made-other R r f e) ∙ sum-zero g ∙ z
+          ∙ sym (ap₂ (λ x y. p R * (x + p R * (y * v r))) (w-moved r f) (chosen-other (leader (O R) r) r e))
 
   split-square : (r : ℕ) → w r + v r ≡ square r
   split-square r = go (ℕ-discrete (τ R r) r)

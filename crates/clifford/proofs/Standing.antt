@@ -111,7 +111,8 @@ module _ (G : Setting) where
       known = λ a b p q. Unit-prop a b;
     };
     represents = λ k l. absurd (omega arith);
-    intertwines = λ j a b. at-zero (λ r. Shows m zero-frame r (repOf levelZero r .ref j 0) (repOf levelZero r .matrix j) (maps (residues m pos) (Unit {0}) .one)) (zero-shows j);
+    intertwines = λ j a b. at-zero
+        (λ r. Shows m zero-frame r (repOf levelZero r .ref j 0) (repOf levelZero r .matrix j) (maps (residues m pos) (Unit {0}) .one)) (zero-shows j);
     refers = λ j a b r h c l. at-zero (λ r. repOf levelZero r .ref j c ≡ repOf levelZero r .ref j 0) refl r h;
     nonempty = omega arith;
     degree-pos = at-zero (λ r. 0 < repOf levelZero r .deg) (omega arith);

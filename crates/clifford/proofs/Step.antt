@@ -68,7 +68,10 @@ module _ {G G⁺ : Type 0} {𝓖 : Mul G} {𝓖⁺ : Mul G⁺} {conj : ℕ → G
     -- number 0 adds nothing
     pub numbered-zero : raised S F (numbered 0) ≡ raised S F 𝓢
     unfolding raised
-    numbered-zero = fun-ext (λ x. ap (λ y. pow y (exponent x) * d (S .rest x)) (fun-ext (λ a. Y-numbered-at 0 a ∙ pair 𝓔 refl (ap (add ((X i a) .1)) (ap (add (σ (rep a))) (total-zero 𝓔 (λ k. R .ε)) ∙ idr 𝓔 _)) ∙ sym (Y-at S F 𝓢 a))))
+    numbered-zero = fun-ext
+        (λ x. ap (λ y. pow y (exponent x) * d (S .rest x))
+        (fun-ext (λ a. Y-numbered-at 0 a ∙ pair 𝓔 refl (ap (add ((X i a) .1)) (ap (add (σ (rep a))) (total-zero 𝓔 (λ k. R .ε)) ∙ idr 𝓔 _))
+        ∙ sym (Y-at S F 𝓢 a))))
 
     Y-numbered : (κ : ℕ) → Y S F (numbered κ) ≡ Y S F 𝓢 * diagonal 𝓔 Ω (λ a. ε^ κ)
     unfolding numbered Y maps compose diagonal
@@ -83,7 +86,8 @@ module _ {G G⁺ : Type 0} {𝓖 : Mul G} {𝓖⁺ : Mul G⁺} {conj : ℕ → G
         let v : Ω × E = d (tail j) a in
         column 𝓔 (φ-is S F (numbered κ) j ij jn) a ∙ at-mul 𝓔 _ (d (tail j)) a
         ∙ ap (λ s. (s .0, add (s .1) (v .1))) (power-numbered κ (shift j) (v .0)) ∙ pair 𝓔 refl (𝓔 .assoc _ _ _)
-        ∙ ap (λ s. (s .0, add (times 𝓔 (shift j) (ε^ κ)) (s .1))) (sym (at-mul 𝓔 (pow (Y S F 𝓢) (shift j)) (d (tail j)) a) ∙ column 𝓔 (sym (φ-is S F 𝓢 j ij jn)) a)
+        ∙ ap (λ s. (s .0, add (times 𝓔 (shift j) (ε^ κ)) (s .1)))
+        (sym (at-mul 𝓔 (pow (Y S F 𝓢) (shift j)) (d (tail j)) a) ∙ column 𝓔 (sym (φ-is S F 𝓢 j ij jn)) a)
 
     -- ---- The next level
 
@@ -102,8 +106,10 @@ module _ {G G⁺ : Type 0} {𝓖 : Mul G} {𝓖⁺ : Mul G⁺} {conj : ℕ → G
         pub plain : (x : Ω′) → ¬ (τ (rep (base x)) ≡ rep (base x)) → number x ≡ 0
         pub over : (x : G⁺) → Over 𝓔 base number (λ κ. raised S F (numbered κ) x) (d′ x)
         pub up : (j : ℕ) (ij : i < j) (jn : j < n) (x : Ω′)
-            → At 𝓔 base number (X′ j x) ((X j (base x)) .0) (ν j ij jn (rep (base x)) (number x)) (add ((X j (base x)) .1) (c j ij jn (rep (base x)) (number x)))
-        pub number-stays : (j : ℕ) (ij : i < j) (jn : j < n) (x : Ω′) → ν j ij jn (iter τ (shift j) (rep (base x))) (number x) ≡ ν j ij jn (rep (base x)) (number x)
+            → At 𝓔 base number (X′ j x) ((X j (base x)) .0) (ν j ij jn (rep (base x)) (number x))
+            (add ((X j (base x)) .1) (c j ij jn (rep (base x)) (number x)))
+        pub number-stays : (j : ℕ) (ij : i < j) (jn : j < n) (x : Ω′) → ν j ij jn (iter τ (shift j) (rep (base x))) (number x)
+            ≡ ν j ij jn (rep (base x)) (number x)
         pub closes : (j : ℕ) (ij : i < j) (jn : j < n) (x : Ω′)
             → add (q S F 𝓢 j ij jn (base x)) (add (times 𝓔 (shift j) (times 𝓔 (number x) (R .ε))) (c j ij jn (iter τ (shift j) (rep (base x))) (number x)))
             ≡ add (c j ij jn (rep (base x)) (number x)) (times 𝓔 (ν j ij jn (rep (base x)) (number x)) (R .ε))
@@ -127,11 +133,13 @@ module _ {G G⁺ : Type 0} {𝓖 : Mul G} {𝓖⁺ : Mul G⁺} {conj : ℕ → G
         }
 
         over-low : (h : G) → Over 𝓔 base number (λ κ. d h) (d′ (low h))
-        over-low h x = subst (λ (B : Map 𝓔 Ω). at (d′ (low h) x) ((B (base x)) .0) (number x) ((B (base x)) .1)) (raised-low S F (numbered (number x)) h) (N .over (low h) x)
+        over-low h x = subst (λ (B : Map 𝓔 Ω). at (d′ (low h) x) ((B (base x)) .0) (number x) ((B (base x)) .1))
+            (raised-low S F (numbered (number x)) h) (N .over (low h) x)
 
         over-top : (x : Ω′) → at (d′ top x) ((X i (base x)) .0) (number x) (add ((X i (base x)) .1) (add (σ (rep (base x))) (ε^ (number x))))
         over-top x =
-            subst (λ (z : Ω × E). at (d′ top x) (z .0) (number x) (z .1)) (column 𝓔 (raised-top S F (numbered (number x))) (base x) ∙ Y-numbered-at (number x) (base x)) (N .over top x)
+            subst (λ (z : Ω × E). at (d′ top x) (z .0) (number x) (z .1))
+            (column 𝓔 (raised-top S F (numbered (number x))) (base x) ∙ Y-numbered-at (number x) (base x)) (N .over top x)
 
         -- ---- Intertwiners
 
@@ -149,10 +157,12 @@ module _ {G G⁺ : Type 0} {𝓖 : Mul G} {𝓖⁺ : Mul G⁺} {conj : ℕ → G
               B′ : Map 𝓔 Ω′
               B′ = d′ (low (conj j h))
 
-              two : (a : Ω) → _≡_ {A = Ω × E} ((X j ((B a) .0)) .0, add ((X j ((B a) .0)) .1) ((B a) .1)) ((d h ((X j a) .0)) .0, add ((d h ((X j a) .0)) .1) ((X j a) .1))
+              two : (a : Ω) → _≡_ {A = Ω × E} ((X j ((B a) .0)) .0, add ((X j ((B a) .0)) .1) ((B a) .1))
+                  ((d h ((X j a) .0)) .0, add ((d h ((X j a) .0)) .1) ((X j a) .1))
               two a = sym (at-mul 𝓔 (X j) B a) ∙ column 𝓔 (F .past j (omega arith) jn h) a ∙ at-mul 𝓔 (d h) (X j) a
 
-              point : (x : Ω′) → _≡_ {A = Ω′ × E} ((X′ j ((B′ x) .0)) .0, add ((X′ j ((B′ x) .0)) .1) ((B′ x) .1)) ((d′ (low h) ((X′ j x) .0)) .0, add ((d′ (low h) ((X′ j x) .0)) .1) ((X′ j x) .1))
+              point : (x : Ω′) → _≡_ {A = Ω′ × E} ((X′ j ((B′ x) .0)) .0, add ((X′ j ((B′ x) .0)) .1) ((B′ x) .1))
+                  ((d′ (low h) ((X′ j x) .0)) .0, add ((d′ (low h) ((X′ j x) .0)) .1) ((X′ j x) .1))
               point x =
                   let a : Ω = base x in
                   let b = over-low (conj j h) x in
@@ -164,7 +174,8 @@ module _ {G G⁺ : Type 0} {𝓖 : Mul G} {𝓖⁺ : Mul G⁺} {conj : ℕ → G
                     N .injective ((X′ j ((B′ x) .0)) .0) ((d′ (low h) ((X′ j x) .0)) .0)
                         (y .is-base ∙ ap (λ s. (X j s) .0) (b .is-base) ∙ ap (λ s. s .0) (two a) ∙ sym (v .is-base ∙ ap (λ s. (d h s) .0) (z .is-base)))
                         (y .is-number ∙ ap₂ (ν j ij jn) rb (b .is-number) ∙ sym (v .is-number ∙ z .is-number)) o,
-                    (ap₂ add (y .is-exponent ∙ ap₂ add (ap (λ s. (X j s) .1) (b .is-base)) (ap₂ (c j ij jn) rb (b .is-number))) (b .is-exponent) ∙ rcomm 𝓔 _ _ _ ∙ ap (λ s. add s (c j ij jn (rep a) (number x))) (ap (λ s. s .1) (two a)) ∙ 𝓔 .assoc _ _ _
+                    (ap₂ add (y .is-exponent ∙ ap₂ add (ap (λ s. (X j s) .1) (b .is-base)) (ap₂ (c j ij jn) rb (b .is-number))) (b .is-exponent)
+                        ∙ rcomm 𝓔 _ _ _ ∙ ap (λ s. add s (c j ij jn (rep a) (number x))) (ap (λ s. s .1) (two a)) ∙ 𝓔 .assoc _ _ _
                         ∙ sym (ap₂ add (v .is-exponent ∙ ap (λ s. (d h s) .1) (z .is-base)) (z .is-exponent))) o,
                   )
 
@@ -185,7 +196,8 @@ module _ {G G⁺ : Type 0} {𝓖 : Mul G} {𝓖⁺ : Mul G⁺} {conj : ℕ → G
                   ((X i ((X j a) .0)) .0, add (q S F 𝓢 j ij jn a) (add (add ((X i ((X j a) .0)) .1) (σ (rep ((X j a) .0)))) ((X j a) .1)))
               two a =
                   sym (at-mul 𝓔 (X j) B a) ∙ q-eq S F 𝓢 j ij jn a
-                  ∙ ap (λ s. (s .0, add (q S F 𝓢 j ij jn a) (s .1))) (at-mul 𝓔 (Y S F 𝓢) (X j) a ∙ ap (λ s. (s .0, add (s .1) ((X j a) .1))) (Y-at S F 𝓢 ((X j a) .0)))
+                  ∙ ap (λ s. (s .0, add (q S F 𝓢 j ij jn a) (s .1)))
+                  (at-mul 𝓔 (Y S F 𝓢) (X j) a ∙ ap (λ s. (s .0, add (s .1) ((X j a) .1))) (Y-at S F 𝓢 ((X j a) .0)))
 
               first : (x y z v : E) → add (add x y) (add z v) ≡ add (add x v) (add z y)
               first x y z v = simp (𝓔 .assoc, 𝓔 .comm, lcomm 𝓔)
@@ -196,7 +208,8 @@ module _ {G G⁺ : Type 0} {𝓖 : Mul G} {𝓖⁺ : Mul G⁺} {conj : ℕ → G
               third : (y s b h v : E) → add (add (add y s) b) (add h v) ≡ add (add y (add s v)) (add b h)
               third y s b h v = simp (𝓔 .assoc, 𝓔 .comm, lcomm 𝓔)
 
-              point : (x : Ω′) → _≡_ {A = Ω′ × E} ((X′ j ((B′ x) .0)) .0, add ((X′ j ((B′ x) .0)) .1) ((B′ x) .1)) ((d′ top ((X′ j x) .0)) .0, add ((d′ top ((X′ j x) .0)) .1) ((X′ j x) .1))
+              point : (x : Ω′) → _≡_ {A = Ω′ × E} ((X′ j ((B′ x) .0)) .0, add ((X′ j ((B′ x) .0)) .1) ((B′ x) .1))
+                  ((d′ top ((X′ j x) .0)) .0, add ((d′ top ((X′ j x) .0)) .1) ((X′ j x) .1))
               point x =
                   let a : Ω = base x in
                   let b = over-B x in
@@ -210,15 +223,18 @@ module _ {G G⁺ : Type 0} {𝓖 : Mul G} {𝓖⁺ : Mul G⁺} {conj : ℕ → G
                         (y .is-number ∙ ap₂ (ν j ij jn) rb (b .is-number) ∙ N .number-stays j ij jn x ∙ sym (v .is-number ∙ z .is-number)) o,
                     (ap₂ add (y .is-exponent ∙ ap₂ add (ap (λ s. (X j s) .1) (b .is-base)) (ap₂ (c j ij jn) rb (b .is-number))) (b .is-exponent) ∙ first _ _ _ _
                         ∙ ap (λ s. add s (add (times 𝓔 (shift j) (ε^ (number x))) (c j ij jn (iter τ (shift j) (rep a)) (number x)))) (ap (λ s. s .1) (two a))
-                        ∙ second _ _ _ _ _ ∙ ap (add (add (add ((X i ((X j a) .0)) .1) (σ (rep ((X j a) .0)))) ((X j a) .1))) (N .closes j ij jn x) ∙ third _ _ _ _ _
-                        ∙ sym (ap₂ add (v .is-exponent ∙ ap₂ add (ap (λ s. (X i s) .1) (z .is-base)) (ap₂ add (ap (λ s. σ (rep s)) (z .is-base)) (ap ε^ (z .is-number)))) (z .is-exponent))) o,
+                        ∙ second _ _ _ _ _ ∙ ap (add (add (add ((X i ((X j a) .0)) .1) (σ (rep ((X j a) .0)))) ((X j a) .1))) (N .closes j ij jn x)
+                        ∙ third _ _ _ _ _
+                        ∙ sym (ap₂ add (v .is-exponent
+                        ∙ ap₂ add (ap (λ s. (X i s) .1) (z .is-base)) (ap₂ add (ap (λ s. σ (rep s)) (z .is-base)) (ap ε^ (z .is-number)))) (z .is-exponent))) o,
                   )
 
           open Laws (maps-laws 𝓔 {Ω = Ω′}) using (assoc as assoc′, idl as idl′, idr as idr′)
 
           past-one : Past (𝓖⁺ .one)
           unfolding Past
-          past-one = ap (λ s. X′ j *′ s) (ap d′ (S .conj⁺-hom j ij jn .on-one) ∙ hom′ .on-one) ∙ idr′ _ ∙ sym (idl′ _) ∙ ap (λ s. s *′ X′ j) (sym (hom′ .on-one))
+          past-one = ap (λ s. X′ j *′ s) (ap d′ (S .conj⁺-hom j ij jn .on-one) ∙ hom′ .on-one) ∙ idr′ _ ∙ sym (idl′ _)
+              ∙ ap (λ s. s *′ X′ j) (sym (hom′ .on-one))
 
           past-mul : (x y : G⁺) → Past x → Past y → Past (𝓖⁺ .mul x y)
           unfolding Past
@@ -233,7 +249,8 @@ module _ {G G⁺ : Type 0} {𝓖 : Mul G} {𝓖⁺ : Mul G⁺} {conj : ℕ → G
         -- ---- Reached and separated
 
         to : (w : G⁺) (x y : Ω′) (s : E) → raised S F (numbered (number x)) w (base x) ≡ (base y, s) → number x ≡ number y → d′ w x ≡ (y, s)
-        to w x y s h k = let o = N .over w x in λ j. (N .injective ((d′ w x) .0) y (o .is-base ∙ ap (λ s. s .0) h) (o .is-number ∙ k) j, (o .is-exponent ∙ ap (λ s. s .1) h) j)
+        to w x y s h k = let o = N .over w x in
+            λ j. (N .injective ((d′ w x) .0) y (o .is-base ∙ ap (λ s. s .0) h) (o .is-number ∙ k) j, (o .is-exponent ∙ ap (λ s. s .1) h) j)
 
         pub inside′ : (w : G⁺) (x : Ω′) → rep′ ((d′ w x) .0) ≡ rep′ x
         inside′ w x =

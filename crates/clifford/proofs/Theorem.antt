@@ -104,7 +104,8 @@ module _ (A : Accepted) where
   restricts-at : (i : ℕ) → i < n → (r : ℕ) → r < length (Lv (suc i)) → Restricts i (Lv i) (repOf (Lv (suc i)) r)
   restricts-at i l r h =
       let h′ : r < length (levels P m (suc i)) = subst (λ z. r < z) (sym (agrees-at (suc i) l .same-length)) h in
-      agree-restricts n i l (levels P m i) (Lv i) (levels P m (suc i)) (Lv (suc i)) (agrees-at i (omega arith)) (agrees-at (suc i) l) r h′ (restricts G i l r h′)
+      agree-restricts n i l (levels P m i) (Lv i) (levels P m (suc i)) (Lv (suc i)) (agrees-at i (omega arith)) (agrees-at (suc i) l) r h′
+      (restricts G i l r h′)
 
   pub whole-words : (k : ℕ) × (length (tableOf (A .C .P)) ≡ lineWords * k)
   whole-words = (_, ap length table-is ∙ table-length W)
@@ -121,7 +122,9 @@ module _ (A : Accepted) where
       (ap (same T) (sym lines) ∙ same-self T)
     where
       lines : T ≡ blocks n (λ i. levelWords n (suc i) (Lv (suc i)))
-      lines = unfold table in (blocks-below n (λ k. levelWords n (suc k) (levels P m (suc k))) (λ i. levelWords n (suc i) (Lv (suc i))) (λ i l. agree-words n (suc i) (levels P m (suc i)) (Lv (suc i)) (agrees-at (suc i) l)))
+      lines = unfold table in
+          (blocks-below n (λ k. levelWords n (suc k) (levels P m (suc k))) (λ i. levelWords n (suc i) (Lv (suc i)))
+          (λ i l. agree-words n (suc i) (levels P m (suc i)) (Lv (suc i)) (agrees-at (suc i) l)))
 
   -- ---- The judgement
 
@@ -130,10 +133,12 @@ module _ (A : Accepted) where
 
 -- ---- For what a text says
 
-module _ (R : Relations) (formed : wellFormed R ≡ true) (primes : someNotPrime R ≡ false) (used : misused R ≡ false) (consistent : Consistent (presentation R)) where
+module _ (R : Relations) (formed : wellFormed R ≡ true) (primes : someNotPrime R ≡ false) (used : misused R ≡ false)
+    (consistent : Consistent (presentation R)) where
   tests : (k : ℕ) → k < presentation R .n → Test (context R formed primes used) k
   unfolding context test
-  tests k l = test-holds (context R formed primes used) k (allBelow-elim (presentation R .n) (levelTest (presentation R)) (accept R formed primes used .1 consistent) k l)
+  tests k l = test-holds (context R formed primes used) k
+      (allBelow-elim (presentation R .n) (levelTest (presentation R)) (accept R formed primes used .1 consistent) k l)
 
   units : (j : ℕ) → j < presentation R .n → Units (presentation R .p j)
   unfolding someNotPrime presentation

@@ -66,12 +66,14 @@ module _ {G G⁺ : Type 0} {𝓖 : Mul G} {𝓖⁺ : Mul G⁺} {conj : ℕ → G
 
     pub Y-power : pow Y p ≡ d u
     unfolding Y
-    Y-power = fun-ext (λ a. power-diagonal 𝓔 (X i) (λ a. σ (rep a)) p a ∙ ap (λ s. (s .0, add (total 𝓔 (λ l. σ (rep ((pow (X i) l a) .0))) p) (s .1))) (defect-eq S F a) ∙ pair 𝓔 refl (undone a))
+    Y-power = fun-ext (λ a. power-diagonal 𝓔 (X i) (λ a. σ (rep a)) p a
+        ∙ ap (λ s. (s .0, add (total 𝓔 (λ l. σ (rep ((pow (X i) l a) .0))) p) (s .1))) (defect-eq S F a) ∙ pair 𝓔 refl (undone a))
       where
         undone : (a : Ω) → add (total 𝓔 (λ l. σ (rep ((pow (X i) l a) .0))) p) (add (defect S F a) ((d u a) .1)) ≡ (d u a) .1
         undone a =
             sym (𝓔 .assoc _ _ _)
-            ∙ ap (λ s. add s ((d u a) .1)) (ap (λ s. add s (defect S F a)) (total-ext 𝓔 _ _ p (λ k h. ap σ (rep-power F τ (X i) (X-maps S F) k a))) ∙ 𝓢 .norm a) ∙ 𝓔 .idl _
+            ∙ ap (λ s. add s ((d u a) .1)) (ap (λ s. add s (defect S F a)) (total-ext 𝓔 _ _ p (λ k h. ap σ (rep-power F τ (X i) (X-maps S F) k a)))
+            ∙ 𝓢 .norm a) ∙ 𝓔 .idl _
 
     pub Y-maps : (a : Ω) → rep ((Y a) .0) ≡ τ (rep a)
     Y-maps a = ap (λ s. rep (s .0)) (Y-at a) ∙ X-maps S F a
@@ -95,7 +97,8 @@ module _ {G G⁺ : Type 0} {𝓖 : Mul G} {𝓖⁺ : Mul G⁺} {conj : ℕ → G
 
     pub raised-maps : (x : G⁺) (a : Ω) → rep ((raised x a) .0) ≡ iter τ (exponent x) (rep a)
     unfolding raised
-    raised-maps x a = ap (λ s. rep (s .0)) (at-mul 𝓔 (pow Y (exponent x)) (d (rest x)) a) ∙ rep-power F τ Y Y-maps (exponent x) _ ∙ ap (iter τ (exponent x)) (F .inside (rest x) a)
+    raised-maps x a = ap (λ s. rep (s .0)) (at-mul 𝓔 (pow Y (exponent x)) (d (rest x)) a) ∙ rep-power F τ Y Y-maps (exponent x) _
+        ∙ ap (iter τ (exponent x)) (F .inside (rest x) a)
 
     -- ---- A generator above
 
@@ -141,7 +144,9 @@ module _ {G G⁺ : Type 0} {𝓖 : Mul G} {𝓖⁺ : Mul G⁺} {conj : ℕ → G
       alike = record {
         first = λ x. assoc _ _ _ ∙ ap (λ s. X j * s) (φ-past x) ∙ sym (assoc _ _ _) ∙ ap (λ s. s * φ) (Xj-past x) ∙ assoc _ _ _;
         second = λ x. assoc _ _ _ ∙ ap (λ s. Y * s) (Xj-past (f x)) ∙ sym (assoc _ _ _) ∙ ap (λ s. s * X j) (Y-past x) ∙ assoc _ _ _;
-        inverse = inverse-mul (maps-laws 𝓔) Y (X j) (intertwiner-inverse F Y f Y-past (S .period i) (S .period-pos i) (S .conj-period i (omega arith) (S .in-range))) (X-inverse S F j (omega arith) jn);
+        inverse = inverse-mul (maps-laws 𝓔) Y (X j)
+            (intertwiner-inverse F Y f Y-past (S .period i) (S .period-pos i) (S .conj-period i (omega arith) (S .in-range)))
+            (X-inverse S F j (omega arith) jn);
       }
 
       pub q : Ω → E
@@ -209,5 +214,6 @@ module _ {G G⁺ : Type 0} {𝓖 : Mul G} {𝓖⁺ : Mul G⁺} {conj : ℕ → G
           let N : ℕ = S .period j in
           let e : suc (N - 1) ≡ N = omega (arith, S .period-pos j) in
           let home : iter (target j) (N - 1) (rep ((X j a) .0)) ≡ rep a
-          = ap (iter (target j) (N - 1)) (Xj-maps a) ∙ sym (iter-suc (target j) (N - 1) (rep a)) ∙ ap (λ k. iter (target j) k (rep a)) e ∙ target-period S F j (omega arith) jn a in
+          = ap (iter (target j) (N - 1)) (Xj-maps a) ∙ sym (iter-suc (target j) (N - 1) (rep a)) ∙ ap (λ k. iter (target j) k (rep a)) e
+          ∙ target-period S F j (omega arith) jn a in
           subst (λ s. τ s ≡ s) home (fixed-iter (N - 1) ((X j a) .0) (subst (λ s. τ s ≡ s) (sym (Xj-maps a)) h))

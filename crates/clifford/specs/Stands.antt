@@ -21,7 +21,8 @@ use Rattle.monomial.proofs.Residues.{residues}
 abbrev pub frame : (L : Level) {Ω : Type 0} (rep column : Ω → ℕ) → ((a : Ω) → column a < repOf L (rep a) .deg) → Layout Ω
 frame L rep column h = record { rep = rep; column = column; degree = λ r. repOf L r .deg; column-below = h }
 
-pub record Stands (C : Context) (n m : ℕ) (pos : 0 < m) (i : ℕ) (L : Level) {Ω : Type 0} (F : Family (residues m pos) Ω (level C i) (conjNf C i) i n) : Type 0 where
+pub record Stands (C : Context) (n m : ℕ) (pos : 0 < m) (i : ℕ) (L : Level) {Ω : Type 0}
+    (F : Family (residues m pos) Ω (level C i) (conjNf C i) i n) : Type 0 where
   pub column : Ω → ℕ
   pub column-below : (a : Ω) → column a < repOf L (F .rep a) .deg
   pub complete : Complete (frame L (F .rep) column column-below) (length L)

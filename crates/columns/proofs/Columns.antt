@@ -70,7 +70,8 @@ module _ (m : ℕ) (pos : 0 < m) (d : ℕ) where
       let a : ℕ = col M (col N (y .row) .row) .exp in
       let b : ℕ = col N (y .row) .exp in
       entry-path (ap (λ (x : Entry). x .row) e)
-      (ap (λ (x : Entry). (x .exp + y .exp) % m) e ∙ mod-add-mod (a + b) m (y .exp) ∙ ap (λ z. z % m) (add-assoc a b (y .exp)) ∙ sym (add-mod-mod a (b + y .exp) m))
+      (ap (λ (x : Entry). (x .exp + y .exp) % m) e ∙ mod-add-mod (a + b) m (y .exp) ∙ ap (λ z. z % m) (add-assoc a b (y .exp))
+      ∙ sym (add-mod-mod a (b + y .exp) m))
 
   act-identity : (y : Entry) → In d m y → act m (identity d) y ≡ y
   unfolding act identity

@@ -55,8 +55,10 @@ module _ (P : Presentation) (m : ℕ) (T : List ℕ) where
         let h₃ = and-left (positive && bounded && matrices && blocks) targets h in
         let h₂ = and-left (positive && bounded && matrices) blocks h₃ in
         let h₁ = and-left (positive && bounded) matrices h₂ in
-        let b = and-intro matrices blocks (and-right (positive && bounded) matrices h₂) (and-right (positive && bounded && matrices) blocks h₃) in
-        (leb-true (D .deg * D .deg) (order P i) (and-right positive bounded h₁), and-intro (matrices && blocks) targets b (and-right (positive && bounded && matrices && blocks) targets h))
+        let b = and-intro matrices blocks (and-right (positive && bounded) matrices h₂) (and-right (positive && bounded && matrices) blocks h₃) in (
+          leb-true (D .deg * D .deg) (order P i) (and-right positive bounded h₁),
+          and-intro (matrices && blocks) targets b (and-right (positive && bounded && matrices && blocks) targets h),
+        )
 
     -- what is asked beside the degree
     pub formed-body : matricesValid P m T i D && blocksWhole P m T i D && targetsListed P m T i D ≡ true → bodyOk P m T i D ≡ true

@@ -59,7 +59,8 @@ module _ (T : List ℕ) (i r l : ℕ) where
 
   behind-level : i < wordAt T l LEVEL → before T i r l ≡ false
   unfolding before
-  behind-level h = ap₂ (_||_) (le-ltb (wordAt T l LEVEL) i (omega arith)) (ap (λ b. b && ltb (wordAt T l REP) r) (ne-eqb (wordAt T l LEVEL) i (λ e. omega (arith, e))))
+  behind-level h = ap₂ (_||_) (le-ltb (wordAt T l LEVEL) i (omega arith))
+      (ap (λ b. b && ltb (wordAt T l REP) r) (ne-eqb (wordAt T l LEVEL) i (λ e. omega (arith, e))))
 
   behind-rep : wordAt T l LEVEL ≡ i → r ≤ wordAt T l REP → before T i r l ≡ false
   unfolding before
@@ -106,7 +107,8 @@ module _ (n : ℕ) (positive : 0 < n) (T : List ℕ) (H : Headed n T) where
   line-in l h =
       let p = position n T H l h in
       let d : ℕ = deg (p .k) (p .r) in
-      let head = subst (λ l. LineHead T l (suc (p .k)) (p .r) d (p .g) (p .c)) (p .is) (H .heads (p .k) (p .r) (p .k-below) (p .r-below) .head (p .g) (p .c) (p .g-below) (p .c-below)) in
+      let head = subst (λ l. LineHead T l (suc (p .k)) (p .r) d (p .g) (p .c)) (p .is)
+      (H .heads (p .k) (p .r) (p .k-below) (p .r-below) .head (p .g) (p .c) (p .g-below) (p .c-below)) in
       let m : suc (p .g) * d ≤ n * d = mul-le-mul-right d (p .g-below) in (
         p .k,
         p .r,

@@ -60,7 +60,8 @@ module _ (low : Level) (D : Rep) (low-pos : (r : ℕ) → r < length low → 0 <
 
       to-columns : all (λ o. q (ref o)) (cuts low D) ≡ true → allBelow (D .deg) (λ c. q (ref c)) ≡ true
       to-columns h = allBelow-intro (D .deg) _ (λ c l.
-          let C = cut-at low D both (λ o t. wide o (and-left (wholeBlock low D o) (q (ref o)) t)) (all-both (wholeBlock low D) (λ o. q (ref o)) (cuts low D) whole h) c l in
+          let C = cut-at low D both (λ o t. wide o (and-left (wholeBlock low D o) (q (ref o)) t))
+          (all-both (wholeBlock low D) (λ o. q (ref o)) (cuts low D) whole h) c l in
           let W = is-whole (cut low D (C .b)) (and-left _ (q (ref (cut low D (C .b)))) (C .passes)) in
           let e : ref c ≡ ref (cut low D (C .b)) = ap ref (sym (C .is)) ∙ W .same (C .κ) (C .inside) in
           ap q e ∙ and-right (wholeBlock low D (cut low D (C .b))) _ (C .passes))
@@ -95,7 +96,8 @@ module _ (low : Level) (D : Rep) (low-pos : (r : ℕ) → r < length low → 0 <
 module _ (P : Presentation) (table : List ℕ) (i : ℕ)
     (low-pos : (r : ℕ) → r < length (lower P table i) → 0 < repOf (lower P table i) r .deg)
     (pos : (r : ℕ) → r < length (upper P table i) → 0 < repOf (upper P table i) r .deg)
-    (whole : (r : ℕ) → r < length (upper P table i) → all (wholeBlock (lower P table i) (repOf (upper P table i) r)) (cuts (lower P table i) (repOf (upper P table i) r)) ≡ true)
+    (whole : (r : ℕ) → r < length (upper P table i)
+    → all (wholeBlock (lower P table i) (repOf (upper P table i) r)) (cuts (lower P table i) (repOf (upper P table i) r)) ≡ true)
   where
     abbrev D : ℕ → Rep
     D r = repOf (upper P table i) r
@@ -116,7 +118,8 @@ module _ (P : Presentation) (table : List ℕ) (i : ℕ)
     free-is : (r r′ : ℕ) → r < N → r′ < N → ¬ (r ≡ r′) → unshared P table i r r′ ≡ commonFree (D r) (D r′)
     unfolding unshared commonFree
     free-is r r′ l l′ ne =
-        ap (λ e. all (λ o. all (λ o′. (e && eqb o o′) || not (eqb (reference P table i r o) (reference P table i r′ o′))) (blockStarts P table i r′)) (blockStarts P table i r)) (ne-eqb r r′ ne)
+        ap (λ e. all (λ o. all (λ o′. (e && eqb o o′) || not (eqb (reference P table i r o) (reference P table i r′ o′))) (blockStarts P table i r′))
+        (blockStarts P table i r)) (ne-eqb r r′ ne)
         ∙ block-refs (lower P table i) (D r) low-pos (whole r l) (λ x. all (λ o′. not (eqb x (reference P table i r′ o′))) (blockStarts P table i r′))
         ∙ allBelow-below (D r .deg) _ _ (λ c a. block-refs (lower P table i) (D r′) low-pos (whole r′ l′) (λ y. not (eqb (reference P table i r c) y)))
 
@@ -124,10 +127,12 @@ module _ (P : Presentation) (table : List ℕ) (i : ℕ)
     only-ref : (r : ℕ) → r < N → one r ≡ true → (c : ℕ) → c < D r .deg → reference P table i r c ≡ reference P table i r 0
     only-ref r l e c h =
         let w = eqb-true (width r) (D r .deg) (sym (one-is r l) ∙ e) in
-        eqb-true _ _ (allBelow-elim (D r .deg) (λ c. eqb (reference P table i r c) (reference P table i r 0)) (sym (block-refs (lower P table i) (D r) low-pos (whole r l) (λ x. eqb x (reference P table i r 0))) ∙ all-first w) c h)
+        eqb-true _ _ (allBelow-elim (D r .deg) (λ c. eqb (reference P table i r c) (reference P table i r 0))
+        (sym (block-refs (lower P table i) (D r) low-pos (whole r l) (λ x. eqb x (reference P table i r 0))) ∙ all-first w) c h)
       where
         all-first : width r ≡ D r .deg → all (λ o. eqb (reference P table i r o) (reference P table i r 0)) (cuts (lower P table i) (D r)) ≡ true
-        all-first w = cuts-all (lower P table i) (D r) (λ o. eqb (reference P table i r o) (reference P table i r 0)) (λ b a. eq-eqb _ _ (ap (reference P table i r) (at-zero b a)))
+        all-first w = cuts-all (lower P table i) (D r) (λ o. eqb (reference P table i r o) (reference P table i r 0))
+            (λ b a. eq-eqb _ _ (ap (reference P table i r) (at-zero b a)))
           where
             at-zero : (b : ℕ) → cut (lower P table i) (D r) b < D r .deg → cut (lower P table i) (D r) b ≡ 0
             at-zero zero a = cut-zero (lower P table i) (D r)
@@ -190,11 +195,13 @@ module _ (P : Presentation) (table : List ℕ) (i : ℕ)
               absurd (true≢false (sym (and-intro (one r) (one r′) this e) ∙ h))
 
       pub apart-columns : apart P table i r r′
-          ≡ apartAt i (eqb (repOf (lower P table i) (reference P table i r′ 0) .deg) (repOf (upper P table i) r′ .deg)) (repOf (upper P table i) r) (repOf (upper P table i) r′)
+          ≡ apartAt i (eqb (repOf (lower P table i) (reference P table i r′ 0) .deg) (repOf (upper P table i) r′ .deg)) (repOf (upper P table i) r)
+          (repOf (upper P table i) r′)
       unfolding apart apartAt
       apart-columns = go (one r && one r′) refl (ℕ-discrete (reference P table i r 0) (reference P table i r′ 0))
         where
-          go : (b : Bool) → one r && one r′ ≡ b → Dec (reference P table i r 0 ≡ reference P table i r′ 0) → apart P table i r r′ ≡ apartAt i single (D r) (D r′)
+          go : (b : Bool) → one r && one r′ ≡ b → Dec (reference P table i r 0 ≡ reference P table i r′ 0)
+              → apart P table i r r′ ≡ apartAt i single (D r) (D r′)
           go true e (yes q) = cond-true (one r && one r′) _ _ e ∙ over-one (and-left (one r) (one r′) e) (and-right (one r) (one r′) e) q
           go true e (no q) = cond-true (one r && one r′) _ _ e ∙ over-two (and-left (one r) (one r′) e) (and-right (one r) (one r′) e) q
           go false e d = cond-false (one r && one r′) _ _ e ∙ free-is r r′ l l′ ne ∙ sym (cond-false alike _ (commonFree (D r) (D r′)) (unlike e))

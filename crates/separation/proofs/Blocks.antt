@@ -82,7 +82,8 @@ module _ {G G⁺ : Type 0} {𝓖 : Mul G} {𝓖⁺ : Mul G⁺} {conj : ℕ → G
   step-block x y q =
       let (h, e) = same-block x y q in
       let (g, fg) = before h in
-      sym (over-block g ((Z x) .0)) ∙ ap (λ z. block (z .0)) (sym (at-mul 𝓔 (l g) Z x) ∙ column 𝓔 (sym (Z-past g) ∙ ap (λ s. Z * l s) fg) x ∙ at-mul 𝓔 Z (l h) x)
+      sym (over-block g ((Z x) .0))
+      ∙ ap (λ z. block (z .0)) (sym (at-mul 𝓔 (l g) Z x) ∙ column 𝓔 (sym (Z-past g) ∙ ap (λ s. Z * l s) fg) x ∙ at-mul 𝓔 Z (l h) x)
       ∙ ap (λ s. block ((Z s) .0)) e
 
   pub power-block : (e : ℕ) (x y : Ω⁺) → block x ≡ block y → block ((Zᵏ e x) .0) ≡ block ((Zᵏ e y) .0)
@@ -103,7 +104,8 @@ module _ {G G⁺ : Type 0} {𝓖 : Mul G} {𝓖⁺ : Mul G⁺} {conj : ℕ → G
 
   -- a power that fixes a block fixes it again and again
   again : (e s : ℕ) (x : Ω⁺) → block ((Zᵏ e x) .0) ≡ block x → block ((Zᵏ (e · s) x) .0) ≡ block x
-  again e zero x q = let z : e · 0 ≡ 0 = omega arith in ap (λ k. block ((Zᵏ k x) .0)) z ∙ ap (λ z. block (z .0)) (column 𝓔 (power-zero (maps 𝓔 Ω⁺) Z) x ∙ at-one 𝓔 x)
+  again e zero x q = let z : e · 0 ≡ 0 = omega arith in ap (λ k. block ((Zᵏ k x) .0)) z
+      ∙ ap (λ z. block (z .0)) (column 𝓔 (power-zero (maps 𝓔 Ω⁺) Z) x ∙ at-one 𝓔 x)
   again e (suc s) x q =
       let z : e · suc s ≡ e + e · s = omega arith in
       ap (λ k. block ((Zᵏ k x) .0)) z ∙ ap block (power-more e (e · s) x) ∙ power-block e _ x (again e s x q) ∙ q
@@ -131,7 +133,8 @@ module _ {G G⁺ : Type 0} {𝓖 : Mul G} {𝓖⁺ : Mul G⁺} {conj : ℕ → G
   pub powers-differ : (x : Ω⁺) → ¬ (block ((Z x) .0) ≡ block x) → (e e′ : ℕ) → e < e′ → e′ < p → block ((Zᵏ e x) .0) ≡ block ((Zᵏ e′ x) .0) → ⊥
   powers-differ x mv e e′ a b q =
       let z : e′ - e + e ≡ e′ = omega arith in
-      mv (fixed-back e (omega arith) x (short-fixed (e′ - e) (omega arith) (omega arith) ((Zᵏ e x) .0) (ap block (sym (power-more (e′ - e) e x)) ∙ ap (λ k. block ((Zᵏ k x) .0)) z ∙ sym q)))
+      mv (fixed-back e (omega arith) x
+      (short-fixed (e′ - e) (omega arith) (omega arith) ((Zᵏ e x) .0) (ap block (sym (power-more (e′ - e) e x)) ∙ ap (λ k. block ((Zᵏ k x) .0)) z ∙ sym q)))
 
   -- a block that stays, stays under every power
   pub fixed-power : (x : Ω⁺) → block ((Z x) .0) ≡ block x → (e : ℕ) → block ((Zᵏ e x) .0) ≡ block x
@@ -146,7 +149,8 @@ module _ {G G⁺ : Type 0} {𝓖 : Mul G} {𝓖⁺ : Mul G⁺} {conj : ℕ → G
   moved-low w x mv q = element w ∙ ap (λ e. Zᵏ e * l (rest w)) (none (ℕ-discrete (exponent w) 0)) ∙ ap (λ z. z * l (rest w)) (power-zero (maps 𝓔 Ω⁺) Z) ∙ idl _
     where
       fixed : block ((Zᵏ (exponent w) x) .0) ≡ block x
-      fixed = sym (power-block (exponent w) _ x (over-block (rest w) x)) ∙ ap (λ z. block (z .0)) (sym (at-mul 𝓔 (Zᵏ (exponent w)) (l (rest w)) x) ∙ column 𝓔 (sym (element w)) x) ∙ ap block q
+      fixed = sym (power-block (exponent w) _ x (over-block (rest w) x))
+          ∙ ap (λ z. block (z .0)) (sym (at-mul 𝓔 (Zᵏ (exponent w)) (l (rest w)) x) ∙ column 𝓔 (sym (element w)) x) ∙ ap block q
 
       none : Dec (exponent w ≡ 0) → exponent w ≡ 0
       none (yes e) = e
@@ -159,7 +163,8 @@ module _ {G G⁺ : Type 0} {𝓖 : Mul G} {𝓖⁺ : Mul G⁺} {conj : ℕ → G
       below = moved-low (s .by) x mv (ap (λ z. z .0) (s .fixes))
 
       same : (d⁺ (s .by) x) .1 ≡ (d⁺ (s .by) y) .1
-      same = ap (λ (M : Map 𝓔 Ω⁺). (M x) .1) below ∙ over-exponent (rest (s .by)) x ∙ ap (λ a. (F .d (rest (s .by)) a) .1) q ∙ sym (over-exponent (rest (s .by)) y) ∙ ap (λ (M : Map 𝓔 Ω⁺). (M y) .1) (sym below)
+      same = ap (λ (M : Map 𝓔 Ω⁺). (M x) .1) below ∙ over-exponent (rest (s .by)) x ∙ ap (λ a. (F .d (rest (s .by)) a) .1) q
+          ∙ sym (over-exponent (rest (s .by)) y) ∙ ap (λ (M : Map 𝓔 Ω⁺). (M y) .1) (sym below)
 
   -- what has different bases is separated by the group below
   pub base-separates : (x y : Ω⁺) → ¬ (base x ≡ base y) → Separated 𝓔 Ω⁺ d⁺ x y
@@ -173,11 +178,12 @@ module _ {G G⁺ : Type 0} {𝓖 : Mul G} {𝓖⁺ : Mul G⁺} {conj : ℕ → G
   -- ---- Two basis indices with one base
 
   Z-inverse : Inverse (maps 𝓔 Ω⁺) Z
-  Z-inverse = inverse-root (maps-laws 𝓔) Z p (omega (arith, S .two)) (subst (Inverse (maps 𝓔 Ω⁺)) (sym (sym (power-hom (B .hom) top p) ∙ ap d⁺ (S .top-power))) (record {
-    to = l (S .inv u);
-    right = sym (B .hom .on-mul _ _) ∙ ap d⁺ (low-mul u (S .inv u) ∙ ap low (S .inv-right u) ∙ low-one) ∙ B .hom .on-one;
-    left = sym (B .hom .on-mul _ _) ∙ ap d⁺ (low-mul (S .inv u) u ∙ ap low (S .inv-left u) ∙ low-one) ∙ B .hom .on-one;
-  }))
+  Z-inverse = inverse-root (maps-laws 𝓔) Z p (omega (arith, S .two))
+      (subst (Inverse (maps 𝓔 Ω⁺)) (sym (sym (power-hom (B .hom) top p) ∙ ap d⁺ (S .top-power))) (record {
+        to = l (S .inv u);
+        right = sym (B .hom .on-mul _ _) ∙ ap d⁺ (low-mul u (S .inv u) ∙ ap low (S .inv-right u) ∙ low-one) ∙ B .hom .on-one;
+        left = sym (B .hom .on-mul _ _) ∙ ap d⁺ (low-mul (S .inv u) u ∙ ap low (S .inv-left u) ∙ low-one) ∙ B .hom .on-one;
+      }))
     where
       low-mul : (g h : G) → 𝓖⁺ .mul (low g) (low h) ≡ low (𝓖 .mul g h)
       low-mul g h = sym (S .low-hom .on-mul g h)
@@ -218,7 +224,8 @@ module _ {G G⁺ : Type 0} {𝓖 : Mul G} {𝓖⁺ : Mul G⁺} {conj : ℕ → G
       let line-x : add ((Z x′) .1) t ≡ add v ((Z x) .1) = at-image x x′ h g fg e in
       let line-y : add ((Z y′) .1) t ≡ add v ((Z y) .1)
       = ap (λ a. add ((Z y′) .1) ((F .d h a) .1)) q ∙ at-image y y′ h g fg ey ∙ ap (λ a. add ((F .d g a) .1) ((Z y) .1)) (sym (base-step x y q)) in
-      cancel 𝓔 t _ _ (move t ((Z x′) .1) ((Z y) .1) ∙ ap (λ z. add z ((Z y) .1)) line-x ∙ rcomm 𝓔 v ((Z x) .1) ((Z y) .1) ∙ ap (λ z. add z ((Z x) .1)) (sym line-y) ∙ sym (move t ((Z y′) .1) ((Z x) .1)))
+      cancel 𝓔 t _ _ (move t ((Z x′) .1) ((Z y) .1) ∙ ap (λ z. add z ((Z y) .1)) line-x ∙ rcomm 𝓔 v ((Z x) .1) ((Z y) .1)
+      ∙ ap (λ z. add z ((Z x) .1)) (sym line-y) ∙ sym (move t ((Z y′) .1) ((Z x) .1)))
     where
       move : (t a b : E) → add t (add a b) ≡ add (add a t) b
       move t a b = simp (𝓔 .assoc, 𝓔 .comm, lcomm 𝓔)
@@ -226,7 +233,8 @@ module _ {G G⁺ : Type 0} {𝓖 : Mul G} {𝓖⁺ : Mul G⁺} {conj : ℕ → G
       at-image : (x x′ : Ω⁺) (h g : G) → f g ≡ h → (l h x) .0 ≡ x′ → add ((Z x′) .1) ((F .d h (base x)) .1) ≡ add ((F .d g (base ((Z x) .0))) .1) ((Z x) .1)
       at-image x x′ h g fg e =
           ap₂ (λ z t. add ((Z z) .1) t) (sym e) (sym (over-exponent h x))
-          ∙ ap (λ z. z .1) (sym (at-mul 𝓔 Z (l h) x) ∙ column 𝓔 (ap (λ s. Z * l s) (sym fg) ∙ Z-past g) x ∙ at-mul 𝓔 (l g) Z x) ∙ ap (λ t. add t ((Z x) .1)) (over-exponent g ((Z x) .0))
+          ∙ ap (λ z. z .1) (sym (at-mul 𝓔 Z (l h) x) ∙ column 𝓔 (ap (λ s. Z * l s) (sym fg) ∙ Z-past g) x ∙ at-mul 𝓔 (l g) Z x)
+          ∙ ap (λ t. add t ((Z x) .1)) (over-exponent g ((Z x) .0))
 
   -- ---- Two blocks that stay
 
@@ -243,10 +251,12 @@ module _ {G G⁺ : Type 0} {𝓖 : Mul G} {𝓖⁺ : Mul G⁺} {conj : ℕ → G
         differ = λ z. ne (cancel 𝓔 t _ _ z);
       }
     where
-      at : (x : Ω⁺) (h : G) (a b : Ω) → base x ≡ a → base ((Z x) .0) ≡ b → block ((Z x) .0) ≡ block x → (F .d h b) .0 ≡ a → d⁺ (𝓖⁺ .mul (low h) top) x ≡ (x, add ((F .d h b) .1) ((Z x) .1))
+      at : (x : Ω⁺) (h : G) (a b : Ω) → base x ≡ a → base ((Z x) .0) ≡ b → block ((Z x) .0) ≡ block x → (F .d h b) .0 ≡ a
+          → d⁺ (𝓖⁺ .mul (low h) top) x ≡ (x, add ((F .d h b) .1) ((Z x) .1))
       at x h a b qa qb bx e =
           column 𝓔 (B .hom .on-mul (low h) top) x ∙ at-mul 𝓔 (l h) Z x
-          ∙ pair 𝓔 (known _ x (over-base h ((Z x) .0) ∙ ap (λ z. (F .d h z) .0) qb ∙ e ∙ sym qa) (over-block h ((Z x) .0) ∙ bx)) (ap (λ t. add t ((Z x) .1)) (over-exponent h ((Z x) .0) ∙ ap (λ z. (F .d h z) .1) qb))
+          ∙ pair 𝓔 (known _ x (over-base h ((Z x) .0) ∙ ap (λ z. (F .d h z) .0) qb ∙ e ∙ sym qa) (over-block h ((Z x) .0) ∙ bx))
+          (ap (λ t. add t ((Z x) .1)) (over-exponent h ((Z x) .0) ∙ ap (λ z. (F .d h z) .1) qb))
 
   -- x′ and y′ lie in the blocks of x and y, and have one base
   record Pair (x y x′ y′ : Ω⁺) : Type 0 where
@@ -264,7 +274,11 @@ module _ {G G⁺ : Type 0} {𝓖 : Mul G} {𝓖⁺ : Mul G⁺} {conj : ℕ → G
 
     pair-power : (e : ℕ) (x′ y′ : Ω⁺) → Pair x y x′ y′ → Pair x y ((Zᵏ e x′) .0) ((Zᵏ e y′) .0) × ((Zᵏ e x′) .1 ≡ (Zᵏ e y′) .1)
     pair-power zero x′ y′ P = (
-      record { one-base = ap base (at-zero x′) ∙ P .one-base ∙ sym (ap base (at-zero y′)); in-x = ap block (at-zero x′) ∙ P .in-x; in-y = ap block (at-zero y′) ∙ P .in-y },
+      record {
+        one-base = ap base (at-zero x′) ∙ P .one-base ∙ sym (ap base (at-zero y′));
+        in-x = ap block (at-zero x′) ∙ P .in-x;
+        in-y = ap block (at-zero y′) ∙ P .in-y;
+      },
       exp-zero x′ ∙ sym (exp-zero y′),
     )
       where
@@ -279,7 +293,11 @@ module _ {G G⁺ : Type 0} {𝓖 : Mul G} {𝓖⁺ : Mul G⁺} {conj : ℕ → G
     pair-power (suc e) x′ y′ P =
         let (P₁, s₁) = pair-power e x′ y′ P in
         let (P₂, s₂) = pair-step _ _ P₁ in (
-          record { one-base = ap (λ z. base (z .0)) (line x′) ∙ P₂ .one-base ∙ sym (ap (λ z. base (z .0)) (line y′)); in-x = ap (λ z. block (z .0)) (line x′) ∙ P₂ .in-x; in-y = ap (λ z. block (z .0)) (line y′) ∙ P₂ .in-y },
+          record {
+            one-base = ap (λ z. base (z .0)) (line x′) ∙ P₂ .one-base ∙ sym (ap (λ z. base (z .0)) (line y′));
+            in-x = ap (λ z. block (z .0)) (line x′) ∙ P₂ .in-x;
+            in-y = ap (λ z. block (z .0)) (line y′) ∙ P₂ .in-y;
+          },
           ap (λ z. z .1) (line x′) ∙ ap₂ add s₂ s₁ ∙ sym (ap (λ z. z .1) (line y′)),
         )
       where
@@ -293,20 +311,28 @@ module _ {G G⁺ : Type 0} {𝓖 : Mul G} {𝓖⁺ : Mul G⁺} {conj : ℕ → G
         w = s .by
 
         P : Pair x y ((l (rest w) x) .0) ((l (rest w) y) .0)
-        P = record { one-base = over-base (rest w) x ∙ ap (λ a. (F .d (rest w) a) .0) q ∙ sym (over-base (rest w) y); in-x = over-block (rest w) x; in-y = over-block (rest w) y }
+        P = record {
+          one-base = over-base (rest w) x ∙ ap (λ a. (F .d (rest w) a) .0) q ∙ sym (over-base (rest w) y);
+          in-x = over-block (rest w) x;
+          in-y = over-block (rest w) y;
+        }
 
         line : (x : Ω⁺) → (d⁺ w x) .1 ≡ add ((Zᵏ (exponent w) ((l (rest w) x) .0)) .1) ((l (rest w) x) .1)
         line x = ap (λ z. z .1) (column 𝓔 (element w) x ∙ at-mul 𝓔 (Zᵏ (exponent w)) (l (rest w)) x)
 
         alike : (d⁺ w x) .1 ≡ (d⁺ w y) .1
-        alike = line x ∙ ap₂ add (pair-power (exponent w) _ _ P .1) (over-exponent (rest w) x ∙ ap (λ a. (F .d (rest w) a) .1) q ∙ sym (over-exponent (rest w) y)) ∙ sym (line y)
+        alike = line x ∙ ap₂ add (pair-power (exponent w) _ _ P .1)
+            (over-exponent (rest w) x ∙ ap (λ a. (F .d (rest w) a) .1) q ∙ sym (over-exponent (rest w) y)) ∙ sym (line y)
 
   -- ---- Reached
 
   pub reaches : (e : ℕ) (x y : Ω⁺) → block ((Zᵏ e x) .0) ≡ block y → (w : G⁺) × ((d⁺ w x) .0 ≡ y)
   reaches e x y q =
-      let (h, r) = same-block ((Zᵏ e x) .0) y q in
-      (𝓖⁺ .mul (low h) (power 𝓖⁺ top e), ap (λ z. z .0) (column 𝓔 (B .hom .on-mul _ _ ∙ ap (λ z. l h * z) (power-hom (B .hom) top e)) x ∙ at-mul 𝓔 (l h) (Zᵏ e) x) ∙ r)
+      let (h, r) = same-block ((Zᵏ e x) .0) y q in (
+        𝓖⁺ .mul (low h) (power 𝓖⁺ top e),
+        ap (λ z. z .0) (column 𝓔 (B .hom .on-mul _ _ ∙ ap (λ z. l h * z) (power-hom (B .hom) top e)) x ∙ at-mul 𝓔 (l h) (Zᵏ e) x) ∙ r,
+      )
 
   pub reached-power : (w : G⁺) (x : Ω⁺) → block ((Zᵏ (exponent w) x) .0) ≡ block ((d⁺ w x) .0)
-  reached-power w x = sym (power-block (exponent w) _ x (over-block (rest w) x)) ∙ ap (λ z. block (z .0)) (sym (at-mul 𝓔 (Zᵏ (exponent w)) (l (rest w)) x) ∙ column 𝓔 (sym (element w)) x)
+  reached-power w x = sym (power-block (exponent w) _ x (over-block (rest w) x))
+      ∙ ap (λ z. block (z .0)) (sym (at-mul 𝓔 (Zᵏ (exponent w)) (l (rest w)) x) ∙ column 𝓔 (sym (element w)) x)

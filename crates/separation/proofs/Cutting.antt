@@ -22,7 +22,8 @@ use Rattle.numbers.proofs.Sums.{sum-zero, sum-suc, stretch-one, first-le}
 pub all-both : (q q′ : ℕ → Bool) (xs : List ℕ) → all q xs ≡ true → all q′ xs ≡ true → all (λ x. q x && q′ x) xs ≡ true
 unfolding all
 all-both q q′ [] h k = refl
-all-both q q′ (x ∷ xs) h k = and-intro _ _ (and-intro _ _ (and-left (q x) (all q xs) h) (and-left (q′ x) (all q′ xs) k)) (all-both q q′ xs (and-right (q x) (all q xs) h) (and-right (q′ x) (all q′ xs) k))
+all-both q q′ (x ∷ xs) h k = and-intro _ _ (and-intro _ _ (and-left (q x) (all q xs) h) (and-left (q′ x) (all q′ xs) k))
+    (all-both q q′ xs (and-right (q x) (all q xs) h) (and-right (q′ x) (all q′ xs) k))
 
 module _ (low : Level) (D : Rep) where
   unfoldable pub cut : ℕ → ℕ
@@ -91,18 +92,22 @@ module _ (low : Level) (D : Rep) where
 
     -- every cut ends within the columns
     module _ (fits : (o : ℕ) → q o ≡ true → o + repOf low (D .ref 0 o) .deg ≤ D .deg) where
-      ends : (f b : ℕ) → all q (Judgement.cutsFrom low D f (cut b)) ≡ true → cut b ≤ D .deg → D .deg ≤ cut b + f → cut (b + length (Judgement.cutsFrom low D f (cut b))) ≡ D .deg
+      ends : (f b : ℕ) → all q (Judgement.cutsFrom low D f (cut b)) ≡ true → cut b ≤ D .deg → D .deg ≤ cut b + f
+          → cut (b + length (Judgement.cutsFrom low D f (cut b))) ≡ D .deg
       ends zero b h a e =
           let z : b + 0 ≡ b = omega arith in
           ap (λ xs. cut (b + length xs)) (from-end zero b (omega arith)) ∙ ap cut z ∙ omega arith
       ends (suc f) b h a e = go (decLt (cut b) (D .deg)) (ends f (suc b))
         where
-          go : Dec (cut b < D .deg) → (all q (Judgement.cutsFrom low D f (cut (suc b))) ≡ true → cut (suc b) ≤ D .deg → D .deg ≤ cut (suc b) + f → cut (suc b + length (Judgement.cutsFrom low D f (cut (suc b)))) ≡ D .deg)
+          go : Dec (cut b < D .deg)
+              → (all q (Judgement.cutsFrom low D f (cut (suc b))) ≡ true → cut (suc b) ≤ D .deg → D .deg ≤ cut (suc b) + f
+              → cut (suc b + length (Judgement.cutsFrom low D f (cut (suc b)))) ≡ D .deg)
               → cut (b + length (Judgement.cutsFrom low D (suc f) (cut b))) ≡ D .deg
           go (yes s) rec =
               let (here, rest) = all-cons q (cut b) (Judgement.cutsFrom low D f (cut (suc b))) (ap (all q) (sym (from f b s)) ∙ h) in
               let z : b + suc (length (Judgement.cutsFrom low D f (cut (suc b)))) ≡ suc b + length (Judgement.cutsFrom low D f (cut (suc b))) = omega arith in
-              ap (λ xs. cut (b + length xs)) (from f b s) ∙ ap cut z ∙ rec rest (omega (arith, cut-suc b, fits (cut b) here)) (omega (arith, cut-suc b, positive (cut b) here))
+              ap (λ xs. cut (b + length xs)) (from f b s) ∙ ap cut z
+              ∙ rec rest (omega (arith, cut-suc b, fits (cut b) here)) (omega (arith, cut-suc b, positive (cut b) here))
           go (no s) rec =
               let z : b + 0 ≡ b = omega arith in
               ap (λ xs. cut (b + length xs)) (from-end (suc f) b (omega arith)) ∙ ap cut z ∙ omega arith
@@ -123,7 +128,8 @@ module _ (low : Level) (D : Rep) where
       none l = unfold Judgement.cutsFrom in (omega arith)
   counted (suc f) b k l = go (decLt (cut b) (D .deg)) k l (counted f (suc b))
     where
-      go : Dec (cut b < D .deg) → (k : ℕ) → k < length (Judgement.cutsFrom low D (suc f) (cut b)) → ((k : ℕ) → k < length (Judgement.cutsFrom low D f (cut (suc b))) → cut (suc b + k) < D .deg) → cut (b + k) < D .deg
+      go : Dec (cut b < D .deg) → (k : ℕ) → k < length (Judgement.cutsFrom low D (suc f) (cut b))
+          → ((k : ℕ) → k < length (Judgement.cutsFrom low D f (cut (suc b))) → cut (suc b + k) < D .deg) → cut (b + k) < D .deg
       go (yes s) zero l rec = let z : b + 0 ≡ b = omega arith in subst (λ k. cut k < D .deg) (sym z) s
       go (yes s) (suc k) l rec =
           let z : b + suc k ≡ suc b + k = omega arith in
@@ -138,7 +144,8 @@ module _ (low : Level) (D : Rep) where
       let z : 0 + b ≡ b = omega arith in
       subst (λ k. cut k < D .deg) z (counted (D .deg) 0 b (subst (λ o. b < length (Judgement.cutsFrom low D (D .deg) o)) (sym cut-zero) l))
 
-  each : (q : ℕ → Bool) → ((o : ℕ) → q o ≡ true → 0 < repOf low (D .ref 0 o) .deg) → (f b : ℕ) → all q (Judgement.cutsFrom low D f (cut b)) ≡ true → D .deg ≤ cut b + f → (b′ : ℕ) → b ≤ b′ → cut b′ < D .deg → q (cut b′) ≡ true
+  each : (q : ℕ → Bool) → ((o : ℕ) → q o ≡ true → 0 < repOf low (D .ref 0 o) .deg) → (f b : ℕ) → all q (Judgement.cutsFrom low D f (cut b)) ≡ true
+      → D .deg ≤ cut b + f → (b′ : ℕ) → b ≤ b′ → cut b′ < D .deg → q (cut b′) ≡ true
   each q pos zero b h e b′ a l = absurd (omega (arith, mono b b′ a))
     where
       mono : (b b′ : ℕ) → b ≤ b′ → cut b ≤ cut b′
@@ -155,12 +162,14 @@ module _ (low : Level) (D : Rep) where
       here : cut b < D .deg → (q (cut b) ≡ true) × (all q (Judgement.cutsFrom low D f (cut (suc b))) ≡ true)
       here s = all-cons q (cut b) (Judgement.cutsFrom low D f (cut (suc b))) (ap (all q) (sym (from f b s)) ∙ h)
 
-      go : Dec (b < b′) → (all q (Judgement.cutsFrom low D f (cut (suc b))) ≡ true → D .deg ≤ cut (suc b) + f → (b′ : ℕ) → suc b ≤ b′ → cut b′ < D .deg → q (cut b′) ≡ true) → q (cut b′) ≡ true
+      go : Dec (b < b′) → (all q (Judgement.cutsFrom low D f (cut (suc b))) ≡ true → D .deg ≤ cut (suc b) + f → (b′ : ℕ) → suc b ≤ b′
+          → cut b′ < D .deg → q (cut b′) ≡ true) → q (cut b′) ≡ true
       go (yes s) rec = let (x, y) = here (omega (arith, mono b b′ s)) in rec y (omega (arith, cut-suc b, pos (cut b) x)) b′ s l
       go (no s) rec = let z : b ≡ b′ = omega arith in subst (λ k. q (cut k) ≡ true) z (here (subst (λ k. cut k < D .deg) (sym z) l) .0)
 
   -- what every cut passes, block b passes
-  pub cuts-each : (q : ℕ → Bool) → ((o : ℕ) → q o ≡ true → 0 < repOf low (D .ref 0 o) .deg) → all q (Judgement.cuts low D) ≡ true → (b : ℕ) → cut b < D .deg → q (cut b) ≡ true
+  pub cuts-each : (q : ℕ → Bool) → ((o : ℕ) → q o ≡ true → 0 < repOf low (D .ref 0 o) .deg) → all q (Judgement.cuts low D) ≡ true → (b : ℕ)
+      → cut b < D .deg → q (cut b) ≡ true
   unfolding Judgement.cuts
   cuts-each q pos h b l = each q pos (D .deg) 0 (ap (λ o. all q (Judgement.cutsFrom low D (D .deg) o)) cut-zero ∙ h) (omega (arith, cut-zero)) b (omega arith) l
 

@@ -78,9 +78,11 @@ module _ (W : Two) where
       same-block W y x (G-rep W x) (single-block y (ap (count W) (G-rep W x) ∙ e) ∙ sym (single-block x e))
 
   -- the exponents of the generator differ all over two blocks if they do at the first columns
-  exponents-differ : (x y x′ y′ : Ω⁺ W) → base W x ≡ base W y → base W x′ ≡ base W y′ → block W x ≡ block W x′ → block W y ≡ block W y′ → ¬ ((G W x) .1 ≡ (G W y) .1) → ¬ ((G W x′) .1 ≡ (G W y′) .1)
+  exponents-differ : (x y x′ y′ : Ω⁺ W) → base W x ≡ base W y → base W x′ ≡ base W y′ → block W x ≡ block W x′ → block W y ≡ block W y′
+      → ¬ ((G W x) .1 ≡ (G W y) .1) → ¬ ((G W x′) .1 ≡ (G W y′) .1)
   exponents-differ x y x′ y′ q q′ bx by ne e =
-      ne (sym (cancel (residues m pos) ((G W x′) .1) _ _ (B.ratio-step (S W) (F W) (blocked W) x y x′ y′ q q′ bx by ∙ ap (λ z. residues m pos .add z ((G W x) .1)) (sym e))))
+      ne (sym (cancel (residues m pos) ((G W x′) .1) _ _
+      (B.ratio-step (S W) (F W) (blocked W) x y x′ y′ q q′ bx by ∙ ap (λ z. residues m pos .add z ((G W x) .1)) (sym e))))
 
   -- ---- The quick test gives 25
 
@@ -90,13 +92,16 @@ module _ (W : Two) where
     parted-at r h = allBelow-elim lenH (parted (P W) table i) test r h
 
     -- what the test says of a representation of one block, and of one of more
-    single-says : (r : ℕ) → r < lenH → count W r ≡ 1 → (r′ : ℕ) → r′ < lenH → ¬ (r ≡ r′) → count W r′ ≡ 1 → ref r 0 ≡ ref r′ 0 → ¬ (col (Rp W r .matrix i) 0 .exp ≡ col (Rp W r′ .matrix i) 0 .exp)
+    single-says : (r : ℕ) → r < lenH → count W r ≡ 1 → (r′ : ℕ) → r′ < lenH → ¬ (r ≡ r′) → count W r′ ≡ 1 → ref r 0 ≡ ref r′ 0
+        → ¬ (col (Rp W r .matrix i) 0 .exp ≡ col (Rp W r′ .matrix i) 0 .exp)
     unfolding parted differs
     single-says r h e r′ h′ ne e′ q =
         let t = allBelow-elim lenH _ (sym (cond-eq (count W r) 1 _ _ e) ∙ parted-at r h) r′ h′ in
         go (or-cases (eqb r r′ || not (eqb (count W r′) 1)) _ t)
       where
-        go : OneOf (eqb r r′ || not (eqb (count W r′) 1)) (not (eqb (ref r 0) (ref r′ 0)) || not (eqb (col (Rp W r .matrix i) 0 .exp) (col (Rp W r′ .matrix i) 0 .exp))) → ¬ (col (Rp W r .matrix i) 0 .exp ≡ col (Rp W r′ .matrix i) 0 .exp)
+        go : OneOf (eqb r r′ || not (eqb (count W r′) 1))
+            (not (eqb (ref r 0) (ref r′ 0)) || not (eqb (col (Rp W r .matrix i) 0 .exp) (col (Rp W r′ .matrix i) 0 .exp)))
+            → ¬ (col (Rp W r .matrix i) 0 .exp ≡ col (Rp W r′ .matrix i) 0 .exp)
         go (first a) = λ z. first-case (or-cases (eqb r r′) _ a)
           where
             first-case : OneOf (eqb r r′) (not (eqb (count W r′) 1)) → ⊥
@@ -104,16 +109,22 @@ module _ (W : Two) where
             first-case (second s) = eqb-false _ _ (not-true _ s) e′
         go (second a) = λ z. second-case z (or-cases (not (eqb (ref r 0) (ref r′ 0))) _ a)
           where
-            second-case : col (Rp W r .matrix i) 0 .exp ≡ col (Rp W r′ .matrix i) 0 .exp → OneOf (not (eqb (ref r 0) (ref r′ 0))) (not (eqb (col (Rp W r .matrix i) 0 .exp) (col (Rp W r′ .matrix i) 0 .exp))) → ⊥
+            second-case : col (Rp W r .matrix i) 0 .exp ≡ col (Rp W r′ .matrix i) 0 .exp
+                → OneOf (not (eqb (ref r 0) (ref r′ 0))) (not (eqb (col (Rp W r .matrix i) 0 .exp) (col (Rp W r′ .matrix i) 0 .exp))) → ⊥
             second-case z (first s) = eqb-false _ _ (not-true _ s) q
             second-case z (second s) = eqb-false _ _ (not-true _ s) z
 
-    many-says : (r : ℕ) → r < lenH → ¬ (count W r ≡ 1) → (count W r ≡ P W .p i) × (outside (P W) table i r ≡ true) × ((r′ : ℕ) → r′ < lenH → unshared (P W) table i r r′ ≡ true)
+    many-says : (r : ℕ) → r < lenH → ¬ (count W r ≡ 1) → (count W r ≡ P W .p i) × (outside (P W) table i r ≡ true)
+        × ((r′ : ℕ) → r′ < lenH → unshared (P W) table i r r′ ≡ true)
     unfolding parted
     many-says r h ne =
-        let t : eqb (count W r) (P W .p i) && outside (P W) table i r && allBelow lenH (unshared (P W) table i r) ≡ true = sym (cond-ne (count W r) 1 _ _ ne) ∙ parted-at r h in
-        let ab = and-left (eqb (count W r) (P W .p i) && outside (P W) table i r) _ t in
-        (eqb-true _ _ (and-left (eqb (count W r) (P W .p i)) _ ab), and-right (eqb (count W r) (P W .p i)) _ ab, λ r′ h′. allBelow-elim lenH _ (and-right (eqb (count W r) (P W .p i) && outside (P W) table i r) _ t) r′ h′)
+        let t : eqb (count W r) (P W .p i) && outside (P W) table i r && allBelow lenH (unshared (P W) table i r) ≡ true =
+        sym (cond-ne (count W r) 1 _ _ ne) ∙ parted-at r h in
+        let ab = and-left (eqb (count W r) (P W .p i) && outside (P W) table i r) _ t in (
+          eqb-true _ _ (and-left (eqb (count W r) (P W .p i)) _ ab),
+          and-right (eqb (count W r) (P W .p i)) _ ab,
+          λ r′ h′. allBelow-elim lenH _ (and-right (eqb (count W r) (P W .p i) && outside (P W) table i r) _ t) r′ h′,
+        )
 
     -- no other block has a reference of a representation of more blocks than one
     lonely : (x y : Ω⁺ W) → ¬ (count W (x .0 .0) ≡ 1) → base W x ≡ base W y → block W x ≡ block W y
@@ -124,26 +135,32 @@ module _ (W : Two) where
         let u = many-says r (x .1 .0) ne .2 r′ (y .1 .0) in
         let o : ℕ = cut (Low W) (Rp W r) (locate W x .b) in
         let o′ : ℕ = cut (Low W) (Rp W r′) (locate W y .b) in
-        let at-x = at-cut r (x .1 .0) (locate W x .b) (block-below W x) (λ o. all (λ o′. (eqb r r′ && eqb o o′) || not (eqb (ref r o) (ref r′ o′))) (blockStarts (P W) table i r′)) u in
+        let at-x = at-cut r (x .1 .0) (locate W x .b) (block-below W x)
+        (λ o. all (λ o′. (eqb r r′ && eqb o o′) || not (eqb (ref r o) (ref r′ o′))) (blockStarts (P W) table i r′)) u in
         let at-y = at-cut r′ (y .1 .0) (locate W y .b) (block-below W y) (λ o′. (eqb r r′ && eqb o o′) || not (eqb (ref r o) (ref r′ o′))) at-x in
         go (or-cases (eqb r r′ && eqb o o′) _ at-y)
       where
         -- a test of every cut, at one
-        at-cut : (r : ℕ) (h : r < lenH) (b : ℕ) → b < count W r → (q : ℕ → Bool) → all q (blockStarts (P W) table i r) ≡ true → q (cut (Low W) (Rp W r) b) ≡ true
+        at-cut : (r : ℕ) (h : r < lenH) (b : ℕ) → b < count W r → (q : ℕ → Bool) → all q (blockStarts (P W) table i r) ≡ true
+            → q (cut (Low W) (Rp W r) b) ≡ true
         at-cut r h b l q t =
             and-right (passing W r (cut (Low W) (Rp W r) b)) _
-            (cuts-each (Low W) (Rp W r) (λ o. passing W r o && q o) (λ o s. wide W r o (and-left (passing W r o) _ s)) (both (blockStarts (P W) table i r) (all-pass W r h) t) b (starts W r b l))
+            (cuts-each (Low W) (Rp W r) (λ o. passing W r o && q o) (λ o s. wide W r o (and-left (passing W r o) _ s))
+            (both (blockStarts (P W) table i r) (all-pass W r h) t) b (starts W r b l))
           where
             both : (xs : List ℕ) → all (passing W r) xs ≡ true → all q xs ≡ true → all (λ o. passing W r o && q o) xs ≡ true
             both xs s t = all-both (passing W r) q xs s t
 
-        go : OneOf (eqb (x .0 .0) (y .0 .0) && eqb (cut (Low W) (Rp W (x .0 .0)) (locate W x .b)) (cut (Low W) (Rp W (y .0 .0)) (locate W y .b))) (not (eqb (ref (x .0 .0) (cut (Low W) (Rp W (x .0 .0)) (locate W x .b))) (ref (y .0 .0) (cut (Low W) (Rp W (y .0 .0)) (locate W y .b)))))
+        go : OneOf (eqb (x .0 .0) (y .0 .0) && eqb (cut (Low W) (Rp W (x .0 .0)) (locate W x .b)) (cut (Low W) (Rp W (y .0 .0)) (locate W y .b)))
+            (not (eqb (ref (x .0 .0) (cut (Low W) (Rp W (x .0 .0)) (locate W x .b))) (ref (y .0 .0) (cut (Low W) (Rp W (y .0 .0)) (locate W y .b)))))
             → block W x ≡ block W y
         go (first a) =
             let er : x .0 .0 ≡ y .0 .0 = eqb-true _ _ (and-left (eqb (x .0 .0) (y .0 .0)) _ a) in
-            let eo : cut (Low W) (Rp W (x .0 .0)) (locate W x .b) ≡ cut (Low W) (Rp W (y .0 .0)) (locate W y .b) = eqb-true _ _ (and-right (eqb (x .0 .0) (y .0 .0)) _ a) in
+            let eo : cut (Low W) (Rp W (x .0 .0)) (locate W x .b) ≡ cut (Low W) (Rp W (y .0 .0)) (locate W y .b) =
+            eqb-true _ _ (and-right (eqb (x .0 .0) (y .0 .0)) _ a) in
             let eb : locate W x .b ≡ locate W y .b
-            = same-cut (x .0 .0) (locate W x .b) (locate W y .b) (x .1 .0) (block-below W x) (subst (λ r. locate W y .b < count W r) (sym er) (block-below W y)) (eo ∙ ap (λ r. cut (Low W) (Rp W r) (locate W y .b)) (sym er)) in
+            = same-cut (x .0 .0) (locate W x .b) (locate W y .b) (x .1 .0) (block-below W x)
+            (subst (λ r. locate W y .b < count W r) (sym er) (block-below W y)) (eo ∙ ap (λ r. cut (Low W) (Rp W r) (locate W y .b)) (sym er)) in
             same-block W x y er eb
         go (second a) = absurd (eqb-false _ _ (not-true _ a) (sym (base-ref x) ∙ ap (λ z. z .0 .0) q ∙ base-ref y))
 
@@ -151,7 +168,8 @@ module _ (W : Two) where
     two-singles : (x y : Ω⁺ W) → count W (x .0 .0) ≡ 1 → count W (y .0 .0) ≡ 1 → base W x ≡ base W y → ¬ (x ≡ y) → Sep x y
     two-singles x y ex ey q ne =
         B.fixed-separates (S W) (F W) (blocked W) x y q (single-stays x ex) (single-stays y ey)
-        (exponents-differ x₀ y₀ x y bases q (same-block W x₀ x refl (first-located W r h .0 ∙ sym (single-block x ex))) (same-block W y₀ y refl (first-located W r′ h′ .0 ∙ sym (single-block y ey)))
+        (exponents-differ x₀ y₀ x y bases q (same-block W x₀ x refl (first-located W r h .0 ∙ sym (single-block x ex)))
+        (same-block W y₀ y refl (first-located W r′ h′ .0 ∙ sym (single-block y ey)))
         (λ e. single-says r h ex r′ h′ other ey refs (G-exp W r h ∙ ap (λ z. z .0) e ∙ sym (G-exp W r′ h′))))
       where
         r : ℕ
@@ -183,7 +201,8 @@ module _ (W : Two) where
         refs = sym (only x ex) ∙ ap (λ z. z .0 .0) q ∙ only y ey
 
         bases : base W x₀ ≡ base W y₀
-        bases = base-path x₀ y₀ (only x₀ ex ∙ refs ∙ sym (only y₀ ey)) (base-column x₀ ∙ first-located W r h .1 ∙ sym (base-column y₀ ∙ first-located W r′ h′ .1))
+        bases = base-path x₀ y₀ (only x₀ ex ∙ refs ∙ sym (only y₀ ey))
+            (base-column x₀ ∙ first-located W r h .1 ∙ sym (base-column y₀ ∙ first-located W r′ h′ .1))
 
     all-separated : (x y : Ω⁺ W) → ¬ (x ≡ y) → Sep x y
     all-separated x y ne = go (F W .decide (base W x) (base W y)) (ℕ-discrete (count W (x .0 .0)) 1) (ℕ-discrete (count W (y .0 .0)) 1)
@@ -208,12 +227,15 @@ module _ (W : Two) where
         go (no e) =
             let (c, o, u) = many-says r h e in
             let mv : ¬ Stays W x = outside-moves W r h o in
-            let (k, l, s) = injects-onto (P W .p i) (λ e. locate W ((Gᵏ W e x) .0) .b) (subst (λ b. Injects (P W .p i) b (λ e. locate W ((Gᵏ W e x) .0) .b)) c (powers-inject W r h mv)) (locate W y .b) (subst (λ b. locate W y .b < b) c (block-below W y)) in
+            let (k, l, s) = injects-onto (P W .p i) (λ e. locate W ((Gᵏ W e x) .0) .b)
+            (subst (λ b. Injects (P W .p i) b (λ e. locate W ((Gᵏ W e x) .0) .b)) c (powers-inject W r h mv)) (locate W y .b)
+            (subst (λ b. locate W y .b < b) c (block-below W y)) in
             B.reaches (S W) (F W) (blocked W) k x y (same-block W ((Gᵏ W k x) .0) y (Gᵏ-rep W k x) s)
 
     pub quick-separates : (r : ℕ) → r < length (High W) → Judgement.separates (W .C .P) (W .m) (W .table) (suc (W .i)) r ≡ true
     quick-separates r h =
-        separates-from C m pos table (suc i) (λ (x : Ω⁺ W). x .1 .1) (basis-complete (High W)) act (form-shows C m pos (suc i) (High W) fair) r h (fair .degree-pos r h) (λ k a. all-reached r k h a) all-separated
+        separates-from C m pos table (suc i) (λ (x : Ω⁺ W). x .1 .1) (basis-complete (High W)) act (form-shows C m pos (suc i) (High W) fair) r h
+        (fair .degree-pos r h) (λ k a. all-reached r k h a) all-separated
 
   -- ---- 25 gives the quick test
 
@@ -259,7 +281,8 @@ module _ (W : Two) where
         let a : P W .p i ≤ count W r = injects-le (P W .p i) (count W r) _ (powers-inject W r h mv) in
         let b : count W r ≤ P W .p i = injects-le (count W r) (P W .p i) (back r h) (record {
           below = λ k l. back-below r h k l (decLt k (count W r));
-          injective = λ j k l l′ q. sym (back-is r h j l (decLt j (count W r))) ∙ ap (λ e. locate W ((Gᵏ W e (first-index W r h)) .0) .b) q ∙ back-is r h k l′ (decLt k (count W r));
+          injective = λ j k l l′ q. sym (back-is r h j l (decLt j (count W r))) ∙ ap (λ e. locate W ((Gᵏ W e (first-index W r h)) .0) .b) q
+              ∙ back-is r h k l′ (decLt k (count W r));
         }) in
         omega arith
       where
@@ -280,58 +303,76 @@ module _ (W : Two) where
         back-is r h k l (no a) = absurd (a l)
 
     -- first basis indices of blocks with one reference have one base
-    block-base : (r b r′ b′ : ℕ) (h : r < lenH) (l : b < count W r) (h′ : r′ < lenH) (l′ : b′ < count W r′) → ref r (cut (Low W) (Rp W r) b) ≡ ref r′ (cut (Low W) (Rp W r′) b′)
+    block-base : (r b r′ b′ : ℕ) (h : r < lenH) (l : b < count W r) (h′ : r′ < lenH) (l′ : b′ < count W r′)
+        → ref r (cut (Low W) (Rp W r) b) ≡ ref r′ (cut (Low W) (Rp W r′) b′)
         → base W (at-block W r b h l) ≡ base W (at-block W r′ b′ h′ l′)
     block-base r b r′ b′ h l h′ l′ q =
         let x : Ω⁺ W = at-block W r b h l in
         let y : Ω⁺ W = at-block W r′ b′ h′ l′ in
         base-path x y
-        (base-ref x ∙ ap (λ k. ref r (cut (Low W) (Rp W r) k)) (at-located W r b h l .0) ∙ q ∙ sym (base-ref y ∙ ap (λ k. ref r′ (cut (Low W) (Rp W r′) k)) (at-located W r′ b′ h′ l′ .0)))
+        (base-ref x ∙ ap (λ k. ref r (cut (Low W) (Rp W r) k)) (at-located W r b h l .0) ∙ q
+        ∙ sym (base-ref y ∙ ap (λ k. ref r′ (cut (Low W) (Rp W r′) k)) (at-located W r′ b′ h′ l′ .0)))
         (base-column x ∙ at-located W r b h l .1 ∙ sym (base-column y ∙ at-located W r′ b′ h′ l′ .1))
 
     moves-unshared : (r : ℕ) (h : r < lenH) → ¬ Stays W (first-index W r h) → (r′ : ℕ) → r′ < lenH → unshared (P W) table i r r′ ≡ true
     unfolding unshared
     moves-unshared r h mv r′ h′ =
-        cuts-all (Low W) (Rp W r) _ (λ b a. cuts-all (Low W) (Rp W r′) _ (λ b′ a′. each b b′ (begins-below W r b h a) (begins-below W r′ b′ h′ a′) (ℕ-discrete r r′) (ℕ-discrete (cut (Low W) (Rp W r) b) (cut (Low W) (Rp W r′) b′))))
+        cuts-all (Low W) (Rp W r) _
+        (λ b a. cuts-all (Low W) (Rp W r′) _
+        (λ b′ a′. each b b′ (begins-below W r b h a) (begins-below W r′ b′ h′ a′) (ℕ-discrete r r′)
+        (ℕ-discrete (cut (Low W) (Rp W r) b) (cut (Low W) (Rp W r′) b′))))
       where
-        other : (b b′ : ℕ) (l : b < count W r) (l′ : b′ < count W r′) → ¬ ((r ≡ r′) × (cut (Low W) (Rp W r) b ≡ cut (Low W) (Rp W r′) b′)) → ¬ (ref r (cut (Low W) (Rp W r) b) ≡ ref r′ (cut (Low W) (Rp W r′) b′))
+        other : (b b′ : ℕ) (l : b < count W r) (l′ : b′ < count W r′) → ¬ ((r ≡ r′) × (cut (Low W) (Rp W r) b ≡ cut (Low W) (Rp W r′) b′))
+            → ¬ (ref r (cut (Low W) (Rp W r) b) ≡ ref r′ (cut (Low W) (Rp W r′) b′))
         other b b′ l l′ ne q =
             let x : Ω⁺ W = at-block W r b h l in
             let y : Ω⁺ W = at-block W r′ b′ h′ l′ in
-            B.moved-together (S W) (F W) (blocked W) x y (block-base r b r′ b′ h l h′ l′ q) (moves-all r h mv x refl) (separate x y (λ e. ne (ap (λ z. z .0 .0) e, ap (λ z. z .0 .1) e)))
+            B.moved-together (S W) (F W) (blocked W) x y (block-base r b r′ b′ h l h′ l′ q) (moves-all r h mv x refl)
+            (separate x y (λ e. ne (ap (λ z. z .0 .0) e, ap (λ z. z .0 .1) e)))
 
         each : (b b′ : ℕ) → b < count W r → b′ < count W r′ → Dec (r ≡ r′) → Dec (cut (Low W) (Rp W r) b ≡ cut (Low W) (Rp W r′) b′)
-            → (eqb r r′ && eqb (cut (Low W) (Rp W r) b) (cut (Low W) (Rp W r′) b′)) || not (eqb (ref r (cut (Low W) (Rp W r) b)) (ref r′ (cut (Low W) (Rp W r′) b′))) ≡ true
-        each b b′ l l′ (yes p) (yes q) = or-left (eqb r r′ && eqb (cut (Low W) (Rp W r) b) (cut (Low W) (Rp W r′) b′)) _ (and-intro _ _ (eq-eqb r r′ p) (eq-eqb _ _ q))
-        each b b′ l l′ (yes p) (no q) = or-right (eqb r r′ && eqb (cut (Low W) (Rp W r) b) (cut (Low W) (Rp W r′) b′)) _ (ap not (ne-eqb _ _ (other b b′ l l′ (λ u. q (u .1)))))
-        each b b′ l l′ (no p) d = or-right (eqb r r′ && eqb (cut (Low W) (Rp W r) b) (cut (Low W) (Rp W r′) b′)) _ (ap not (ne-eqb _ _ (other b b′ l l′ (λ u. p (u .0)))))
+            → (eqb r r′ && eqb (cut (Low W) (Rp W r) b) (cut (Low W) (Rp W r′) b′))
+            || not (eqb (ref r (cut (Low W) (Rp W r) b)) (ref r′ (cut (Low W) (Rp W r′) b′))) ≡ true
+        each b b′ l l′ (yes p) (yes q) = or-left (eqb r r′ && eqb (cut (Low W) (Rp W r) b) (cut (Low W) (Rp W r′) b′)) _
+            (and-intro _ _ (eq-eqb r r′ p) (eq-eqb _ _ q))
+        each b b′ l l′ (yes p) (no q) = or-right (eqb r r′ && eqb (cut (Low W) (Rp W r) b) (cut (Low W) (Rp W r′) b′)) _
+            (ap not (ne-eqb _ _ (other b b′ l l′ (λ u. q (u .1)))))
+        each b b′ l l′ (no p) d = or-right (eqb r r′ && eqb (cut (Low W) (Rp W r) b) (cut (Low W) (Rp W r′) b′)) _
+            (ap not (ne-eqb _ _ (other b b′ l l′ (λ u. p (u .0)))))
 
     -- two of one block with one reference differ in the exponent of the generator
-    singles-differ : (r r′ : ℕ) (h : r < lenH) (h′ : r′ < lenH) → ¬ (r ≡ r′) → count W r ≡ 1 → count W r′ ≡ 1 → ref r 0 ≡ ref r′ 0 → ¬ (col (Rp W r .matrix i) 0 .exp ≡ col (Rp W r′ .matrix i) 0 .exp)
+    singles-differ : (r r′ : ℕ) (h : r < lenH) (h′ : r′ < lenH) → ¬ (r ≡ r′) → count W r ≡ 1 → count W r′ ≡ 1 → ref r 0 ≡ ref r′ 0
+        → ¬ (col (Rp W r .matrix i) 0 .exp ≡ col (Rp W r′ .matrix i) 0 .exp)
     singles-differ r r′ h h′ ne e e′ q s =
         let x : Ω⁺ W = first-index W r h in
         let y : Ω⁺ W = first-index W r′ h′ in
         let only : (r : ℕ) (h : r < lenH) → base W (first-index W r h) .0 .0 ≡ ref r 0
         = λ r h. base-ref (first-index W r h) ∙ ap (ref r) (ap (cut (Low W) (Rp W r)) (first-located W r h .0) ∙ cut-zero (Low W) (Rp W r)) in
-        let bases : base W x ≡ base W y = base-path x y (only r h ∙ q ∙ sym (only r′ h′)) (base-column x ∙ first-located W r h .1 ∙ sym (base-column y ∙ first-located W r′ h′ .1)) in
-        B.fixed-together (S W) (F W) (blocked W) x y bases (single-stays x e) (single-stays y e′) (Residue-path m _ _ (sym (G-exp W r h) ∙ s ∙ G-exp W r′ h′)) (separate x y (λ z. ne (ap (λ z. z .0 .0) z)))
+        let bases : base W x ≡ base W y =
+        base-path x y (only r h ∙ q ∙ sym (only r′ h′)) (base-column x ∙ first-located W r h .1 ∙ sym (base-column y ∙ first-located W r′ h′ .1)) in
+        B.fixed-together (S W) (F W) (blocked W) x y bases (single-stays x e) (single-stays y e′)
+        (Residue-path m _ _ (sym (G-exp W r h) ∙ s ∙ G-exp W r′ h′)) (separate x y (λ z. ne (ap (λ z. z .0 .0) z)))
 
     parted-holds : (r : ℕ) → r < lenH → parted (P W) table i r ≡ true
     unfolding parted differs
     parted-holds r h = go (stays? W (first-index W r h))
       where
         differ-or : (r′ : ℕ) → r′ < lenH → count W r ≡ 1 → Dec (r ≡ r′) → Dec (count W r′ ≡ 1) → Dec (ref r 0 ≡ ref r′ 0)
-            → eqb r r′ || not (eqb (count W r′) 1) || (not (eqb (ref r 0) (ref r′ 0)) || not (eqb (col (Rp W r .matrix i) 0 .exp) (col (Rp W r′ .matrix i) 0 .exp))) ≡ true
+            → eqb r r′ || not (eqb (count W r′) 1)
+            || (not (eqb (ref r 0) (ref r′ 0)) || not (eqb (col (Rp W r .matrix i) 0 .exp) (col (Rp W r′ .matrix i) 0 .exp))) ≡ true
         differ-or r′ h′ e (yes p) b c = or-left (eqb r r′ || not (eqb (count W r′) 1)) _ (or-left (eqb r r′) _ (eq-eqb r r′ p))
         differ-or r′ h′ e (no p) (no b) c = or-left (eqb r r′ || not (eqb (count W r′) 1)) _ (or-right (eqb r r′) _ (ap not (ne-eqb _ _ b)))
-        differ-or r′ h′ e (no p) (yes b) (no c) = or-right (eqb r r′ || not (eqb (count W r′) 1)) _ (or-left (not (eqb (ref r 0) (ref r′ 0))) _ (ap not (ne-eqb _ _ c)))
+        differ-or r′ h′ e (no p) (yes b) (no c) =
+            or-right (eqb r r′ || not (eqb (count W r′) 1)) _ (or-left (not (eqb (ref r 0) (ref r′ 0))) _ (ap not (ne-eqb _ _ c)))
         differ-or r′ h′ e (no p) (yes b) (yes c) =
-            or-right (eqb r r′ || not (eqb (count W r′) 1)) _ (or-right (not (eqb (ref r 0) (ref r′ 0))) _ (ap not (ne-eqb _ _ (singles-differ r r′ h h′ p e b c))))
+            or-right (eqb r r′ || not (eqb (count W r′) 1)) _
+            (or-right (not (eqb (ref r 0) (ref r′ 0))) _ (ap not (ne-eqb _ _ (singles-differ r r′ h h′ p e b c))))
 
         go : Dec (Stays W (first-index W r h)) → parted (P W) table i r ≡ true
         go (yes st) =
             let e : count W r ≡ 1 = stays-single r h st in
-            cond-eq (count W r) 1 _ _ e ∙ allBelow-intro lenH _ (λ r′ h′. differ-or r′ h′ e (ℕ-discrete r r′) (ℕ-discrete (count W r′) 1) (ℕ-discrete (ref r 0) (ref r′ 0)))
+            cond-eq (count W r) 1 _ _ e
+            ∙ allBelow-intro lenH _ (λ r′ h′. differ-or r′ h′ e (ℕ-discrete r r′) (ℕ-discrete (count W r′) 1) (ℕ-discrete (ref r 0) (ref r′ 0)))
         go (no mv) =
             let c : count W r ≡ P W .p i = moves-count r h mv in
             cond-ne (count W r) 1 _ _ (λ z. omega (arith, C .two i))

@@ -59,7 +59,8 @@ unfolding blocks any
 any-blocks q zero f h = absurd (false≢true h)
 any-blocks q (suc n) f h = go (any-append q (blocks n f) (f n) h) (any-blocks q n f)
   where
-    go : OneOf (any q (blocks n f)) (any q (f n)) → (any q (blocks n f) ≡ true → (k : ℕ) × (k < n) × (any q (f k) ≡ true)) → (k : ℕ) × (k < suc n) × (any q (f k) ≡ true)
+    go : OneOf (any q (blocks n f)) (any q (f n)) → (any q (blocks n f) ≡ true → (k : ℕ) × (k < n) × (any q (f k) ≡ true))
+        → (k : ℕ) × (k < suc n) × (any q (f k) ≡ true)
     go (first a) r = let (k, l, e) = r a in (k, omega arith, e)
     go (second a) r = (n, omega arith, a)
 
@@ -90,8 +91,10 @@ module _ (P : Presentation) (m : ℕ) (pos : 0 < m) (i : ℕ) (L : Level) (A : F
   -- the map of generator k, and the identity beyond the level
   step : (k : ℕ) → Dec (k < i) → Map (residues m pos) (Basis L)
   step k (yes l) x =
-      let y = col (repOf L (x .0 .0) .matrix k) (x .0 .1) in
-      (((x .0 .0, y .row), (x .1 .0, A .row-below (x .0 .0) k (x .0 .1) (x .1 .0) l (x .1 .1))), (y .exp, A .exp-below (x .0 .0) k (x .0 .1) (x .1 .0) l (x .1 .1)))
+      let y = col (repOf L (x .0 .0) .matrix k) (x .0 .1) in (
+        ((x .0 .0, y .row), (x .1 .0, A .row-below (x .0 .0) k (x .0 .1) (x .1 .0) l (x .1 .1))),
+        (y .exp, A .exp-below (x .0 .0) k (x .0 .1) (x .1 .0) l (x .1 .1)),
+      )
   step k (no l) x = maps (residues m pos) (Basis L) .one x
 
   pub D : ℕ → Map (residues m pos) (Basis L)
@@ -115,12 +118,15 @@ module _ (P : Presentation) (m : ℕ) (pos : 0 < m) (i : ℕ) (L : Level) (A : F
   pub satisfies : Satisfies P (maps (residues m pos) (Basis L)) D i
   unfolding conjugate
   satisfies = record {
-    powers = λ j l. fun-ext (λ a. shown-same m pos (basis-frame L) (basis-complete L) (shows-power m pos (basis-frame L) refl (D-shows (a .0 .0) j (a .1 .0) l) (P .p j)) (word-shows (a .0 .0) j (a .1 .0) (omega arith) (P .u j)) (A .powers (a .0 .0) j (a .1 .0) l) a refl);
+    powers = λ j l. fun-ext
+        (λ a. shown-same m pos (basis-frame L) (basis-complete L) (shows-power m pos (basis-frame L) refl (D-shows (a .0 .0) j (a .1 .0) l) (P .p j))
+        (word-shows (a .0 .0) j (a .1 .0) (omega arith) (P .u j)) (A .powers (a .0 .0) j (a .1 .0) l) a refl);
     commutators = λ k j a b. fun-ext (λ x.
         let r : ℕ = x .0 .0 in
         let h : r < length L = x .1 .0 in
         shown-same m pos (basis-frame L) (basis-complete L) (shows-mul m pos (basis-frame L) (D-shows r k h (omega arith)) (D-shows r j h b))
-        (shows-mul m pos (basis-frame L) (D-shows r j h b) (shows-mul m pos (basis-frame L) (D-shows r k h (omega arith)) (word-shows r (suc k) h (omega arith) (P .w k j)))) (A .commutators r k j h a b) x refl);
+        (shows-mul m pos (basis-frame L) (D-shows r j h b)
+        (shows-mul m pos (basis-frame L) (D-shows r k h (omega arith)) (word-shows r (suc k) h (omega arith) (P .w k j)))) (A .commutators r k j h a b) x refl);
   }
 
 -- ---- Normal forms act
@@ -137,7 +143,10 @@ module _ (C : Context) (m : ℕ) (pos : 0 < m) (i : ℕ) (L : Level) (A : Fair (
 
   pub d-hom : Hom (level C i) (maps (residues m pos) (Basis L)) d
   unfolding d level model
-  d-hom = record { on-one = value-trivial (maps-laws (residues m pos)) (D (C .P) m pos i L A) i; on-mul = λ x y. sound model i (omega arith) .mul-value (x .0) (y .0) }
+  d-hom = record {
+    on-one = value-trivial (maps-laws (residues m pos)) (D (C .P) m pos i L A) i;
+    on-mul = λ x y. sound model i (omega arith) .mul-value (x .0) (y .0);
+  }
 
   pub form-shows : (r : ℕ) → r < length L → (x : Nf C i) → Shows m (basis-frame L) r r (image m (repOf L r) i (x .0)) (d x)
   unfolding d
@@ -145,7 +154,8 @@ module _ (C : Context) (m : ℕ) (pos : 0 < m) (i : ℕ) (L : Level) (A : Fair (
 
 -- ---- A family, where separation holds
 
-module _ (C : Context) (tests : (k : ℕ) → k < C .P .n → Test C k) (m : ℕ) (pos : 0 < m) (table : List ℕ) (i : ℕ) (l : i ≤ C .P .n) (A : Fair (C .P) m i (levelAt (C .P .n) table i))
+module _ (C : Context) (tests : (k : ℕ) → k < C .P .n → Test C k) (m : ℕ) (pos : 0 < m) (table : List ℕ) (i : ℕ) (l : i ≤ C .P .n)
+    (A : Fair (C .P) m i (levelAt (C .P .n) table i))
     (separates : (r : ℕ) → r < length (levelAt (C .P .n) table i) → Judgement.separates (C .P) m table i r ≡ true) where
   abbrev L : Level
   L = levelAt (C .P .n) table i
@@ -181,7 +191,8 @@ module _ (C : Context) (tests : (k : ℕ) → k < C .P .n → Test C k) (m : ℕ
       let (w, e) = from-start x in (
         inverse C i w,
         ap (λ z. (act (inverse C i w) z) .0) (sym e)
-            ∙ ap (λ z. z .0) (sym (at-mul (residues m pos) (act (inverse C i w)) (act w) (start x)) ∙ column (residues m pos) (sym (hom .on-mul _ _) ∙ ap act (inverse-left T i l w) ∙ hom .on-one) (start x) ∙ at-one (residues m pos) (start x)),
+            ∙ ap (λ z. z .0) (sym (at-mul (residues m pos) (act (inverse C i w)) (act w) (start x))
+            ∙ column (residues m pos) (sym (hom .on-mul _ _) ∙ ap act (inverse-left T i l w) ∙ hom .on-one) (start x) ∙ at-one (residues m pos) (start x)),
       )
 
   pub reached : (x y : Basis (levelAt (C .P .n) table i)) → x .0 .0 ≡ y .0 .0 → (w : Nf C i) × ((d C m pos i (levelAt (C .P .n) table i) A w x) .0 ≡ y)
@@ -194,13 +205,15 @@ module _ (C : Context) (tests : (k : ℕ) → k < C .P .n → Test C k) (m : ℕ
             ∙ ap (λ z. (act b z) .0) (e ∙ basis-path L (start x) (start y) q refl) ∙ e′,
       )
 
-  pub separated : (x y : Basis (levelAt (C .P .n) table i)) → ¬ (x ≡ y) → Separated (residues m pos) (Basis (levelAt (C .P .n) table i)) (d C m pos i (levelAt (C .P .n) table i) A) x y
+  pub separated : (x y : Basis (levelAt (C .P .n) table i)) → ¬ (x ≡ y)
+      → Separated (residues m pos) (Basis (levelAt (C .P .n) table i)) (d C m pos i (levelAt (C .P .n) table i) A) x y
   unfolding Judgement.separates Judgement.tells
   separated x y ne =
       let r : ℕ = x .0 .0 in
       let h : r < length L = x .1 .0 in
       let all = and-right (Judgement.reaches (C .P) m table i (repOf L r) (x .0 .1)) _ (allBelow-elim (repOf L r .deg) _ (separates r h) (x .0 .1) (x .1 .1)) in
-      go (or-cases (eqb r (y .0 .0) && eqb (x .0 .1) (y .0 .1)) _ (allBelow-elim (repOf L (y .0 .0) .deg) _ (allBelow-elim (length L) _ all (y .0 .0) (y .1 .0)) (y .0 .1) (y .1 .1)))
+      go (or-cases (eqb r (y .0 .0) && eqb (x .0 .1) (y .0 .1)) _
+      (allBelow-elim (repOf L (y .0 .0) .deg) _ (allBelow-elim (length L) _ all (y .0 .0) (y .1 .0)) (y .0 .1) (y .1 .1)))
     where
       fixes : (x : X) (w : Nf C i) → eqb (col (image m (repOf L (x .0 .0)) i (w .0)) (x .0 .1) .row) (x .0 .1) ≡ true → act w x ≡ (x, (act w x) .1)
       fixes x w e =
@@ -215,8 +228,10 @@ module _ (C : Context) (tests : (k : ℕ) → k < C .P .n → Test C k) (m : ℕ
           && not (eqb (col (image m (repOf L (x .0 .0)) i w) (x .0 .1) .exp % m) (col (image m (repOf L (y .0 .0)) i w) (y .0 .1) .exp % m)) ≡ true
           → Separated (residues m pos) X act x y
       by-form w v t =
-          let ab = and-left (eqb (col (image m (repOf L (x .0 .0)) i w) (x .0 .1) .row) (x .0 .1) && eqb (col (image m (repOf L (y .0 .0)) i w) (y .0 .1) .row) (y .0 .1)) _ t in
-          let c = and-right (eqb (col (image m (repOf L (x .0 .0)) i w) (x .0 .1) .row) (x .0 .1) && eqb (col (image m (repOf L (y .0 .0)) i w) (y .0 .1) .row) (y .0 .1)) _ t in
+          let ab = and-left (eqb (col (image m (repOf L (x .0 .0)) i w) (x .0 .1) .row) (x .0 .1)
+          && eqb (col (image m (repOf L (y .0 .0)) i w) (y .0 .1) .row) (y .0 .1)) _ t in
+          let c = and-right (eqb (col (image m (repOf L (x .0 .0)) i w) (x .0 .1) .row) (x .0 .1)
+          && eqb (col (image m (repOf L (y .0 .0)) i w) (y .0 .1) .row) (y .0 .1)) _ t in
           record {
             by = (w, v);
             x = (act (w, v) x) .1;
@@ -226,8 +241,11 @@ module _ (C : Context) (tests : (k : ℕ) → k < C .P .n → Test C k) (m : ℕ
             differ = λ e. eqb-false _ _ (not-true _ c) (ap (λ z. z % m) (value-is x (w, v) ∙ ap (λ z. z .0) e ∙ sym (value-is y (w, v))));
           }
 
-      go : OneOf (eqb (x .0 .0) (y .0 .0) && eqb (x .0 .1) (y .0 .1)) (any (Judgement.tells (C .P) m table i (repOf L (x .0 .0)) (x .0 .1) (repOf L (y .0 .0)) (y .0 .1)) (Judgement.allForms (C .P) i)) → Separated (residues m pos) X act x y
-      go (first e) = absurd (ne (basis-path L x y (eqb-true _ _ (and-left (eqb (x .0 .0) (y .0 .0)) _ e)) (eqb-true _ _ (and-right (eqb (x .0 .0) (y .0 .0)) _ e))))
+      go : OneOf (eqb (x .0 .0) (y .0 .0) && eqb (x .0 .1) (y .0 .1))
+          (any (Judgement.tells (C .P) m table i (repOf L (x .0 .0)) (x .0 .1) (repOf L (y .0 .0)) (y .0 .1)) (Judgement.allForms (C .P) i))
+          → Separated (residues m pos) X act x y
+      go (first e) = absurd
+          (ne (basis-path L x y (eqb-true _ _ (and-left (eqb (x .0 .0) (y .0 .0)) _ e)) (eqb-true _ _ (and-right (eqb (x .0 .0) (y .0 .0)) _ e))))
       go (second e) = let (w, v, t) = forms-any (C .P) i _ e in by-form w v t
 
   abbrev pub foreign-family : Family (residues m pos) (Basis (levelAt (C .P .n) table i)) (level C i) (conjNf C i) i i

@@ -74,7 +74,8 @@ module _ (W : Two) where
   first-index r h = ((r, 0), (h, fair .degree-pos r h))
 
   pub first-located : (r : ℕ) (h : r < length (High W)) → (locate W (first-index r h) .b ≡ 0) × (locate W (first-index r h) .κ ≡ 0)
-  first-located r h = locate-is W (first-index r h) 0 0 (wide W r (cut (Low W) (Rp W r) 0) (passes-at r 0 h (count-pos r h))) (omega (arith, cut-zero (Low W) (Rp W r)))
+  first-located r h = locate-is W (first-index r h) 0 0 (wide W r (cut (Low W) (Rp W r) 0) (passes-at r 0 h (count-pos r h)))
+      (omega (arith, cut-zero (Low W) (Rp W r)))
 
   -- ---- The generator on top
 
@@ -88,7 +89,8 @@ module _ (W : Two) where
   unfolding d top
   top-is =
       value-suc (maps (residues m pos) (Ω⁺ W)) (D (P W) m pos (suc i) (High W) fair) i _
-      ∙ ap₂ (maps (residues m pos) (Ω⁺ W) .mul) (power-one (maps-laws (residues m pos)) _) (value-trivial (maps-laws (residues m pos)) (D (P W) m pos (suc i) (High W) fair) i) ∙ maps-laws (residues m pos) .idr _
+      ∙ ap₂ (maps (residues m pos) (Ω⁺ W) .mul) (power-one (maps-laws (residues m pos)) _)
+      (value-trivial (maps-laws (residues m pos)) (D (P W) m pos (suc i) (High W) fair) i) ∙ maps-laws (residues m pos) .idr _
 
   pub form-rep : (w : Nf C (suc i)) (x : Ω⁺ W) → (d C m pos (suc i) (High W) fair w x) .0 .0 .0 ≡ x .0 .0
   form-rep w x = form-shows C m pos (suc i) (High W) fair (x .0 .0) (x .1 .0) w .maps-to x refl
@@ -97,7 +99,8 @@ module _ (W : Two) where
   G-rep x = form-rep (top C i) x
 
   pub Gᵏ-rep : (e : ℕ) (x : Ω⁺ W) → (Gᵏ e x) .0 .0 .0 ≡ x .0 .0
-  Gᵏ-rep e x = ap (λ (M : Map (residues m pos) (Ω⁺ W)). (M x) .0 .0 .0) (sym (power-hom (d-hom C m pos (suc i) (High W) fair) (top C i) e)) ∙ form-rep (power (level C (suc i)) (top C i) e) x
+  Gᵏ-rep e x = ap (λ (M : Map (residues m pos) (Ω⁺ W)). (M x) .0 .0 .0) (sym (power-hom (d-hom C m pos (suc i) (High W) fair) (top C i) e))
+      ∙ form-rep (power (level C (suc i)) (top C i) e) x
 
   first-shown : (r : ℕ) (h : r < length (High W)) → col (Rp W r .matrix i) 0 ≡ entry ((G (first-index r h)) .0 .0 .1) ((G (first-index r h)) .1 .0)
   first-shown r h =
@@ -137,7 +140,8 @@ module _ (W : Two) where
       let y : Ω⁺ W = (G (first-index r h)) .0 in
       let b-zero : locate W y .b ≡ 0 = ap (λ z. z .1) q ∙ first-located r h .0 in
       let ry : y .0 .0 ≡ r = G-rep (first-index r h) in
-      let inside : locate W y .κ < width (Low W) (Rp W r) 0 = subst (λ s. locate W y .κ < width (Low W) (Rp W s) 0) ry (subst (λ b. locate W y .κ < width (Low W) (Rp W (y .0 .0)) b) b-zero (locate W y .inside)) in
+      let inside : locate W y .κ < width (Low W) (Rp W r) 0 = subst (λ s. locate W y .κ < width (Low W) (Rp W s) 0) ry
+      (subst (λ b. locate W y .κ < width (Low W) (Rp W (y .0 .0)) b) b-zero (locate W y .inside)) in
       let col-y : locate W y .κ ≡ y .0 .1 = omega (arith, locate W y .is, ap (cut (Low W) (Rp W (y .0 .0))) b-zero, cut-zero (Low W) (Rp W (y .0 .0))) in
       let far : repOf (Low W) (Rp W r .ref 0 0) .deg ≤ col (Rp W r .matrix i) 0 .row = leb-true _ _ o in
       omega (arith, width-zero r, G-row r h)
@@ -152,17 +156,24 @@ module _ (W : Two) where
       ry : y .0 .0 ≡ r
       ry = G-rep (first-index r h)
 
-      go : Dec (col (Rp W r .matrix i) 0 .row < repOf (Low W) (Rp W r .ref 0 0) .deg) → leb (repOf (Low W) (Rp W r .ref 0 0) .deg) (col (Rp W r .matrix i) 0 .row) ≡ true
+      go : Dec (col (Rp W r .matrix i) 0 .row < repOf (Low W) (Rp W r .ref 0 0) .deg)
+          → leb (repOf (Low W) (Rp W r .ref 0 0) .deg) (col (Rp W r .matrix i) 0 .row) ≡ true
       go (yes l) =
-          let inside : y .0 .1 < width (Low W) (Rp W (y .0 .0)) 0 = subst (λ s. y .0 .1 < width (Low W) (Rp W s) 0) (sym ry) (omega (arith, width-zero r, G-row r h)) in
+          let inside : y .0 .1 < width (Low W) (Rp W (y .0 .0)) 0 = subst (λ s. y .0 .1 < width (Low W) (Rp W s) 0) (sym ry)
+          (omega (arith, width-zero r, G-row r h)) in
           let zero-b : locate W y .b ≡ 0 = locate-is W y 0 (y .0 .1) inside (omega (arith, cut-zero (Low W) (Rp W (y .0 .0)))) .0 in
           absurd (mv (same-block y (first-index r h) ry (zero-b ∙ sym (first-located r h .0))))
       go (no l) = le-leb (repOf (Low W) (Rp W r .ref 0 0) .deg) (col (Rp W r .matrix i) 0 .row) (omega arith)
 
   -- ---- The powers on a block that moves
 
-  pub powers-inject : (r : ℕ) (h : r < length (High W)) → ¬ Stays (first-index r h) → Injects (P W .p i) (count r) (λ e. locate W ((Gᵏ e (first-index r h)) .0) .b)
-  powers-inject r h mv = record { below = λ e l. subst (λ s. locate W ((Gᵏ e x) .0) .b < count s) (Gᵏ-rep e x) (block-below ((Gᵏ e x) .0)); injective = λ e e′ l l′ q. go e e′ l l′ q (decLt e e′) (decLt e′ e) }
+  pub powers-inject : (r : ℕ) (h : r < length (High W)) → ¬ Stays (first-index r h)
+      → Injects (P W .p i) (count r) (λ e. locate W ((Gᵏ e (first-index r h)) .0) .b)
+  powers-inject r h mv =
+      record {
+        below = λ e l. subst (λ s. locate W ((Gᵏ e x) .0) .b < count s) (Gᵏ-rep e x) (block-below ((Gᵏ e x) .0));
+        injective = λ e e′ l l′ q. go e e′ l l′ q (decLt e e′) (decLt e′ e);
+      }
     where
       x : Ω⁺ W
       x = first-index r h

@@ -65,7 +65,8 @@ module _ (P : Presentation) (table : List ℕ) (i : ℕ) (r : ℕ)
         C = cuts (lower P table i) (repOf (upper P table i) r)
 
         there : all (λ o. all (λ o′. other o o′) C) C ≡ true → all (λ o. allBelow o (λ c. not (eqb (ref c) (ref o)))) C ≡ true
-        there h = cuts-all (lower P table i) (repOf (upper P table i) r) (λ o. allBelow o (λ c. not (eqb (ref c) (ref o)))) (λ b l. allBelow-intro (at b) _ (λ c a.
+        there h = cuts-all (lower P table i) (repOf (upper P table i) r) (λ o. allBelow o (λ c. not (eqb (ref c) (ref o))))
+            (λ b l. allBelow-intro (at b) _ (λ c a.
             let (k, below, e) = holder c (omega arith) in
             let t = block-at (λ o′. other (at k) o′) (block-at (λ o. all (λ o′. other o o′) C) h k (omega arith)) b l in
             ap (λ x. not (eqb x (ref (at b)))) e ∙ other-differs (at k) (at b) (λ q. omega (arith, q)) t))

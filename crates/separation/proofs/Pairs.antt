@@ -133,7 +133,8 @@ module _ (P : Presentation) (table : List ℕ) (i : ℕ) where
 
       pair : (r r′ : ℕ) → r < r′ → r′ < N → (b b′ : Bool) → one r ≡ b → one r′ ≡ b′ → apart P table i r r′ ≡ true
       pair r r′ a l true true e e′ = apart-one r r′ e e′ ∙ parted-one r (quick-all h r (omega arith)) e r′ l (λ q. omega (arith, q)) e′
-      pair r r′ a l true false e e′ = apart-many r r′ (and-second (one r) (one r′) e′) ∙ unshared-sym r′ r (parted-many r′ (quick-all h r′ l) e′ .alone r (omega arith))
+      pair r r′ a l true false e e′ = apart-many r r′ (and-second (one r) (one r′) e′)
+          ∙ unshared-sym r′ r (parted-many r′ (quick-all h r′ l) e′ .alone r (omega arith))
       pair r r′ a l false b′ e e′ = apart-many r r′ (ap (λ x. x && one r′) e) ∙ parted-many r (quick-all h r (omega arith)) e .alone r′ l
 
   back : pairwise P table i ≡ true → quick P table i ≡ true

@@ -31,7 +31,8 @@ pub on-top : (P : Presentation) (m : ℕ) (table : List ℕ) (i : ℕ) (D : Rep)
 unfolding Judgement.relationsHold topRelations allBelow
 on-top P m table i D t = and-right (allBelow i (λ j. Judgement.powerHolds P m table D j && allBelow j (λ k. Judgement.commutatorHolds P m table D k j))) _ t
 
-module _ (C : Context) (m : ℕ) (table : List ℕ) (formed : Judgement.malformed (C .P) m table ≡ false) (restrictions : Judgement.restrictionFails (C .P) m table ≡ false) where
+module _ (C : Context) (m : ℕ) (table : List ℕ) (formed : Judgement.malformed (C .P) m table ≡ false)
+    (restrictions : Judgement.restrictionFails (C .P) m table ≡ false) where
   abbrev P : Presentation
   P = C .P
 
@@ -91,7 +92,8 @@ module _ (C : Context) (m : ℕ) (table : List ℕ) (formed : Judgement.malforme
                 let s = allBelow-elim _ _ (allBelow-elim (suc i) _ (and-right (Judgement.wholeBlock low D o) _ t) g a) c b in
                 let oc : o + c < D .deg = omega (arith, fits o t) in
                 entry-path (eqb-true _ _ (and-left (eqb (col (D .matrix g) (o + c) .row) _) _ s))
-                (sym (mod-eq-of-lt (big .1 (o + c) oc .1)) ∙ eqb-true _ _ (and-right (eqb (col (D .matrix g) (o + c) .row) _) _ s) ∙ mod-eq-of-lt (small .1 c b .1));
+                (sym (mod-eq-of-lt (big .1 (o + c) oc .1)) ∙ eqb-true _ _ (and-right (eqb (col (D .matrix g) (o + c) .row) _) _ s)
+                ∙ mod-eq-of-lt (small .1 c b .1));
           }
 
       word-within : (k : ℕ) → k ≤ suc i → (x : NF k) → W (image m D k x) (image m (below o) k x)
@@ -103,16 +105,20 @@ module _ (C : Context) (m : ℕ) (table : List ℕ) (formed : Judgement.malforme
         → ((o : ℕ) → passing o ≡ true → sameMatrix m (a o) (b o) ≡ true) → sameMatrix m A B ≡ true
     unfolding sameMatrix
     blocks-same A B a b wa wb s =
-        let k₀ = cut-at low D passing positive all-pass 0 (ltb-true _ _ (and-left (ltb 0 (D .deg)) _ (valid-parts C m table formed restrictions (suc i) l r h .0))) in
+        let k₀ = cut-at low D passing positive all-pass 0
+        (ltb-true _ _ (and-left (ltb 0 (D .deg)) _ (valid-parts C m table formed restrictions (suc i) l r h .0))) in
         let la : length A ≡ D .deg = wa _ (k₀ .passes) .size in
         let lb : length B ≡ D .deg = wb _ (k₀ .passes) .size in
         and-intro _ _ (eq-eqb _ _ (la ∙ sym lb)) (allBelow-intro (length A) _ (λ k c.
         let q = cut-at low D passing positive all-pass k (subst (λ z. k < z) la c) in
         let o : ℕ = cut low D (q .b) in
-        subst (λ k. sameEntry m (col A k) (col B k) ≡ true) (q .is) (within-same m o (below o .deg) (D .deg) (fits o (q .passes)) A B (a o) (b o) (wa o (q .passes)) (wb o (q .passes)) (s o (q .passes)) (q .κ) (q .inside))))
+        subst (λ k. sameEntry m (col A k) (col B k) ≡ true) (q .is)
+        (within-same m o (below o .deg) (D .deg) (fits o (q .passes)) A B (a o) (b o) (wa o (q .passes)) (wb o (q .passes)) (s o (q .passes))
+        (q .κ) (q .inside))))
 
     module _ (relations : (r : ℕ) → r < length (Lv (suc i)) → Judgement.relationsHold P m table (suc i) (repOf (Lv (suc i)) r) ≡ true) where
-      holds-below : (o : ℕ) → passing o ≡ true → (j : ℕ) → j < suc i → (Judgement.powerHolds P m table (below o) j ≡ true) × ((k : ℕ) → k < j → Judgement.commutatorHolds P m table (below o) k j ≡ true)
+      holds-below : (o : ℕ) → passing o ≡ true → (j : ℕ) → j < suc i → (Judgement.powerHolds P m table (below o) j ≡ true)
+          × ((k : ℕ) → k < j → Judgement.commutatorHolds P m table (below o) k j ≡ true)
       unfolding Judgement.relationsHold
       holds-below o t j a =
           let s = allBelow-elim (suc i) _ (relations (D .ref 0 o) (listed o t)) j a in
@@ -124,11 +130,14 @@ module _ (C : Context) (m : ℕ) (table : List ℕ) (formed : Judgement.malforme
           (λ o t. within-power m o (below o .deg) (D .deg) (fits o t) (D .matrix j) (below o .matrix j) (generator-within o t j a) (P .p j))
           (λ o t. word-within o t j (omega arith) (P .u j)) (λ o t. holds-below o t j a .0)
 
-      pub lower-commutator : (k j : ℕ) → k < j → j < suc i → Judgement.commutatorHolds (C .P) m table (repOf (levelAt (C .P .n) table (suc (suc i))) r) k j ≡ true
+      pub lower-commutator : (k j : ℕ) → k < j → j < suc i
+          → Judgement.commutatorHolds (C .P) m table (repOf (levelAt (C .P .n) table (suc (suc i))) r) k j ≡ true
       unfolding Judgement.commutatorHolds conjugate
-      lower-commutator k j b a = blocks-same _ _ (λ o. product m (below o .matrix k) (below o .matrix j)) (λ o. product m (below o .matrix j) (product m (below o .matrix k) (image m (below o) (suc k) (P .w k j))))
+      lower-commutator k j b a = blocks-same _ _ (λ o. product m (below o .matrix k) (below o .matrix j))
+          (λ o. product m (below o .matrix j) (product m (below o .matrix k) (image m (below o) (suc k) (P .w k j))))
           (λ o t. within-mul m o (below o .deg) (D .deg) (fits o t) _ _ _ _ (generator-within o t k (omega arith)) (generator-within o t j a))
-          (λ o t. within-mul m o (below o .deg) (D .deg) (fits o t) _ _ _ _ (generator-within o t j a) (within-mul m o (below o .deg) (D .deg) (fits o t) _ _ _ _ (generator-within o t k (omega arith)) (word-within o t (suc k) (omega arith) (P .w k j))))
+          (λ o t. within-mul m o (below o .deg) (D .deg) (fits o t) _ _ _ _ (generator-within o t j a)
+          (within-mul m o (below o .deg) (D .deg) (fits o t) _ _ _ _ (generator-within o t k (omega arith)) (word-within o t (suc k) (omega arith) (P .w k j))))
           (λ o t. holds-below o t j a .1 k b)
 
   -- ---- All levels
@@ -136,11 +145,14 @@ module _ (C : Context) (m : ℕ) (table : List ℕ) (formed : Judgement.malforme
   abbrev Holds : ℕ → Type 0
   Holds i = (r : ℕ) → r < length (Lv i) → Judgement.relationsHold P m table i (repOf (Lv i) r) ≡ true
 
-  climbs : ((i : ℕ) → i < n → (r : ℕ) → r < length (Lv (suc i)) → topRelations P m table (suc i) (repOf (Lv (suc i)) r) ≡ true) → (i : ℕ) → i < n → Holds (suc i)
+  climbs : ((i : ℕ) → i < n → (r : ℕ) → r < length (Lv (suc i)) → topRelations P m table (suc i) (repOf (Lv (suc i)) r) ≡ true) → (i : ℕ) → i < n
+      → Holds (suc i)
   unfolding Judgement.relationsHold topRelations allBelow
   climbs tops zero l = λ r h. and-intro _ _ refl (tops 0 l r h)
   climbs tops (suc i) l = λ r h. and-intro _ _
-      (allBelow-intro (suc i) _ (λ j a. and-intro _ _ (lower-power i l r h (climbs tops i (omega arith)) j a) (allBelow-intro j _ (λ k b. lower-commutator i l r h (climbs tops i (omega arith)) k j b a))))
+      (allBelow-intro (suc i) _
+      (λ j a. and-intro _ _ (lower-power i l r h (climbs tops i (omega arith)) j a)
+      (allBelow-intro j _ (λ k b. lower-commutator i l r h (climbs tops i (omega arith)) k j b a))))
       (tops (suc i) l r h)
 
   pub relations-decide : Judgement.relationFails (C .P) m table ≡ not (Judgement.everywhere (C .P) m table (topRelations (C .P) m table))

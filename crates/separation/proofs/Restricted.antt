@@ -104,7 +104,9 @@ module _ (W : Two) where
 
   pub one-ref : (r o c : ℕ) → passing r o ≡ true → c < repOf Low (Rp r .ref 0 o) .deg → Rp r .ref 0 (o + c) ≡ Rp r .ref 0 o
   unfolding passing Judgement.wholeBlock
-  one-ref r o c h l = eqb-true _ _ (allBelow-elim _ _ (and-right (ltb (Rp r .ref 0 o) (length Low) && leb (o + repOf Low (Rp r .ref 0 o) .deg) (Rp r .deg)) _ (and-left (Judgement.wholeBlock Low (Rp r) o) _ h)) c l)
+  one-ref r o c h l = eqb-true _ _
+      (allBelow-elim _ _ (and-right (ltb (Rp r .ref 0 o) (length Low) && leb (o + repOf Low (Rp r .ref 0 o) .deg) (Rp r .deg)) _
+      (and-left (Judgement.wholeBlock Low (Rp r) o) _ h)) c l)
 
   pub wide : (r o : ℕ) → passing r o ≡ true → 0 < repOf Low (Rp r .ref 0 o) .deg
   wide r o h = low-fair .degree-pos (Rp r .ref 0 o) (listed r o h)
@@ -116,13 +118,15 @@ module _ (W : Two) where
   base x = let k = locate x in ((Rp (x .0 .0) .ref 0 (cut Low (Rp (x .0 .0)) (k .b)), k .κ), (listed (x .0 .0) _ (k .passes), k .inside))
 
   -- it is known by its block and its column there
-  pub locate-is : (x : Basis (levelAt (W .C .P .n) (W .table) (suc (W .i)))) (b κ : ℕ) → κ < width Low (Rp (x .0 .0)) b → cut Low (Rp (x .0 .0)) b + κ ≡ x .0 .1 → (locate x .b ≡ b) × (locate x .κ ≡ κ)
+  pub locate-is : (x : Basis (levelAt (W .C .P .n) (W .table) (suc (W .i)))) (b κ : ℕ) → κ < width Low (Rp (x .0 .0)) b
+      → cut Low (Rp (x .0 .0)) b + κ ≡ x .0 .1 → (locate x .b ≡ b) × (locate x .κ ≡ κ)
   locate-is x b κ l e = cut-one Low (Rp (x .0 .0)) (locate x .b) (locate x .κ) b κ (locate x .inside) l (locate x .is ∙ sym e)
 
   -- ---- Generators below act as below
 
   acts : (r o k c : ℕ) → passing r o ≡ true → k < i → c < repOf Low (Rp r .ref 0 o) .deg
-      → sameEntry m (col (Rp r .matrix k) (o + c)) (entry (o + col (repOf Low (Rp r .ref 0 o) .matrix k) c .row) (col (repOf Low (Rp r .ref 0 o) .matrix k) c .exp)) ≡ true
+      → sameEntry m (col (Rp r .matrix k) (o + c))
+      (entry (o + col (repOf Low (Rp r .ref 0 o) .matrix k) c .row) (col (repOf Low (Rp r .ref 0 o) .matrix k) c .exp)) ≡ true
   unfolding passing Judgement.blockRestricts
   acts r o k c h l a = allBelow-elim _ _ (allBelow-elim i _ (and-right (Judgement.wholeBlock Low (Rp r) o) _ h) k l) c a
 
@@ -140,32 +144,43 @@ module _ (W : Two) where
       let t = acts r o k (q .κ) (q .passes) l (q .inside) in
       let rows : col (Rp r .matrix k) (o + q .κ) .row ≡ o + b .0 .1
       = eqb-true _ _ (and-left (eqb (col (Rp r .matrix k) (o + q .κ) .row) _) _ t) ∙ ap (λ (z : Entry). o + z .row) (deep .shown a refl) in
-      let exps : col (Rp r .matrix k) (o + q .κ) .exp % m ≡ col (repOf Low (a .0 .0) .matrix k) (q .κ) .exp % m = eqb-true _ _ (and-right (eqb (col (Rp r .matrix k) (o + q .κ) .row) _) _ t) in
-      let here : col (Rp r .matrix k) (o + q .κ) ≡ entry (y .0 .1) ((D P m pos (suc i) High fair k x) .1 .0) = ap (col (Rp r .matrix k)) (q .is) ∙ high .shown x refl in
+      let exps : col (Rp r .matrix k) (o + q .κ) .exp % m ≡ col (repOf Low (a .0 .0) .matrix k) (q .κ) .exp % m =
+      eqb-true _ _ (and-right (eqb (col (Rp r .matrix k) (o + q .κ) .row) _) _ t) in
+      let here : col (Rp r .matrix k) (o + q .κ) ≡ entry (y .0 .1) ((D P m pos (suc i) High fair k x) .1 .0) = ap (col (Rp r .matrix k)) (q .is)
+      ∙ high .shown x refl in
       let ry : y .0 .0 ≡ r = high .maps-to x refl in
       let column-y : o + b .0 .1 ≡ y .0 .1 = sym rows ∙ ap (λ (z : Entry). z .row) here in
       let rb : b .0 .0 ≡ a .0 .0 = deep .maps-to a refl in
       let κ-in : b .0 .1 < repOf Low (a .0 .0) .deg = subst (λ s. b .0 .1 < repOf Low s .deg) rb (b .1 .1) in
-      let (eb, eκ) = locate-is y (q .b) (b .0 .1) (subst (λ s. b .0 .1 < width Low (Rp s) (q .b)) (sym ry) κ-in) (ap (λ s. cut Low (Rp s) (q .b) + b .0 .1) ry ∙ column-y) in
+      let (eb, eκ) = locate-is y (q .b) (b .0 .1) (subst (λ s. b .0 .1 < width Low (Rp s) (q .b)) (sym ry) κ-in)
+      (ap (λ s. cut Low (Rp s) (q .b) + b .0 .1) ry ∙ column-y) in
       record {
         is-base = basis-path Low (base y) b (ap₂ (λ s e. Rp s .ref 0 (cut Low (Rp s) e)) ry eb ∙ sym rb) eκ;
         is-number = eb;
-        is-exponent = Residue-path m _ _ (sym (mod-eq-of-lt ((D P m pos (suc i) High fair k x) .1 .1)) ∙ ap (λ (z : Entry). z .exp % m) (sym here) ∙ exps ∙ ap (λ (z : Entry). z .exp % m) (deep .shown a refl) ∙ mod-eq-of-lt ((D P m pos i Low low-fair k a) .1 .1));
+        is-exponent = Residue-path m _ _ (sym (mod-eq-of-lt ((D P m pos (suc i) High fair k x) .1 .1)) ∙ ap (λ (z : Entry). z .exp % m) (sym here)
+            ∙ exps ∙ ap (λ (z : Entry). z .exp % m) (deep .shown a refl) ∙ mod-eq-of-lt ((D P m pos i Low low-fair k a) .1 .1));
       }
 
   low-word : (h : Nf C i) → d C m pos (suc i) High fair (low C i h) ≡ value (maps (residues m pos) Ω⁺) (D P m pos (suc i) High fair) i (h .0)
   unfolding low d
-  low-word h = value-suc (maps (residues m pos) Ω⁺) (D P m pos (suc i) High fair) i _ ∙ ap (λ z. maps (residues m pos) Ω⁺ .mul z (value (maps (residues m pos) Ω⁺) (D P m pos (suc i) High fair) i (h .0))) (power-zero (maps (residues m pos) Ω⁺) _) ∙ maps-laws (residues m pos) .idl _
+  low-word h = value-suc (maps (residues m pos) Ω⁺) (D P m pos (suc i) High fair) i _
+      ∙ ap (λ z. maps (residues m pos) Ω⁺ .mul z (value (maps (residues m pos) Ω⁺) (D P m pos (suc i) High fair) i (h .0)))
+      (power-zero (maps (residues m pos) Ω⁺) _) ∙ maps-laws (residues m pos) .idl _
 
-  pub over-low : (h : Nf C i) (x : Ω⁺) → At (residues m pos) base (λ x. locate x .b) (d C m pos (suc i) High fair (low C i h) x) ((d C m pos i Low low-fair h (base x)) .0) (locate x .b) ((d C m pos i Low low-fair h (base x)) .1)
+  pub over-low : (h : Nf C i) (x : Ω⁺)
+      → At (residues m pos) base (λ x. locate x .b) (d C m pos (suc i) High fair (low C i h) x) ((d C m pos i Low low-fair h (base x)) .0)
+      (locate x .b) ((d C m pos i Low low-fair h (base x)) .1)
   unfolding d
   over-low h x =
-      subst (λ (M : Map (residues m pos) Ω⁺). At (residues m pos) base (λ x. locate x .b) (M x) ((word P m pos i Low low-fair i (h .0) (base x)) .0) (locate x .b) ((word P m pos i Low low-fair i (h .0) (base x)) .1))
-      (sym (low-word h)) (over-value (residues m pos) base (λ x. locate x .b) (λ κ. D P m pos i Low low-fair) (D P m pos (suc i) High fair) i over-generator (h .0) x)
+      subst (λ (M : Map (residues m pos) Ω⁺). At (residues m pos) base (λ x. locate x .b) (M x) ((word P m pos i Low low-fair i (h .0) (base x)) .0)
+      (locate x .b) ((word P m pos i Low low-fair i (h .0) (base x)) .1))
+      (sym (low-word h)) (over-value (residues m pos) base (λ x. locate x .b) (λ κ. D P m pos i Low low-fair)
+      (D P m pos (suc i) High fair) i over-generator (h .0) x)
 
   pub block-known : (x y : Ω⁺) → base x ≡ base y → _≡_ {A = ℕ × ℕ} (x .0 .0, locate x .b) (y .0 .0, locate y .b) → x ≡ y
   unfolding base
-  block-known x y q e = basis-path High x y (ap (λ z. z .0) e) (sym (locate x .is) ∙ ap₂ (_+_) (ap (λ z. cut Low (Rp (z .0)) (z .1)) e) (ap (λ z. z .0 .1) q) ∙ locate y .is)
+  block-known x y q e =
+      basis-path High x y (ap (λ z. z .0) e) (sym (locate x .is) ∙ ap₂ (_+_) (ap (λ z. cut Low (Rp (z .0)) (z .1)) e) (ap (λ z. z .0 .1) q) ∙ locate y .is)
 
   pub block-one-rep : (x y : Ω⁺) → _≡_ {A = ℕ × ℕ} (x .0 .0, locate x .b) (y .0 .0, locate y .b) → base x .0 .0 ≡ base y .0 .0
   unfolding base

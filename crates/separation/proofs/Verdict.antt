@@ -38,7 +38,9 @@ module _ (A : Accepted) (m : ℕ) (pos : 0 < m) (T : List ℕ) where
   judged-21 h = cond-true (Judgement.malformed P m T) _ _ h
 
   module _ (formed : Judgement.malformed (A .C .P) m T ≡ false) where
-    past-21 : (a : ℕ) → firstOf ((22, relations) ∷ (23, restrictions) ∷ (24, Judgement.intertwinerFails P m T) ∷ (25, Judgement.notSeparated P m T) ∷ (26, Judgement.squaresFail P m T) ∷ []) ≡ a → judgement P m T ≡ a
+    past-21 : (a : ℕ) → firstOf
+        ((22, relations) ∷ (23, restrictions) ∷ (24, Judgement.intertwinerFails P m T) ∷ (25, Judgement.notSeparated P m T) ∷
+        (26, Judgement.squaresFail P m T) ∷ []) ≡ a → judgement P m T ≡ a
     unfolding judgement firstOf
     past-21 a h = cond-false (Judgement.malformed P m T) _ _ formed ∙ h
 
@@ -67,7 +69,8 @@ module _ (A : Accepted) (m : ℕ) (pos : 0 < m) (T : List ℕ) where
         hold : Judgement.relationFails P m T ≡ false
         hold = tops ∙ ap not top-hold
 
-        past-23 : (a : ℕ) → firstOf ((24, Judgement.intertwinerFails P m T) ∷ (25, Judgement.notSeparated P m T) ∷ (26, Judgement.squaresFail P m T) ∷ []) ≡ a → judgement P m T ≡ a
+        past-23 : (a : ℕ) → firstOf
+            ((24, Judgement.intertwinerFails P m T) ∷ (25, Judgement.notSeparated P m T) ∷ (26, Judgement.squaresFail P m T) ∷ []) ≡ a → judgement P m T ≡ a
         unfolding firstOf
         past-23 a h = past-21 a (cond-false relations _ _ hold ∙ cond-false restrictions _ _ restricted ∙ h)
 
@@ -101,10 +104,12 @@ module _ (A : Accepted) (m : ℕ) (pos : 0 < m) (T : List ℕ) where
             unfolding firstOf
             past-25 a h = past-24 a (cond-false (Judgement.notSeparated P m T) _ _ (separated ∙ ap not apart) ∙ h)
 
-            pub judged-26 : Judgement.everyLevel (A .C .P) m T (λ i. eqb (Judgement.squares (A .C .P) m T i) (order (A .C .P) i)) ≡ false → judgement (A .C .P) m T ≡ 26
+            pub judged-26 : Judgement.everyLevel (A .C .P) m T (λ i. eqb (Judgement.squares (A .C .P) m T i) (order (A .C .P) i)) ≡ false
+                → judgement (A .C .P) m T ≡ 26
             unfolding firstOf Judgement.squaresFail
             judged-26 h = past-25 26 (cond-true (Judgement.squaresFail P m T) _ _ (ap not h))
 
-            pub judged-0 : Judgement.everyLevel (A .C .P) m T (λ i. eqb (Judgement.squares (A .C .P) m T i) (order (A .C .P) i)) ≡ true → judgement (A .C .P) m T ≡ 0
+            pub judged-0 : Judgement.everyLevel (A .C .P) m T (λ i. eqb (Judgement.squares (A .C .P) m T i) (order (A .C .P) i)) ≡ true
+                → judgement (A .C .P) m T ≡ 0
             unfolding firstOf Judgement.squaresFail
             judged-0 h = past-25 0 (cond-false (Judgement.squaresFail P m T) _ _ (ap not h))

@@ -73,9 +73,12 @@ module _ (C : Context) (m : ℕ) (table : List ℕ) where
 
   module _ (formed : Judgement.malformed (C .P) m table ≡ false) (restrictions : Judgement.restrictionFails (C .P) m table ≡ false) where
     well : (i : ℕ) → i < n → (r : ℕ) → r < length (Lv (suc i))
-        → Judgement.matricesValid P m table (suc i) (repOf (Lv (suc i)) r) && Judgement.blocksWhole P m table (suc i) (repOf (Lv (suc i)) r) && Judgement.targetsListed P m table (suc i) (repOf (Lv (suc i)) r) ≡ true
+        → Judgement.matricesValid P m table (suc i) (repOf (Lv (suc i)) r) && Judgement.blocksWhole P m table (suc i) (repOf (Lv (suc i)) r)
+        && Judgement.targetsListed P m table (suc i) (repOf (Lv (suc i)) r) ≡ true
     unfolding Judgement.malformed
-    well = everywhere-elim P m table (λ i D. Judgement.matricesValid P m table i D && Judgement.blocksWhole P m table i D && Judgement.targetsListed P m table i D) (and-right (eqb (length table % lineWords) 0 && complete n table) _ (not-false _ formed))
+    well = everywhere-elim P m table
+        (λ i D. Judgement.matricesValid P m table i D && Judgement.blocksWhole P m table i D && Judgement.targetsListed P m table i D)
+        (and-right (eqb (length table % lineWords) 0 && complete n table) _ (not-false _ formed))
 
     module _ (i : ℕ) (l : i < n) (r : ℕ) (h : r < length (Lv (suc i))) where
       abbrev pub Rp : Rep
@@ -84,20 +87,28 @@ module _ (C : Context) (m : ℕ) (table : List ℕ) where
       pub valid-parts : (ltb 0 (Rp .deg) && leb (Rp .deg * Rp .deg) (order P (suc i)) ≡ true) × ((g : ℕ) → g < n → valid m (Rp .deg) (Rp .matrix g) ≡ true)
       unfolding Judgement.matricesValid
       valid-parts =
-          let v = and-left (Judgement.matricesValid P m table (suc i) Rp) _ (and-left (Judgement.matricesValid P m table (suc i) Rp && Judgement.blocksWhole P m table (suc i) Rp) _ (well i l r h)) in
-          (and-left (ltb 0 (Rp .deg) && leb (Rp .deg * Rp .deg) (order P (suc i))) _ v, λ g a. allBelow-elim n _ (and-right (ltb 0 (Rp .deg) && leb (Rp .deg * Rp .deg) (order P (suc i))) _ v) g a)
-
-      pub valid-columns : (g : ℕ) → g < n → (length (Rp .matrix g) ≡ Rp .deg) × ((k : ℕ) → k < Rp .deg → (col (Rp .matrix g) k .row < Rp .deg) × (col (Rp .matrix g) k .exp < m))
-      unfolding valid
-      valid-columns g a =
-          let v = and-left (eqb (length (Rp .matrix g)) (Rp .deg) && allBelow (Rp .deg) (λ k. ltb (col (Rp .matrix g) k .row) (Rp .deg) && ltb (col (Rp .matrix g) k .exp) m)) _ (valid-parts .1 g a) in (
-            eqb-true _ _ (and-left (eqb (length (Rp .matrix g)) (Rp .deg)) _ v),
-            λ k b.
-                let t = allBelow-elim (Rp .deg) _ (and-right (eqb (length (Rp .matrix g)) (Rp .deg)) _ v) k b in
-                (ltb-true _ _ (and-left (ltb (col (Rp .matrix g) k .row) (Rp .deg)) _ t), ltb-true _ _ (and-right (ltb (col (Rp .matrix g) k .row) (Rp .deg)) _ t)),
+          let v = and-left (Judgement.matricesValid P m table (suc i) Rp) _
+          (and-left (Judgement.matricesValid P m table (suc i) Rp && Judgement.blocksWhole P m table (suc i) Rp) _ (well i l r h)) in (
+            and-left (ltb 0 (Rp .deg) && leb (Rp .deg * Rp .deg) (order P (suc i))) _ v,
+            λ g a. allBelow-elim n _ (and-right (ltb 0 (Rp .deg) && leb (Rp .deg * Rp .deg) (order P (suc i))) _ v) g a,
           )
 
-      relations-at : Judgement.relationFails P m table ≡ false → (j : ℕ) → j < suc i → (Judgement.powerHolds P m table Rp j ≡ true) × ((k : ℕ) → k < j → Judgement.commutatorHolds P m table Rp k j ≡ true)
+      pub valid-columns : (g : ℕ) → g < n
+          → (length (Rp .matrix g) ≡ Rp .deg) × ((k : ℕ) → k < Rp .deg → (col (Rp .matrix g) k .row < Rp .deg) × (col (Rp .matrix g) k .exp < m))
+      unfolding valid
+      valid-columns g a =
+          let v = and-left (eqb (length (Rp .matrix g)) (Rp .deg)
+          && allBelow (Rp .deg) (λ k. ltb (col (Rp .matrix g) k .row) (Rp .deg) && ltb (col (Rp .matrix g) k .exp) m)) _ (valid-parts .1 g a) in (
+            eqb-true _ _ (and-left (eqb (length (Rp .matrix g)) (Rp .deg)) _ v),
+            λ k b.
+                let t = allBelow-elim (Rp .deg) _ (and-right (eqb (length (Rp .matrix g)) (Rp .deg)) _ v) k b in (
+                  ltb-true _ _ (and-left (ltb (col (Rp .matrix g) k .row) (Rp .deg)) _ t),
+                  ltb-true _ _ (and-right (ltb (col (Rp .matrix g) k .row) (Rp .deg)) _ t),
+                ),
+          )
+
+      relations-at : Judgement.relationFails P m table ≡ false → (j : ℕ) → j < suc i
+          → (Judgement.powerHolds P m table Rp j ≡ true) × ((k : ℕ) → k < j → Judgement.commutatorHolds P m table Rp k j ≡ true)
       unfolding Judgement.relationFails Judgement.relationsHold
       relations-at relations j a =
           let t = allBelow-elim (suc i) _ (everywhere-elim P m table (Judgement.relationsHold P m table) (not-false _ relations) i l r h) j a in
@@ -105,7 +116,9 @@ module _ (C : Context) (m : ℕ) (table : List ℕ) where
 
       pub whole-at : all (Judgement.wholeBlock (Lv i) Rp) (Judgement.cuts (Lv i) Rp) ≡ true
       unfolding Judgement.blocksWhole
-      whole-at = and-left (all (Judgement.wholeBlock (Lv i) Rp) (Judgement.cuts (Lv i) Rp)) _ (and-right (Judgement.matricesValid P m table (suc i) Rp) _ (and-left (Judgement.matricesValid P m table (suc i) Rp && Judgement.blocksWhole P m table (suc i) Rp) _ (well i l r h)))
+      whole-at = and-left (all (Judgement.wholeBlock (Lv i) Rp) (Judgement.cuts (Lv i) Rp)) _
+          (and-right (Judgement.matricesValid P m table (suc i) Rp) _
+          (and-left (Judgement.matricesValid P m table (suc i) Rp && Judgement.blocksWhole P m table (suc i) Rp) _ (well i l r h)))
 
       pub acts-at : all (Judgement.blockRestricts P m table i Rp) (Judgement.cuts (Lv i) Rp) ≡ true
       unfolding Judgement.restrictionFails Judgement.restricts
@@ -127,7 +140,8 @@ module _ (C : Context) (m : ℕ) (table : List ℕ) where
 
     -- ---- The walk
 
-    module _ (relations : Judgement.relationFails (C .P) m table ≡ false) (pos : 0 < m) (tests : (k : ℕ) → k < C .P .n → Test C k) (units : (j : ℕ) → j < C .P .n → Units (C .P .p j)) where
+    module _ (relations : Judgement.relationFails (C .P) m table ≡ false) (pos : 0 < m) (tests : (k : ℕ) → k < C .P .n → Test C k)
+        (units : (j : ℕ) → j < C .P .n → Units (C .P .p j)) where
       abbrev Passes : ℕ → Type 0
       Passes i = (r : ℕ) → r < length (Lv i) → Judgement.separates P m table i r ≡ true
 

@@ -55,13 +55,15 @@ module _ (m o w d : ℕ) (fits : o + w ≤ d) where
   within-power M N p zero = within-one
   within-power M N p (suc k) = within-mul M _ N _ p (within-power M N p k)
 
-  pub within-value : (M N : ℕ → Matrix) (i : ℕ) → ((k : ℕ) → k < i → WithinMatrix (M k) (N k)) → (x : NF i) → WithinMatrix (value (matrices m d) M i x) (value (matrices m w) N i x)
+  pub within-value : (M N : ℕ → Matrix) (i : ℕ) → ((k : ℕ) → k < i → WithinMatrix (M k) (N k)) → (x : NF i)
+      → WithinMatrix (value (matrices m d) M i x) (value (matrices m w) N i x)
   unfolding value
   within-value M N zero h x = within-one
   within-value M N (suc i) h x = within-mul _ _ _ _ (within-power (M i) (N i) (h i (omega arith)) (x .0)) (within-value M N i (λ k l. h k (omega arith)) (x .1))
 
   -- equal small matrices: equal entries of the block
-  pub within-same : (M M′ N N′ : Matrix) → WithinMatrix M N → WithinMatrix M′ N′ → sameMatrix m N N′ ≡ true → (c : ℕ) → c < w → sameEntry m (col M (o + c)) (col M′ (o + c)) ≡ true
+  pub within-same : (M M′ N N′ : Matrix) → WithinMatrix M N → WithinMatrix M′ N′ → sameMatrix m N N′ ≡ true → (c : ℕ) → c < w
+      → sameEntry m (col M (o + c)) (col M′ (o + c)) ≡ true
   unfolding sameMatrix sameEntry
   within-same M M′ N N′ p q h c l =
       let t = allBelow-elim (length N) _ (and-right (eqb (length N) (length N′)) _ h) c (subst (λ z. c < z) (sym (p .size′)) l) in

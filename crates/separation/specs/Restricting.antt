@@ -14,6 +14,8 @@ use mathlib.Core.List.{List}
 
 pub record Restricting (P : Presentation) (m : ℕ) (table : List ℕ) (i : ℕ) : Type 0 where
   pub whole : (r : ℕ) → r < length (levelAt (P .n) table (suc i))
-      → all (Judgement.wholeBlock (levelAt (P .n) table i) (repOf (levelAt (P .n) table (suc i)) r)) (Judgement.cuts (levelAt (P .n) table i) (repOf (levelAt (P .n) table (suc i)) r)) ≡ true
+      → all (Judgement.wholeBlock (levelAt (P .n) table i) (repOf (levelAt (P .n) table (suc i)) r))
+      (Judgement.cuts (levelAt (P .n) table i) (repOf (levelAt (P .n) table (suc i)) r)) ≡ true
   pub acts : (r : ℕ) → r < length (levelAt (P .n) table (suc i))
-      → all (Judgement.blockRestricts P m table i (repOf (levelAt (P .n) table (suc i)) r)) (Judgement.cuts (levelAt (P .n) table i) (repOf (levelAt (P .n) table (suc i)) r)) ≡ true
+      → all (Judgement.blockRestricts P m table i (repOf (levelAt (P .n) table (suc i)) r))
+      (Judgement.cuts (levelAt (P .n) table i) (repOf (levelAt (P .n) table (suc i)) r)) ≡ true
