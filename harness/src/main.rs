@@ -6,7 +6,8 @@
 //!     harness times FILE..             the answer, and the time of a call in microseconds: of the text, and of reading it alone
 //!     harness builds FILE..            the answer, the lines of the table, and the time of a call, beside that of a plain copy
 //!     harness checks FILE..            the answers to the table that is built and to one in other bases, and their times beside that
-//!                                      of building and of reading it
+//!                                      of building and of reading it; as quotient the median over the turns in which all are
+//!                                      timed, and the range of the middle half
 //!     harness tables LINES..           so many lines written as table text and read back: the bytes, and the median times
 //!     harness bench FILE..             all calls on each text, nanoseconds a word
 //!     harness growth                   the same on groups of order 64 to 4,096

@@ -3,7 +3,8 @@
 //!   answers    the answer to each text
 //!   times      the answer, and the time of a call in microseconds: of the text, and of reading it alone
 //!   builds     the answer, the lines of the table, and the time of a call, beside that of a plain copy
-//!   checks     the times of checking the table that is built, and one in other bases, beside those of building and of reading it
+//!   checks     the times of checking the table that is built, and one in other bases, beside those of building and of reading it,
+//!              sampled by turns
 //!   tables     so many lines written as table text and read back: the bytes, and the median times
 
 use crate::naive;
@@ -26,15 +27,25 @@ fn calls<T>(call: &mut impl FnMut() -> T, count: u32) -> Duration {
     start.elapsed()
 }
 
+/// The time of one of so many calls, in microseconds.
+fn each(time: Duration, count: u32) -> f64 {
+    time.as_secs_f64() * 1e6 / f64::from(count)
+}
+
+/// The least of the middle half of numbers, their median, and the greatest of the middle half.
+fn quarters(numbers: impl Iterator<Item = f64>) -> [f64; 3] {
+    let mut sorted: Vec<f64> = numbers.collect();
+    sorted.sort_by(f64::total_cmp);
+    [1, 2, 3].map(|k| sorted[k * sorted.len() / 4])
+}
+
 /// The median time of a call, in microseconds.
 pub fn median<T>(mut call: impl FnMut() -> T) -> f64 {
     let mut count = 1;
     while calls(&mut call, count) < SAMPLE {
         count *= 2;
     }
-    let mut times: Vec<f64> = (0..SAMPLES).map(|_| calls(&mut call, count).as_secs_f64() * 1e6 / f64::from(count)).collect();
-    times.sort_by(f64::total_cmp);
-    times[SAMPLES / 2]
+    quarters((0..SAMPLES).map(|_| each(calls(&mut call, count), count)))[1]
 }
 
 /// The text with its last exponent made 1, where no word may have that generator: it is read whole, and refused with 14
@@ -49,15 +60,7 @@ fn misused(text: &[u8]) -> Vec<u8> {
 
 /// The median time of one call, in microseconds.
 fn median_once(mut call: impl FnMut() -> Counted) -> f64 {
-    let mut times: Vec<f64> = (0..SAMPLES)
-        .map(|_| {
-            let start = Instant::now();
-            black_box(call());
-            start.elapsed().as_secs_f64() * 1e6
-        })
-        .collect();
-    times.sort_by(f64::total_cmp);
-    times[SAMPLES / 2]
+    quarters((0..SAMPLES).map(|_| each(calls(&mut call, 1), 1)))[1]
 }
 
 /// Writes so many lines of values of one to four digits, reads them back, and times both.
@@ -118,16 +121,37 @@ fn foreign(text: &[u8]) -> Vec<u32> {
     other_basis(&mut Random::new(1), &naive::steps::levels(&relations), relations.order() as u32)
 }
 
-/// Checks the table that is built of a text, and the same in other bases; times both, the build, and a plain read.
+/// Checks the table that is built of a text, and the same in other bases; times both, the build, and a plain read. They are
+/// timed by turns, so that a machine whose speed changes is as fast for one as for the next: the quotient is the median over the
+/// turns of check to build, with the range of its middle half.
 pub fn checks(text: &[u8], path: &str) {
     let mut words = vec![7u32; WORDS];
     let size = LINE * build(text, &mut words).count;
-    let building = median(|| build(black_box(text), &mut words));
-    let reading = median(|| sum(black_box(&words[..size])));
-    print!("{size:7} words: built {building:.2} us, read {reading:.2} us");
-    for (basis, table) in [("checked", &words[..size]), ("in other bases", &foreign(text)[..])] {
-        let checking = median(|| check(black_box(text), black_box(table)));
-        print!("; {basis} {checking:.2} us, {:.2} times, answer {}", checking / building, check(text, table));
+    let table = foreign(text);
+    let answers = [check(text, &words[..size]), check(text, &table)];
+    let mut turn = |counts: [u32; 4]| {
+        [
+            calls(&mut || build(black_box(text), &mut words), counts[0]),
+            calls(&mut || sum(black_box(&words[..size])), counts[1]),
+            calls(&mut || check(black_box(text), black_box(&words[..size])), counts[2]),
+            calls(&mut || check(black_box(text), black_box(&table)), counts[3]),
+        ]
+    };
+    let mut counts = [1; 4];
+    while let Some(short) = turn(counts).iter().position(|&time| time < SAMPLE) {
+        counts[short] *= 2;
+    }
+    let turns: Vec<[f64; 4]> = (0..SAMPLES)
+        .map(|_| {
+            let times = turn(counts);
+            [0, 1, 2, 3].map(|k| each(times[k], counts[k]))
+        })
+        .collect();
+    let time = |k: usize| quarters(turns.iter().map(|turn| turn[k]))[1];
+    print!("{size:7} words: built {:.2} us, read {:.2} us", time(0), time(1));
+    for (basis, k, answer) in [("checked", 2, answers[0]), ("in other bases", 3, answers[1])] {
+        let [low, middle, high] = quarters(turns.iter().map(|turn| turn[k] / turn[0]));
+        print!("; {basis} {:.2} us, {middle:.2} times ({low:.2} to {high:.2}), answer {answer}", time(k));
     }
     println!("; {path}");
 }

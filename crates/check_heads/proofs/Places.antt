@@ -1,33 +1,38 @@
 -- What the tests of a walk over heads say, and how it goes on.
 --
 --   counted                        how many lines there are, by a division
---   head-last                      the head of a line, by its last field
---   matrix-is, single-is           the lines of a generator, and its line where the degree is 1
+--   two-same                       two words that are one number
+--   head-other, head-kind, head-last     the head of a line, by words that are told two by two
+--   Columned, columned-none, columned-room, columned-more, columned-fails, columned-all     the lines of a column, one after the other
+--   columns-are, column-room, first-other     all columns are all generators; their lines are there; the first has another number
+--   single-is                      the line of a generator where the degree is 1
 --   product-fits                   a product of two words
 --   Sizes, size-told, size-last    what is asked of a size, and its last test
+--   size-fits                      where a representation ends is a number of 64 bits
 --   place-small, place-heads, place-room      a place by the size of its representation, and then by its heads
---   first-stays, other-stays, next-turns      the level of a place
+--   first-begins, other-begins     whether the line of a place begins the next level
+--   place-stays, place-turns       the level of a place
 --   Stepped                        a place that the walk has come to
 --   stepped-none, stepped-more, stepped-inside, stepped-forth      the steps of the walk
 --   opened-stepped                 the walk over representations of level 1 and degree 1
 --   opened-none                    none of them
 --   stepped-fails, stepped-short, stepped-all, uneven      how it ends
 use mathlib.Core.Path.{_≡_, refl, sym, _∙_, ap, ap₂, subst}
-use mathlib.Core.Bool.{Bool, true, false, _&&_, false≢true}
+use mathlib.Core.Bool.{Bool, true, false, _&&_, and-false, and-true, false≢true}
 use mathlib.Core.List.{List}
-use Prim.Native.Nat.{ℕ, zero, suc, _+_, _*_, _-_, _/_, _%_, _≤_, _<_}
+use Prim.Native.Nat.{ℕ, zero, suc, _+_, _*_, _/_, _%_, _≤_, _<_}
 use native.Mathlib.Nat.{mul-pos, mul-le-mul, mul-le-mul-right}
 use native.Mathlib.Numerals.{add-one}
-use native.Mathlib.Decide.{ℕ-discrete}
 use native.Mathlib.Omega.{arith}
 use lib.Dec.{eqb, leb, ltb}
 use lib.ListN.{length}
-use borrow.Author.Tests.{eqb-true, eq-eqb, ne-eqb, lt-ltb, le-ltb, ltb-true, le-leb, leb-true}
+use borrow.Author.Tests.{eqb-true, eq-eqb, ne-eqb, lt-ltb, ltb-true, le-leb, leb-true}
 use Rattle.definitions.specs.Lists.{allBelow}
 use Rattle.definitions.specs.Presentation.{maxGenerators, lineWords}
 use Rattle.definitions.specs.Table.{LEVEL, REP, DEG, GEN, COL, wordAt, lineCount}
 use Rattle.numbers.proofs.Bools.{and-left, and-right, and-intro, same-test, refuted}
-use Rattle.numbers.proofs.Lists.{allBelow-intro}
+use Rattle.numbers.proofs.Lists.{allBelow-intro, allBelow-elim}
+use Rattle.numbers.proofs.Tested.{Tested, tested-none, tested-more, tested-all, tested-fails}
 use Rattle.heads.specs.Walk.{headIs, matrixHeads, begins, nextLevel, nextRep, repHeads, stepOk, walkFrom, headsOk}
 use Rattle.heads.proofs.Walk.{head-is, is-head, Passing, begins-yes, begins-no, step-kept}
 use Rattle.heads.proofs.Going.{Walking, going-none, going-more, going-fails, going-ends}
@@ -36,7 +41,8 @@ use Rattle.level.specs.Stored.{lineIn, listedIn}
 use Rattle.seek.specs.declared.Scope.{Scope}
 use Rattle.seek.proofs.Halves.{lines-there}
 use Rattle.check_heads.specs.declared.Place.{Place}
-use Rattle.check_heads.specs.Places.{Scoped, turnedTo, behind, InsideTable, sizeOk, placeOk, Opened}
+use Rattle.check_lines.specs.Lines.{TwoWords}
+use Rattle.check_heads.specs.Places.{Scoped, HeadTold, columnHeads, ColumnRoom, startsLevel, turnedTo, behind, InsideTable, sizeOk, placeOk, Opened}
 
 -- ---- Lines
 
@@ -44,16 +50,97 @@ pub counted : (s : Scope) (T : List ℕ) → s .lines ≡ length T / 8 → 0 < s
 unfolding lineCount lineWords
 counted s T e a b = record { lines-are = e; some = a; few = b }
 
-pub head-last : (T : List ℕ) (l i r d g c : ℕ) → wordAt T l LEVEL ≡ i → wordAt T l REP ≡ r → wordAt T l DEG ≡ d → wordAt T l GEN ≡ g + 1
-    → eqb (wordAt T l COL) c ≡ headIs T l i r d g c
-head-last T l i r d g c a b e f =
-    same-test (eqb (wordAt T l COL) c) (headIs T l i r d g c)
-    (λ h. is-head T l i r d g c (record { level = a; rep = b; deg = e; gen = f ∙ add-one g; col = eqb-true (wordAt T l COL) c h }))
-    (λ h. eq-eqb (wordAt T l COL) c (head-is T l i r d g c h .col))
+-- a number is one pair of words
+two-same : (a b i k : ℕ) → a < 4294967296 → i < 4294967296 → a + b * 4294967296 ≡ i + k * 4294967296 → (a ≡ i) × (b ≡ k)
+two-same a b i k l m e = (omega arith, omega arith)
 
-pub matrix-is : (T : List ℕ) (l i r d g at : ℕ) → at ≡ l + g * d → allBelow d (λ c. headIs T (at + c) i r d g c) ≡ matrixHeads T l i r d g
-unfolding matrixHeads
-matrix-is T l i r d g at e = ap (λ a. allBelow d (λ c. headIs T (a + c) i r d g c)) e
+module _ (T : List ℕ) (at place kind c : ℕ) where
+  pub head-other : {x : ℕ} → TwoWords T at LEVEL x → ¬ (x ≡ place) → HeadTold T at place kind c false
+  head-other w n = record {
+    told = λ i k d g a b e f.
+        refuted _ (λ h. let H = head-is T at i k d g c h in n (w .is ∙ ap₂ (λ a b. a + b * 4294967296) (H .level) (H .rep) ∙ sym e));
+  }
+
+  pub head-kind : {x : ℕ} → TwoWords T at DEG x → ¬ (x ≡ kind) → HeadTold T at place kind c false
+  head-kind w n = record {
+    told = λ i k d g a b e f.
+        refuted _ (λ h. let H = head-is T at i k d g c h in n (w .is ∙ ap₂ (λ a b. a + b * 4294967296) (H .deg) (H .gen) ∙ sym f));
+  }
+
+  pub head-last : {x y v : ℕ} → TwoWords T at LEVEL x → x ≡ place → TwoWords T at DEG y → y ≡ kind → v ≡ wordAt T at COL
+      → HeadTold T at place kind c (eqb v c)
+  head-last {x} {y} {v} w p z q col = record {
+    told = λ i k d g a b e f.
+        let (level, rep) = two-same (wordAt T at LEVEL) (wordAt T at REP) i k (w .low) a (sym (w .is) ∙ p ∙ e) in
+        let (deg, gen) = two-same (wordAt T at DEG) (wordAt T at GEN) d (suc g) (z .low) b (sym (z .is) ∙ q ∙ f) in
+        same-test (eqb v c) (headIs T at i k d g c)
+        (λ h. is-head T at i k d g c (record { level = level; rep = rep; deg = deg; gen = gen; col = sym col ∙ eqb-true v c h }))
+        (λ h. eq-eqb v c (col ∙ head-is T at i k d g c h .col));
+  }
+
+-- ---- The lines of a column
+
+-- the lines from line `first` on, in steps of d, are tested as far as line `at`, for the level and number that `place` says
+pub record Columned (T : List ℕ) (place d c first at kind : ℕ) : Type 0 where
+  pub met : ℕ
+  pub there : at ≡ first + met * d
+  pub said : kind ≡ d + met * 4294967296
+  pub tested : (i k : ℕ) → i < 4294967296 → place ≡ i + k * 4294967296 → Tested (λ g. headIs T (first + g * d) i k d g c) met
+
+module _ {T : List ℕ} {place d c first : ℕ} where
+  pub columned-none : {at kind : ℕ} → at ≡ first → kind ≡ d → Columned T place d c first at kind
+  columned-none a b = record { met = 0; there = omega arith; said = omega arith; tested = λ i k l e. tested-none }
+
+  module _ {at kind : ℕ} (C : Columned T place d c first at kind) where
+    pub columned-room : {n : ℕ} → ColumnRoom T first d n → kind < d + n * 4294967296 → 8 * at + 8 ≤ length T
+    columned-room R l = omega (arith, C .there, R (C .met) (omega (arith, C .said)))
+
+    module _ (small : d < 4294967296) {more : ℕ} {r : Bool} (head : HeadTold T at place more c r) (next : more ≡ kind + 4294967296) where
+      head-met : (i k : ℕ) → i < 4294967296 → place ≡ i + k * 4294967296 → r ≡ headIs T (first + C .met * d) i k d (C .met) c
+      head-met i k l e =
+          head .told i k d (C .met) l small e (omega (arith, C .said)) ∙ ap (λ a. headIs T a i k d (C .met) c) (C .there)
+
+      pub columned-more : r ≡ true → {at′ : ℕ} → at′ ≡ at + d → Columned T place d c first at′ more
+      columned-more h a = record {
+        met = C .met + 1;
+        there = omega (arith, C .there);
+        said = omega (arith, C .said);
+        tested = λ i k l e. tested-more (C .tested i k l e) (sym (head-met i k l e) ∙ h);
+      }
+
+      pub columned-fails : r ≡ false → (p : Place) → p .level < 4294967296 → place ≡ p .level + p .rep * 4294967296 → (n : ℕ) → kind < d + n * 4294967296
+          → false ≡ columnHeads T p first d c n
+      columned-fails h p l e n m =
+          tested-fails (C .tested (p .level) (p .rep) l e) {n = n} (omega (arith, C .said)) (sym (head-met (p .level) (p .rep) l e) ∙ h)
+
+    pub columned-all : (p : Place) → p .level < 4294967296 → place ≡ p .level + p .rep * 4294967296 → (n : ℕ) → d + n * 4294967296 ≤ kind
+        → true ≡ columnHeads T p first d c n
+    columned-all p l e n m = tested-all (C .tested (p .level) (p .rep) l e) {n = n} (omega (arith, C .said))
+
+all-across : (n d : ℕ) (f g : ℕ → ℕ → Bool) → ((a b : ℕ) → f b a ≡ g a b) → allBelow d (λ b. allBelow n (f b)) ≡ allBelow n (λ a. allBelow d (g a))
+all-across n d f g e =
+    same-test (allBelow d (λ b. allBelow n (f b))) (allBelow n (λ a. allBelow d (g a)))
+    (λ h. allBelow-intro n _ (λ a l. allBelow-intro d _ (λ b m. sym (e a b) ∙ allBelow-elim n _ (allBelow-elim d _ h b m) a l)))
+    (λ h. allBelow-intro d _ (λ b m. allBelow-intro n _ (λ a l. e a b ∙ allBelow-elim d _ (allBelow-elim n _ h a l) b m)))
+
+module _ (T : List ℕ) (p : Place) (l d n : ℕ) where
+  pub columns-are : allBelow d (λ c. columnHeads T p (l + c) d c n) ≡ allBelow n (λ g. matrixHeads T l (p .level) (p .rep) d g)
+  unfolding matrixHeads
+  columns-are = all-across n d _ _ (λ g c. let e : l + c + g * d ≡ l + g * d + c = omega arith in
+      ap (λ a. headIs T a (p .level) (p .rep) d g c) e)
+
+  pub column-room : 8 * (l + n * d) ≤ length T → {at c : ℕ} → at ≡ l + c → c < d → ColumnRoom T at d n
+  column-room room {at} {c} e h g b =
+      let m : suc g * d ≤ n * d = mul-le-mul-right {m = suc g} {n = n} d b in
+      omega (arith, m)
+
+  pub first-other : 0 < n → 0 < d → {x : ℕ} → x ≡ wordAt T l REP → ¬ (x ≡ p .rep)
+      → false ≡ allBelow n (λ g. matrixHeads T l (p .level) (p .rep) d g)
+  unfolding matrixHeads
+  first-other a b {x} is other = refuted _ (λ h.
+      let e : l + 0 * d + 0 ≡ l = omega arith in
+      let first = allBelow-elim d _ (allBelow-elim n _ h 0 a) 0 b in
+      other (is ∙ head-is T l (p .level) (p .rep) d 0 0 (subst (λ k. headIs T k (p .level) (p .rep) d 0 0 ≡ true) e first) .rep))
 
 pub single-is : (T : List ℕ) (l i r g : ℕ) → headIs T (l + g) i r 1 g 0 ≡ matrixHeads T l i r 1 g
 unfolding matrixHeads allBelow
@@ -64,6 +151,12 @@ single-is T l i r g = let e : l + g ≡ l + g * 1 + 0 = omega arith in ap (λ a.
 pub product-fits : (a b : ℕ) → a < 4294967296 → b < 4294967296 → a * b < 18446744073709551616
 product-fits a b h k =
     let e : a * b ≤ 4294967295 * 4294967295 = mul-le-mul {n₁ = a} {m₁ = b} {n₂ = 4294967295} {m₂ = 4294967295} (omega arith) (omega arith) in
+    omega (arith, e)
+
+pub size-fits : (s : Scope) (p : Place) (d : ℕ) → p .line < s .lines → 8 * s .lines < 18446744073709551616 → s .gens ≤ maxGenerators → d < 4294967296
+    → p .line + s .gens * d < 18446744073709551616
+size-fits s p d l b n f =
+    let e : s .gens * d ≤ maxGenerators * d = mul-le-mul-right {m = s .gens} {n = maxGenerators} d n in
     omega (arith, e)
 
 module _ (s : Scope) (ord : ℕ → ℕ) (p : Place) (d : ℕ) where
@@ -103,12 +196,11 @@ module _ (s : Scope) (ord : ℕ → ℕ) (p : Place) (d : ℕ) where
       and-intro (a && b && e) f (and-intro (a && b) e (and-intro a b (le-leb _ _ (z .level)) (lt-ltb 0 d (z .positive))) (le-leb _ _ (z .square)))
       (le-leb _ _ (z .room))
 
-  pub size-last : (x : ℕ) → x ≡ s .gens * d → p .line < s .lines → p .level ≤ s .gens → 0 < d → d * d ≤ ord (p .level)
-      → leb x (s .lines - p .line) ≡ sizeOk s ord p d
-  size-last x q l i j k =
-      same-test (leb x (s .lines - p .line)) (sizeOk s ord p d)
-      (λ h. told-size (record { level = i; positive = j; square = k; room = omega (arith, leb-true x (s .lines - p .line) h) }))
-      (λ h. le-leb x (s .lines - p .line) (omega (arith, size-told h .room)))
+  pub size-last : (x : ℕ) → x ≡ s .gens * d → p .level ≤ s .gens → 0 < d → d * d ≤ ord (p .level) → leb (p .line + x) (s .lines) ≡ sizeOk s ord p d
+  size-last x q i j k =
+      same-test (leb (p .line + x) (s .lines)) (sizeOk s ord p d)
+      (λ h. told-size (record { level = i; positive = j; square = k; room = omega (arith, leb-true (p .line + x) (s .lines) h) }))
+      (λ h. le-leb (p .line + x) (s .lines) (omega (arith, size-told h .room)))
 
 -- ---- The representation at a place
 
@@ -147,30 +239,26 @@ module _ (s : Scope) (T : List ℕ) (ord : ℕ → ℕ) (p : Place) (counted : s
 -- ---- The level of a place
 
 module _ (T : List ℕ) (p : Place) where
-  abbrev starts : Bool
-  starts = begins T (p .line) (p .level) (p .rep)
+  abbrev here : Bool
+  here = eqb (wordAt T (p .line) LEVEL) (suc (p .level))
 
-  stays : begins T (p .line) (p .level) (p .rep) ≡ false → p ≡ turnedTo T p
-  stays h = let (a, b) = begins-no 0 T (λ i. 0) (p .line) (p .level) (p .rep) h in
+  pub other-begins : ¬ (wordAt T (p .line) LEVEL ≡ p .level + 1) → false ≡ startsLevel T p
+  unfolding begins
+  other-begins h = sym (ap (λ t. ltb 0 (p .rep) && t) (ne-eqb (wordAt T (p .line) LEVEL) (suc (p .level)) (λ e. h (omega arith))) ∙ and-false (ltb 0 (p .rep)))
+
+  pub first-begins : wordAt T (p .line) LEVEL ≡ p .level + 1 → ltb 0 (p .rep) ≡ startsLevel T p
+  unfolding begins
+  first-begins h = sym (ap (λ t. ltb 0 (p .rep) && t) (eq-eqb (wordAt T (p .line) LEVEL) (suc (p .level)) (omega arith)) ∙ and-true (ltb 0 (p .rep)))
+
+  pub place-stays : startsLevel T p ≡ false → p ≡ turnedTo T p
+  place-stays h =
+      let (a, b) = begins-no 0 T (λ i. 0) (p .line) (p .level) (p .rep) h in
       sym (ap₂ (λ i r. record { line = p .line; level = i; rep = r }) a b)
 
-  pub first-stays : p .rep ≡ 0 → p ≡ turnedTo T p
-  unfolding begins
-  first-stays e = stays (ap (λ t. t && eqb (wordAt T (p .line) LEVEL) (suc (p .level))) (le-ltb 0 (p .rep) (omega arith)))
-
-  module _ (some : ¬ (p .rep ≡ 0)) where
-    begins-is : begins T (p .line) (p .level) (p .rep) ≡ eqb (wordAt T (p .line) LEVEL) (p .level + 1)
-    unfolding begins
-    begins-is =
-        ap₂ (λ t i. t && eqb (wordAt T (p .line) LEVEL) i) (lt-ltb 0 (p .rep) (omega arith)) (sym (add-one (p .level)))
-
-    pub other-stays : ¬ (wordAt T (p .line) LEVEL ≡ p .level + 1) → p ≡ turnedTo T p
-    other-stays h = stays (begins-is ∙ ne-eqb (wordAt T (p .line) LEVEL) (p .level + 1) h)
-
-    pub next-turns : wordAt T (p .line) LEVEL ≡ p .level + 1 → record { line = p .line; level = p .level + 1; rep = 0 } ≡ turnedTo T p
-    next-turns h =
-        let (a, b) = begins-yes 0 T (λ i. 0) (p .line) (p .level) (p .rep) (begins-is ∙ eq-eqb (wordAt T (p .line) LEVEL) (p .level + 1) h) in
-        sym (ap₂ (λ i r. record { line = p .line; level = i; rep = r }) (a ∙ sym (add-one (p .level))) b)
+  pub place-turns : startsLevel T p ≡ true → record { line = p .line; level = p .level + 1; rep = 0 } ≡ turnedTo T p
+  place-turns h =
+      let (a, b) = begins-yes 0 T (λ i. 0) (p .line) (p .level) (p .rep) h in
+      sym (ap₂ (λ i r. record { line = p .line; level = i; rep = r }) (a ∙ sym (add-one (p .level))) b)
 
 -- ---- The walk
 
@@ -278,11 +366,7 @@ module _ {s : Scope} {ord : ℕ → ℕ} {T : List ℕ} {k : ℕ} (some : 0 < s 
     room = let e : suc r * n ≤ k * n = mul-le-mul-right {m = suc r} {n = k} n l in omega (arith, O .room, e)
 
     stays-there : at r ≡ turnedTo T (at r)
-    stays-there = go (ℕ-discrete r 0)
-      where
-        go : Dec (r ≡ 0) → at r ≡ turnedTo T (at r)
-        go (yes e) = first-stays T (at r) e
-        go (no e) = other-stays T (at r) e (λ q. omega (arith, q, level-one))
+    stays-there = place-stays T (at r) (sym (other-begins T (at r) (λ q. omega (arith, q, level-one))))
 
     lines-there-all : allBelow n (λ g. matrixHeads T (r * n) 1 r 1 g) ≡ true
     lines-there-all = allBelow-intro n _ (λ g h. sym (single-is T (r * n) 1 r g) ∙ O .heads r g l h)

@@ -2,6 +2,10 @@
 --
 --   ordersIn orders i      the order of level i, in a list of them
 --   Scoped s T            s tells how many lines T has, and how many generators, within the ceiling
+--   HeadTold T at place kind c r     r tells whether line `at` has column c, level and number of `place`, degree and generator of `kind`
+--   columnHeads T p first d c n      the lines of column c of n generators, from line `first` on in steps of d, have their heads
+--   ColumnRoom T first d n           these lines are there
+--   startsLevel T p        the line of p begins the next level
 --   turnedTo T p           the place p on the level that its line begins
 --   behind n T p           the place behind the representation at p
 --   InsideTable n T p           the lines of that representation are there
@@ -13,10 +17,11 @@ use mathlib.Core.Bool.{Bool, true, _&&_}
 use mathlib.Core.List.{List}
 use Prim.Native.Nat.{ℕ, suc, _+_, _*_, _≤_, _<_}
 use lib.Dec.{leb, ltb}
-use lib.ListN.{getD}
+use lib.ListN.{length, getD}
+use Rattle.definitions.specs.Lists.{allBelow}
 use Rattle.definitions.specs.Presentation.{maxGenerators}
 use Rattle.definitions.specs.Table.{DEG, wordAt, lineCount}
-use Rattle.heads.specs.Walk.{headIs, nextLevel, nextRep, repHeads}
+use Rattle.heads.specs.Walk.{headIs, begins, nextLevel, nextRep, repHeads}
 use Rattle.seek.specs.declared.Scope.{Scope}
 use Rattle.check_heads.specs.declared.Place.{Place}
 
@@ -27,6 +32,19 @@ pub record Scoped (s : Scope) (T : List ℕ) : Type 0 where
   pub lines-are : s .lines ≡ lineCount T
   pub some : 0 < s .gens
   pub few : s .gens ≤ maxGenerators
+
+pub record HeadTold (T : List ℕ) (at place kind c : ℕ) (r : Bool) : Type 0 where
+  pub told : (i k d g : ℕ) → i < 4294967296 → d < 4294967296 → place ≡ i + k * 4294967296 → kind ≡ d + suc g * 4294967296
+      → r ≡ headIs T at i k d g c
+
+abbrev pub columnHeads : List ℕ → Place → (first d c n : ℕ) → Bool
+columnHeads T p first d c n = allBelow n (λ g. headIs T (first + g * d) (p .level) (p .rep) d g c)
+
+abbrev pub ColumnRoom : List ℕ → (first d n : ℕ) → Type 0
+ColumnRoom T first d n = (g : ℕ) → g < n → 8 * (first + g * d) + 8 ≤ length T
+
+abbrev pub startsLevel : List ℕ → Place → Bool
+startsLevel T p = begins T (p .line) (p .level) (p .rep)
 
 abbrev pub turnedTo : List ℕ → Place → Place
 turnedTo T p = record {

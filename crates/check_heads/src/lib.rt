@@ -3,20 +3,21 @@
 //
 //   Place            where a walk is
 //   times            a product of two words
-//   head_is, matrix_heads, single_heads, rep_heads     the head of a line, of the lines of a generator, of those of a
-//                    representation of degree 1, and of any
+//   head_is, column_heads, rep_heads     the head of a line, of the lines of a column, and of those of a representation
 //   size_ok          whether a level and a degree are possible, and their lines are there
 //   place_ok         whether a representation stands at a place
-//   turned, onward   the level of a place, and the place behind a representation
+//   begins, turned   whether the line of a place begins the next level, and the level of a place
+//   onward           the place behind a representation
 //   heads_behind, heads     the walk behind representations of level 1 and degree 1, and the whole walk
 ghost use mathlib.Core.Path.{_≡_};
 ghost use Prim.Native.Nat.{ℕ, _+_, _*_, _≤_, _<_};
 ghost use lib.ListN.{length};
 ghost use Rattle.definitions.specs.Lists.{allBelow};
 ghost use Rattle.definitions.specs.Presentation.{maxGenerators};
-ghost use Rattle.heads.specs.Walk.{headIs, matrixHeads, headsOk};
+ghost use Rattle.heads.specs.Walk.{matrixHeads, headsOk};
 ghost use Rattle.level.specs.Stored.{lineIn};
-ghost use Rattle.check_heads.specs.Places.{ordersIn, Scoped, turnedTo, behind, InsideTable, sizeOk, placeOk, Opened};
+ghost use Rattle.check_heads.specs.Places.{ordersIn, Scoped, HeadTold, ColumnRoom, columnHeads, startsLevel};
+ghost use Rattle.check_heads.specs.Places.{turnedTo, behind, InsideTable, sizeOk, placeOk, Opened};
 use conditions::size::Orders;
 use level::Listed;
 use seek::Scope;
@@ -34,78 +35,61 @@ fn times(a: u32, b: u32) -> usize
     level::up(a) * level::up(b)
 }
 
-// The line is that of column c of generator g, of the representation of degree d at a place.
-fn head_is(words: &[u32], at: usize, p: Place, d: u32, g: u32, c: u32) -> bool
-    requires { ⌜ (8 * at + 8 ≤ length (now words)) × (g < maxGenerators) ⌝ }
-    ensures { λ r. ⌜ r ≡ headIs (now (words .entry)) at (p .level) (p .rep) d g c ⌝ }
+// The line has column c; its level and number are what one number says, its degree and generator what another does.
+fn head_is(words: &[u32], at: usize, place: usize, kind: usize, c: u32) -> bool
+    requires { ⌜ 8 * at + 8 ≤ length (now words) ⌝ }
+    ensures { λ r. ⌜ HeadTold (now (words .entry)) at place kind c r ⌝ }
 {
-    if level::word_at(words, at, level::LEVEL) != p.level {
+    if check_lines::two_at(words, at, level::LEVEL) != place {
         return false;
     }
-    if level::up(level::word_at(words, at, level::REP)) != p.rep {
-        return false;
-    }
-    if level::word_at(words, at, level::DEG) != d {
-        return false;
-    }
-    if level::word_at(words, at, level::GEN) != g + 1 {
+    if check_lines::two_at(words, at, level::DEG) != kind {
         return false;
     }
     level::word_at(words, at, level::COL) == c
 }
 
-// The lines of generator g.
-fn matrix_heads(words: &[u32], p: Place, d: Listed, g: u32) -> bool
-    requires { ⌜ (8 * (lineIn d g + d .deg) ≤ length (now words)) × (g < maxGenerators) ⌝ }
-    ensures { λ r. ⌜ r ≡ matrixHeads (now (words .entry)) (d .line) (p .level) (p .rep) (d .deg) g ⌝ }
+// The lines of column c of n generators, of the representation of degree d at a place: each stands d lines behind the one before.
+fn column_heads(words: &[u32], p: Place, first: usize, d: u32, c: u32, n: u32) -> bool
+    requires { ⌜ (p .rep < 4294967296) × ColumnRoom (now words) first d n ⌝ }
+    ensures { λ r. ⌜ r ≡ columnHeads (now (words .entry)) p first d c n ⌝ }
 {
-    let at = level::matrix_line(d, g);
-    let mut c: u32 = 0;
-    while c < d.deg {
-        if !head_is(words, at + level::up(c), p, d.deg, g, c) {
+    let place = check_lines::wide(p.level) + p.rep * check_lines::HIGH;
+    let deg = check_lines::wide(d);
+    let end = deg + check_lines::wide(n) * check_lines::HIGH;
+    let mut kind = deg;
+    let mut at = first;
+    while kind < end {
+        kind += check_lines::HIGH;
+        if !head_is(words, at, place, kind, c) {
             return false;
         }
-        c += 1;
+        at += deg;
     }
     true
 }
 
-// The lines of all n generators of a representation of degree 1: line after line.
-fn single_heads(words: &[u32], p: Place, at: usize, n: u32) -> bool
-    requires { ⌜ (8 * (at + n) ≤ length (now words)) × (n ≤ maxGenerators) ⌝ }
-    ensures { λ r. ⌜ r ≡ allBelow n (λ (g : ℕ). matrixHeads (now (words .entry)) at (p .level) (p .rep) 1 g) ⌝ }
-{
-    let mut g: u32 = 0;
-    while g < n {
-        if !head_is(words, at + level::up(g), p, 1, g, 0) {
-            return false;
-        }
-        g += 1;
-    }
-    true
-}
-
-// The lines of all n generators.
+// The lines of all n generators: column after column.
 fn rep_heads(words: &[u32], p: Place, d: Listed, n: u32) -> bool
-    requires { ⌜ (8 * lineIn d n ≤ length (now words)) × (n ≤ maxGenerators) ⌝ }
+    requires { ⌜ (8 * lineIn d n ≤ length (now words)) × (0 < n) × (0 < d .deg) ⌝ }
     ensures { λ r. ⌜ r ≡ allBelow n (λ (g : ℕ). matrixHeads (now (words .entry)) (d .line) (p .level) (p .rep) (d .deg) g) ⌝ }
 {
-    if d.deg == 1 {
-        return single_heads(words, p, d.line, n);
+    if check_lines::wide(level::word_at(words, d.line, level::REP)) != p.rep {
+        return false;
     }
-    let mut g: u32 = 0;
-    while g < n {
-        if !matrix_heads(words, p, d, g) {
+    let mut at = d.line;
+    for c in 0..d.deg {
+        if !column_heads(words, p, at, d.deg, c, n) {
             return false;
         }
-        g += 1;
+        at += 1;
     }
     true
 }
 
 // The table has the level of a place, the degree d is positive and its square within the order, and its lines are there.
 fn size_ok(orders: &Orders, s: Scope, p: Place, d: u32) -> bool
-    requires { ⌜ (p .line < s .lines) × (s .gens ≤ maxGenerators) ⌝ }
+    requires { ⌜ (p .line < s .lines) × (8 * s .lines < 18446744073709551616) × (s .gens ≤ maxGenerators) ⌝ }
     ensures { λ r. ⌜ r ≡ sizeOk s (ordersIn (now (orders .entry))) p d ⌝ }
 {
     if s.gens < p.level {
@@ -118,7 +102,7 @@ fn size_ok(orders: &Orders, s: Scope, p: Place, d: u32) -> bool
     if level::up(orders[i]) < times(d, d) {
         return false;
     }
-    times(s.gens, d) <= s.lines - p.line
+    p.line + times(s.gens, d) <= s.lines
 }
 
 // The lines of a representation stand at a place.
@@ -133,23 +117,30 @@ fn place_ok(words: &[u32], orders: &Orders, s: Scope, p: Place) -> bool
     rep_heads(words, p, d, s.gens)
 }
 
+// The line of a place begins the next level.
+fn begins(words: &[u32], p: Place) -> bool
+    requires { ⌜ (8 * p .line + 8 ≤ length (now words)) × (p .level ≤ maxGenerators) ⌝ }
+    ensures { λ r. ⌜ r ≡ startsLevel (now (words .entry)) p ⌝ }
+{
+    if level::word_at(words, p.line, level::LEVEL) != p.level + 1 {
+        return false;
+    }
+    0 < p.rep
+}
+
 // Where the line of a place begins the next level, that level.
 fn turned(words: &[u32], p: Place) -> Place
     requires { ⌜ (8 * p .line + 8 ≤ length (now words)) × (p .level ≤ maxGenerators) ⌝ }
     ensures { λ t. ⌜ t ≡ turnedTo (now (words .entry)) p ⌝ }
 {
-    if p.rep == 0 {
-        return p;
+    if begins(words, p) {
+        return Place {
+            line: p.line,
+            level: p.level + 1,
+            rep: 0,
+        };
     }
-    let i = p.level + 1;
-    if level::word_at(words, p.line, level::LEVEL) != i {
-        return p;
-    }
-    Place {
-        line: p.line,
-        level: i,
-        rep: 0,
-    }
+    p
 }
 
 // The place behind the representation at a place.

@@ -1,14 +1,14 @@
 -- What the tests of lines say.
 --
 --   Missed, missed-none, missed-more, missed-all, missed-found     a loop that looks for a number
---   entry-high, entry-last     an entry by its row, and then by its exponent
+--   entry-high, entry-last, entry-low     an entry by its row, and then by its exponent
 --   entries-below              entries in range have rows below the degree
---   matrix-apart, matrix-rows  a matrix by its entries, and then by its rows
+--   matrix-apart, matrix-entries, matrix-rows, matrix-missed     a matrix by its entries, and then by its rows
 --   ref-read                   what a column refers to
 --   target-unlisted, target-refs      where an intertwiner leads, by its first column and then by all
 --   above-none, above-is       generators above a level
 use mathlib.Core.Path.{_≡_, sym, _∙_, ap, ap₂}
-use mathlib.Core.Bool.{Bool, true, false, _&&_, _||_}
+use mathlib.Core.Bool.{Bool, true, false, _&&_, _||_, and-false}
 use mathlib.Core.List.{List}
 use Prim.Native.Nat.{ℕ, _+_, _≤_, _<_}
 use native.Mathlib.Nat.{add-zero}
@@ -59,6 +59,9 @@ entry-high m d x h = sym (ap (λ t. t && ltb (x .exp) m) (le-ltb (x .row) d h))
 pub entry-last : (m d : ℕ) (x : Entry) → x .row < d → ltb (x .exp) m ≡ entryOk m d x
 entry-last m d x h = sym (ap (λ t. t && ltb (x .exp) m) (lt-ltb (x .row) d h))
 
+pub entry-low : (m d : ℕ) (x : Entry) → entryOk m d x ≡ true → x .row < d
+entry-low m d x h = ltb-true (x .row) d (and-left (ltb (x .row) d) (ltb (x .exp) m) h)
+
 module _ (m : ℕ) (T : List ℕ) (at d : ℕ) where
   abbrev M : Matrix
   M = matrixIn T at d
@@ -74,13 +77,19 @@ module _ (m : ℕ) (T : List ℕ) (at d : ℕ) where
       (allBelow-below d _ _ (λ r _. anyBelow-below d _ _ (λ c l. ap (λ (x : Entry). eqb (x .row) r) (col-matrixIn T at d c l)))))
 
   pub entries-below : allBelow d (λ c. entryOk m d (entryIn T (at + c))) ≡ true → RowsBelow T at d
-  entries-below h c l = ltb-true _ _ (and-left _ (ltb (entryIn T (at + c) .exp) m) (allBelow-elim d _ h c l))
+  entries-below h c l = entry-low m d (entryIn T (at + c)) (allBelow-elim d _ h c l)
 
   pub matrix-apart : allBelow d (λ c. entryOk m d (entryIn T (at + c))) ≡ false → false ≡ valid m d (matrixIn T at d)
   matrix-apart h = sym (ap (λ t. t && allBelow d (hasRow T at d)) h) ∙ matrix-is
 
+  pub matrix-entries : valid m d (matrixIn T at d) ≡ true → allBelow d (λ c. entryOk m d (entryIn T (at + c))) ≡ true
+  matrix-entries h = and-left entries (allBelow d (hasRow T at d)) (matrix-is ∙ h)
+
   pub matrix-rows : allBelow d (λ c. entryOk m d (entryIn T (at + c))) ≡ true → allBelow d (hasRow T at d) ≡ valid m d (matrixIn T at d)
   matrix-rows h = sym (ap (λ t. t && allBelow d (hasRow T at d)) h) ∙ matrix-is
+
+  pub matrix-missed : allBelow d (hasRow T at d) ≡ false → false ≡ valid m d (matrixIn T at d)
+  matrix-missed h = sym (ap (λ t. entries && t) h ∙ and-false entries) ∙ matrix-is
 
 -- ---- Generators
 

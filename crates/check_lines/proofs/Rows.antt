@@ -3,7 +3,7 @@
 --   SeenRows T at M c     the marks M are those of the rows of the first c lines, and these differ
 --   seen-none, seen-more     at the start, and one line more
 --   seen-all, seen-twice     all rows are there, or one is not
---   first-row             the one row of degree 1
+--   single-matrix         a matrix of degree 1, by its entry
 use mathlib.Core.Path.{_≡_, refl, sym, _∙_, ap, subst}
 use mathlib.Core.Bool.{true, false}
 use mathlib.Core.List.{List}
@@ -16,12 +16,14 @@ use lib.Seq.{getD-set-same, getD-set-other}
 use borrow.Author.Count.{below-more}
 use borrow.Author.Tests.{eqb-true, eq-eqb}
 use Rattle.definitions.specs.Lists.{allBelow}
-use Rattle.numbers.proofs.Bools.{refuted}
+use Rattle.definitions.specs.Monomial.{valid}
+use Rattle.numbers.proofs.Bools.{same-test, refuted}
 use Rattle.numbers.proofs.Lists.{allBelow-intro, allBelow-elim}
 use Rattle.numbers.proofs.Searches.{anyBelow-intro, anyBelow-elim}
 use Rattle.numbers.proofs.Pigeonhole.{Injects, injects-onto, onto-injects}
-use Rattle.level.specs.Stored.{entryIn}
-use Rattle.check_lines.specs.Lines.{maxDegree, RowsBelow, hasRow}
+use Rattle.level.specs.Stored.{entryIn, matrixIn}
+use Rattle.check_lines.specs.Lines.{maxDegree, entryOk, RowsBelow, hasRow}
+use Rattle.check_lines.proofs.Lines.{entries-below, matrix-entries, matrix-rows}
 
 blank : (n r : ℕ) → getD {A = ℕ} (replicate n 0) r 0 ≡ 0
 blank zero r = refl
@@ -88,24 +90,38 @@ module _ (T : List ℕ) (at : ℕ) where
         differ = apart;
       }
 
-    module _ (d : ℕ) (below : RowsBelow T at d) where
-      pub seen-all : d ≤ c → true ≡ allBelow d (hasRow T at d)
-      seen-all h = sym (allBelow-intro d _ (λ r l.
-          let injects : Injects d d row = record { below = below; injective = λ j k a b. S .differ j k (omega arith) (omega arith) } in
-          let (k, a, e) = injects-onto d row injects r l in
-          anyBelow-intro d (λ c. eqb (row c) r) k a (eq-eqb _ _ e)))
+    pub seen-all : (d : ℕ) → RowsBelow T at d → d ≤ c → true ≡ allBelow d (hasRow T at d)
+    seen-all d below h = sym (allBelow-intro d _ (λ r l.
+        let injects : Injects d d row = record { below = below; injective = λ j k a b. S .differ j k (omega arith) (omega arith) } in
+        let (k, a, e) = injects-onto d row injects r l in
+        anyBelow-intro d (λ c. eqb (row c) r) k a (eq-eqb _ _ e)))
 
-      pub seen-twice : c < d → (r : ℕ) → r ≡ entryIn T (at + c) .row → ¬ (getD M r 0 ≡ 0) → false ≡ allBelow d (hasRow T at d)
-      seen-twice l r is n = refuted _ (λ h.
-          let (k, a, e) = S .only r n in
-          let z : k ≡ c = onto-injects d row (hit h) k c (omega arith) l (e ∙ is) in
-          omega (arith, a, z))
-        where
-          hit : allBelow d (hasRow T at d) ≡ true → (b : ℕ) → b < d → (k : ℕ) × (k < d) × (row k ≡ b)
-          hit h b l = let (k, a, e) = anyBelow-elim d (λ c. eqb (row c) b) (allBelow-elim d _ h b l) in (k, a, eqb-true _ b e)
+    pub seen-twice : (d : ℕ) → c < d → (r : ℕ) → r ≡ entryIn T (at + c) .row → ¬ (getD M r 0 ≡ 0) → false ≡ allBelow d (hasRow T at d)
+    seen-twice d l r is n = refuted _ (λ h.
+        let (k, a, e) = S .only r n in
+        let z : k ≡ c = onto-injects d row (hit h) k c (omega arith) l (e ∙ is) in
+        omega (arith, a, z))
+      where
+        hit : allBelow d (hasRow T at d) ≡ true → (b : ℕ) → b < d → (k : ℕ) × (k < d) × (row k ≡ b)
+        hit h b l = let (k, a, e) = anyBelow-elim d (λ c. eqb (row c) b) (allBelow-elim d _ h b l) in (k, a, eqb-true _ b e)
 
-  pub first-row : (d : ℕ) → d ≡ 1 → RowsBelow T at d → true ≡ allBelow d (hasRow T at d)
-  first-row d e below = sym (allBelow-intro d _ (λ r l.
-      let z : 0 < d = omega arith in
-      let same : row 0 ≡ r = omega (arith, below 0 z) in
-      anyBelow-intro d (λ c. eqb (row c) r) 0 z (eq-eqb (row 0) r same)))
+  module _ (m d : ℕ) (one : d ≡ 1) where
+    first-row : RowsBelow T at d → true ≡ allBelow d (hasRow T at d)
+    first-row below = sym (allBelow-intro d _ (λ r l.
+        let z : 0 < d = omega arith in
+        let same : row 0 ≡ r = omega (arith, below 0 z) in
+        anyBelow-intro d (λ c. eqb (row c) r) 0 z (eq-eqb (row 0) r same)))
+
+    start : at ≡ at + 0
+    start = omega arith
+
+    whole : entryOk m d (entryIn T at) ≡ true → valid m d (matrixIn T at d) ≡ true
+    whole h =
+        let entries = allBelow-intro d (λ c. entryOk m d (entryIn T (at + c))) (λ c l.
+        let z : at ≡ at + c = omega arith in subst (λ k. entryOk m d (entryIn T k) ≡ true) z h) in
+        sym (first-row (entries-below m T at d entries) ∙ matrix-rows m T at d entries)
+
+    pub single-matrix : entryOk m d (entryIn T at) ≡ valid m d (matrixIn T at d)
+    single-matrix =
+        same-test (entryOk m d (entryIn T at)) (valid m d (matrixIn T at d)) whole
+        (λ h. subst (λ k. entryOk m d (entryIn T k) ≡ true) (sym start) (allBelow-elim d _ (matrix-entries m T at d h) 0 (omega arith)))

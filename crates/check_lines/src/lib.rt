@@ -4,8 +4,8 @@
 //   DEGREES, HIGH            up to which degree rows are marked, and what a second word is multiplied by
 //   wide, two_at             two words of a line as one number
 //   entry_ok, entries_ok     rows and exponents in range
-//   has_row, rows_found, rows_marked, rows_ok     every row is there
-//   matrix_ok, matrices_ok   matrices
+//   has_row, rows_found      every row is there
+//   matrix_marked, matrix_ok, matrices_ok     matrices
 //   refs_are                 lines that all refer to one representation
 //   refs_as, refs_equal      generators that refer as the first one does
 //   target_ok, targets_ok    where the intertwiners lead
@@ -17,7 +17,7 @@ ghost use lib.ListN.{length};
 ghost use Rattle.definitions.specs.Lists.{allBelow};
 ghost use Rattle.definitions.specs.Monomial.{valid};
 ghost use Rattle.level.specs.Stored.{entryIn, matrixIn, lineIn, generatorIn};
-ghost use Rattle.check_lines.specs.Lines.{TwoWords, maxDegree, entryOk, RowsBelow, hasRow, refsAre, refsAs, targetOk};
+ghost use Rattle.check_lines.specs.Lines.{TwoWords, maxDegree, entryOk, hasRow, refsAre, refsAs, targetOk};
 use level::Listed;
 
 // No degree is above it whose square is at most the largest order.
@@ -99,14 +99,17 @@ fn rows_found(words: &[u32], at: usize, d: u32) -> bool
     true
 }
 
-// Every row below d is there: no two lines have one row, by marks.
-fn rows_marked(words: &[u32], at: usize, d: u32) -> bool
-    requires { ⌜ (8 * (at + d) ≤ length (now words)) × RowsBelow (now words) at d × (d ≤ maxDegree) ⌝ }
-    ensures { λ b. ⌜ b ≡ allBelow d (hasRow (now (words .entry)) at d) ⌝ }
+// The d lines from one on are a matrix, where rows are marked: rows and exponents in range, and no two lines have one row.
+fn matrix_marked(words: &[u32], at: usize, d: u32, m: u32) -> bool
+    requires { ⌜ (8 * (at + d) ≤ length (now words)) × (d ≤ maxDegree) ⌝ }
+    ensures { λ b. ⌜ b ≡ valid m d (matrixIn (now (words .entry)) at d) ⌝ }
 {
     let deg = level::up(d);
     let mut seen = [0u8; DEGREES];
     for c in 0..deg {
+        if !entry_ok(words, at + c, d, m) {
+            return false;
+        }
         let r = level::up(level::word_at(words, at + c, level::ROW));
         if seen[r] != 0 {
             return false;
@@ -116,29 +119,21 @@ fn rows_marked(words: &[u32], at: usize, d: u32) -> bool
     true
 }
 
-// Every row below d is there, where all rows are below d.
-fn rows_ok(words: &[u32], at: usize, d: u32) -> bool
-    requires { ⌜ (8 * (at + d) ≤ length (now words)) × RowsBelow (now words) at d ⌝ }
-    ensures { λ b. ⌜ b ≡ allBelow d (hasRow (now (words .entry)) at d) ⌝ }
-{
-    if d == 1 {
-        return true;
-    }
-    if level::up(d) <= DEGREES {
-        return rows_marked(words, at, d);
-    }
-    rows_found(words, at, d)
-}
-
 // The d lines from one on are a matrix of degree d with exponents below m.
 fn matrix_ok(words: &[u32], at: usize, d: u32, m: u32) -> bool
     requires { ⌜ 8 * (at + d) ≤ length (now words) ⌝ }
     ensures { λ b. ⌜ b ≡ valid m d (matrixIn (now (words .entry)) at d) ⌝ }
 {
+    if d == 1 {
+        return entry_ok(words, at, d, m);
+    }
+    if level::up(d) <= DEGREES {
+        return matrix_marked(words, at, d, m);
+    }
     if !entries_ok(words, at, d, m) {
         return false;
     }
-    rows_ok(words, at, d)
+    rows_found(words, at, d)
 }
 
 // The matrices of the first n generators.

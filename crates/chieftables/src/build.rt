@@ -1,61 +1,19 @@
 // The table of a presentation text, built into the caller's words: 11 to 16, or 0 and the count of lines.
 //
-//   write_levels         the table of a sound presentation, in words that are enough
-//   build_sound          the same, or 16
 //   build                the call
 //   chieftables_build    the same, for C and Rust
 use crate::counted::Counted;
-use acceptance::accepted;
-use conditions::size::measure;
-use presentation::ReadPresentation;
-ghost use lib.ListN.{length};
 ghost use Rattle.definitions.specs.Answers.{Build};
-ghost use Rattle.chieftables.specs.Tabled.{SomeSound, SomeRoom, Tabled, Sized};
-
-// Writes the table of a sound presentation of order m into words that are enough for it. Returns how many lines it has.
-fn write_levels(p: ReadPresentation, m: u32, words: &mut [u32]) -> usize
-    requires { ⌜ SomeRoom p m (length (now words)) ⌝ }
-    ensures { λ r. ⌜ Tabled p m (now (words .entry)) r (now (words .exit)) ⌝ }
-{
-    let n = p.n;
-    let primes = p.primes;
-    let rows = presentation::words_of(p);
-    levels::build_levels(words, &rows, &primes, n as u32, m)
-}
-
-// Builds the table of a sound presentation if the words are as many as a build wants.
-fn build_sound(p: ReadPresentation, words: &mut [u32]) -> Counted
-    requires { ⌜ SomeSound p ⌝ }
-    ensures { λ r. ⌜ Sized p (now (words .entry)) (r .answer) (r .count) (now (words .exit)) ⌝ }
-{
-    let n = p.n;
-    let primes = p.primes;
-    let s = measure(&primes, n);
-    let need = s.words;
-    if words.len() < need {
-        return Counted {
-            answer: 16,
-            count: 0,
-        };
-    }
-    let count = write_levels(p, s.order, words);
-    Counted { answer: 0, count }
-}
 
 // Builds the table that a text asks for; a refusal leaves the words as they were.
 pub fn build(text: &[u8], words: &mut [u32]) -> Counted
     ensures { λ r. ⌜ Build (now (text .entry)) (now (words .entry)) (r .answer) (r .count) (now (words .exit)) ⌝ }
 {
-    let o = accepted(text);
-    let status = o.status;
-    if status != 0 {
-        return Counted {
-            answer: status,
-            count: 0,
-        };
+    let a = construction::build(text, words);
+    Counted {
+        answer: a.answer,
+        count: a.lines,
     }
-    let p = o.presentation;
-    build_sound(p, words)
 }
 
 // `build`, for C and Rust.

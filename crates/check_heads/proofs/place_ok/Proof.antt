@@ -3,9 +3,9 @@ use mathlib.Core.Path.{sym, _∙_}
 use native.Mathlib.Omega.{arith}
 use borrow.Author.Tests.{not-true, not-false}
 use denote.Ref.{now}
-use Rattle.seek.proofs.Halves.{line-there}
+use Rattle.seek.proofs.Halves.{line-there, lines-there}
 use Rattle.check_heads.specs.Places.{ordersIn}
-use Rattle.check_heads.proofs.Places.{place-small, place-heads, place-room}
+use Rattle.check_heads.proofs.Places.{size-told, place-small, place-heads, place-room}
 use Rattle.check_heads.proofs.place_ok.Statement.{statement}
 use Rattle.check_heads.proofs.place_ok.Tie as tie
 
@@ -17,7 +17,8 @@ representation-requires c κs =
 size-ok-requires : tie.Need-size-ok-requires
 size-ok-requires c κs =
     let a = c .before .before in
-    (a .pre .1, a .pre .0 .few)
+    let there = lines-there (now (a .args .words)) (a .args .s .lines) (omega (arith, a .pre .0 .lines-are)) in
+    (a .pre .1, omega (arith, there, a .good), a .pre .0 .few)
 
 returns : tie.Need-returns
 returns c =
@@ -35,10 +36,11 @@ rep-heads-requires c κs =
     let size-ok = c .before .size-ok in
     let representation = c .before .before .representation in
     let ord = ordersIn (now (a .args .orders)) in
-    let T = now (a .args .words) in (
-      place-room (a .args .s) T ord (a .args .p) (a .pre .0 .lines-are) (representation .result) (representation .ensures)
-          (sym (size-ok .ensures) ∙ not-false (size-ok .result) (c .if1 .left)),
-      a .pre .0 .few,
+    let T = now (a .args .words) in
+    let ok = sym (size-ok .ensures) ∙ not-false (size-ok .result) (c .if1 .left) in (
+      place-room (a .args .s) T ord (a .args .p) (a .pre .0 .lines-are) (representation .result) (representation .ensures) ok,
+      a .pre .0 .some,
+      size-told (a .args .s) ord (a .args .p) (representation .result .deg) ok .positive,
     )
 
 returns-2 : tie.Need-returns-2

@@ -5,7 +5,7 @@ use native.Mathlib.Omega.{arith}
 use denote.Ref.{now}
 use Rattle.numbers.proofs.Bools.{refuted}
 use Rattle.check_heads.specs.Places.{ordersIn}
-use Rattle.check_heads.proofs.Places.{size-told, size-last}
+use Rattle.check_heads.proofs.Places.{size-told, size-last, size-fits}
 use borrow.Author.Needs.{needs}
 use Rattle.check_heads.proofs.size_ok.Statement.{statement}
 use Rattle.check_heads.proofs.size_ok.Tie as tie
@@ -47,8 +47,12 @@ returns-3 c =
 times-requires-2 : tie.Need-times-requires-2
 times-requires-2 c κs = search needs
 
-sub-result : tie.Need-sub-result
-sub-result c = search needs
+add-result : tie.Need-add-result
+add-result c =
+    let at-if3 = c .before .before in
+    let z = at-if3 .before .before .before .before .before .before .before .before .before in
+    let fits = size-fits (z .args .s) (z .args .p) (z .args .d) (z .pre .0) (z .pre .1) (z .pre .2) (omega (arith, z .fits)) in
+    omega (arith, fits, c .before .times2 .ensures)
 
 returns-4 : tie.Need-returns-4
 returns-4 c =
@@ -62,7 +66,7 @@ returns-4 c =
     let square : a .args .d * a .args .d ≤ ordersIn (now (a .args .orders)) (a .args .p .level) =
     omega (arith, e, up2 .ensures, k1 .before .times .ensures, k1 .if3 .left) in
     size-last (a .args .s) (ordersIn (now (a .args .orders))) (a .args .p) (a .args .d) (times2 .result) (times2 .ensures)
-    (a .pre .0) (omega (arith, if1 .left)) (omega (arith, k2 .before .if2 .left)) square
+    (omega (arith, if1 .left)) (omega (arith, k2 .before .if2 .left)) square
 
 pub size-ok-spec : {M : Type 1} → statement M
 size-ok-spec =
@@ -77,5 +81,5 @@ size-ok-spec =
     times-requires
     returns-3
     times-requires-2
-    sub-result
+    add-result
     returns-4)

@@ -1,33 +1,29 @@
 -- `turned` meets its contract: the first line of a level behind the first is of the next one.
 use mathlib.Core.Path.{sym, _∙_}
-use denote.Ref.{now}
-use Rattle.check_heads.proofs.Places.{first-stays, other-stays, next-turns}
 use borrow.Author.Needs.{needs}
+use denote.Ref.{now}
+use Rattle.check_heads.proofs.Places.{place-stays, place-turns}
 use Rattle.check_heads.proofs.turned.Statement.{statement}
 use Rattle.check_heads.proofs.turned.Tie as tie
 
+begins-requires : tie.Need-begins-requires
+begins-requires c κs = search needs
+
+add-t4 : tie.Need-add-t4
+add-t4 c = search needs
+
 returns : tie.Need-returns
 returns c =
-    let a = c .before .before .before in
-    first-stays (now (a .args .words)) (a .args .p) (c .if1 .taken)
-
-add-i : tie.Need-add-i
-add-i c = search needs
-
-word-at-requires : tie.Need-word-at-requires
-word-at-requires c κs = search needs
+    let at-if1 = c .before in
+    let at-begins = at-if1 .before in
+    let a = at-begins .before .before .args in
+    place-turns (now (a .words)) (a .p) (sym (at-begins .begins .ensures) ∙ at-if1 .if1 .taken)
 
 returns-2 : tie.Need-returns-2
 returns-2 c =
-    let k = c .before .before .before in
-    let a = k .before .before .before in
-    other-stays (now (a .args .words)) (a .args .p) (k .if1 .left) (rw (c .before .word-at .ensures) at (c .if2 .taken))
-
-returns-3 : tie.Need-returns-3
-returns-3 c =
-    let k = c .before .before .before in
-    let a = k .before .before .before in
-    next-turns (now (a .args .words)) (a .args .p) (k .if1 .left) (sym (c .before .word-at .ensures) ∙ c .if2 .left)
+    let at-begins = c .before in
+    let a = at-begins .before .before .args in
+    place-stays (now (a .words)) (a .p) (sym (at-begins .begins .ensures) ∙ c .if1 .left)
 
 pub turned-spec : {M : Type 1} → statement M
-turned-spec = tie.close (tie.spec returns add-i word-at-requires returns-2 returns-3)
+turned-spec = tie.close (tie.spec begins-requires add-t4 returns returns-2)

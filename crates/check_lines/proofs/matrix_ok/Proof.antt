@@ -1,36 +1,61 @@
--- `matrix_ok` meets its contract: the entries, then the rows.
+-- `matrix_ok` meets its contract: the entry where the degree is 1, by marks where it is small, and else the entries, then the rows.
 use mathlib.Core.Path.{sym, _∙_}
 use borrow.Author.Tests.{not-true, not-false}
 use denote.Ref.{now}
-use Rattle.check_lines.proofs.Lines.{entries-below, matrix-apart, matrix-rows}
+use Rattle.check_lines.proofs.Lines.{matrix-apart, matrix-rows}
+use Rattle.check_lines.proofs.Rows.{single-matrix}
 use borrow.Author.Needs.{needs}
 use Rattle.check_lines.proofs.matrix_ok.Statement.{statement}
 use Rattle.check_lines.proofs.matrix_ok.Tie as tie
 
-entries-ok-requires : tie.Need-entries-ok-requires
-entries-ok-requires c κs = search needs
+entry-ok-requires : tie.Need-entry-ok-requires
+entry-ok-requires c κs = search needs
 
 returns : tie.Need-returns
 returns c =
-    let a = c .before .before .before in
-    let entries-ok = c .before .entries-ok in
-    let T = now (a .args .words) in
-    matrix-apart (a .args .m) T (a .args .at) (a .args .d) (sym (entries-ok .ensures) ∙ not-true (entries-ok .result) (c .if1 .taken))
+    let at-if1 = c .before in
+    let a = at-if1 .before .before .args in
+    c .entry-ok .ensures ∙ single-matrix (now (a .words)) (a .at) (a .m) (a .d) (at-if1 .if1 .taken)
 
-rows-ok-requires : tie.Need-rows-ok-requires
-rows-ok-requires c κs =
-    let a = c .before .before .before in
-    let entries-ok = c .before .entries-ok in
-    let T = now (a .args .words) in
-    (a .pre, entries-below (a .args .m) T (a .args .at) (a .args .d) (sym (entries-ok .ensures) ∙ not-false (entries-ok .result) (c .if1 .left)))
+up-requires : tie.Need-up-requires
+up-requires c κs = search needs
+
+matrix-marked-requires : tie.Need-matrix-marked-requires
+matrix-marked-requires c κs = search needs
 
 returns-2 : tie.Need-returns-2
-returns-2 c =
-    let a = c .before .before .before .before in
-    let entries-ok = c .before .before .entries-ok in
-    let T = now (a .args .words) in
-    c .rows-ok .ensures
-    ∙ matrix-rows (a .args .m) T (a .args .at) (a .args .d) (sym (entries-ok .ensures) ∙ not-false (entries-ok .result) (c .before .if1 .left))
+returns-2 c = search needs
+
+entries-ok-requires : tie.Need-entries-ok-requires
+entries-ok-requires c κs = search needs
+
+returns-3 : tie.Need-returns-3
+returns-3 c =
+    let at-entries = c .before in
+    let a = at-entries .before .before .before .before .before .args in
+    matrix-apart (a .m) (now (a .words)) (a .at) (a .d) (sym (at-entries .entries-ok .ensures) ∙ not-true (at-entries .entries-ok .result) (c .if3 .taken))
+
+rows-found-requires : tie.Need-rows-found-requires
+rows-found-requires c κs = search needs
+
+returns-4 : tie.Need-returns-4
+returns-4 c =
+    let at-if3 = c .before in
+    let at-entries = at-if3 .before in
+    let a = at-entries .before .before .before .before .before .args in
+    c .rows-found .ensures
+    ∙ matrix-rows (a .m) (now (a .words)) (a .at) (a .d) (sym (at-entries .entries-ok .ensures) ∙ not-false (at-entries .entries-ok .result) (at-if3 .if3 .left))
 
 pub matrix-ok-spec : {M : Type 1} → statement M
-matrix-ok-spec = tie.close (tie.spec entries-ok-requires returns rows-ok-requires returns-2)
+matrix-ok-spec =
+    tie.close
+    (tie.spec
+    entry-ok-requires
+    returns
+    up-requires
+    matrix-marked-requires
+    returns-2
+    entries-ok-requires
+    returns-3
+    rows-found-requires
+    returns-4)

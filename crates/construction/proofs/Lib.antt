@@ -1,0 +1,2 @@
+-- Laws of building the table of a sound presentation.
+pub mod Built

@@ -1,0 +1,31 @@
+-- `build_sound`: the size, then 16 or the table.
+use native.Mathlib.Omega.{arith}
+use lib.ListN.{length}
+use denote.Ref.{now}
+use borrow.Author.Needs.{needs}
+use Rattle.measurement.proofs.Sizes.{wide, measurable}
+use Rattle.construction.proofs.Built.{room-of, sized-short, sized-done}
+use Rattle.construction.proofs.build_sound.Statement.{statement}
+use Rattle.construction.proofs.build_sound.Tie as tie
+
+measure-requires : tie.Need-measure-requires
+measure-requires c κs = let S = c .before .before .before .pre .1 in (wide S, measurable S)
+
+returns : tie.Need-returns
+returns c = sized-short (c .before .measure .ensures) (now (c .before .before .before .before .before .args .words)) (omega arith)
+
+write-levels-requires : tie.Need-write-levels-requires
+write-levels-requires c κs =
+    let z = c .before .before .before .before .before .before in
+    (z .pre .0, room-of (z .pre .1) (c .before .before .measure .ensures) (length (now (z .args .words))) (omega arith))
+
+same-length : tie.Need-same-length
+same-length c = search needs
+
+returns-2 : tie.Need-returns-2
+returns-2 c =
+    let z = c .before .before .before .before .before .before .before .before .before in
+    sized-done (c .before .before .before .before .before .measure .ensures) (now (z .args .words)) (omega arith) (c .before .before .write-levels .ensures)
+
+pub build-sound-spec : {M : Type 1} → statement M
+build-sound-spec = tie.close (tie.spec measure-requires returns write-levels-requires same-length returns-2)

@@ -1,0 +1,2 @@
+-- What measuring a sound presentation asks and leaves.
+pub mod Wants

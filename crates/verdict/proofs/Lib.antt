@@ -1,0 +1,2 @@
+-- Laws of the check of words for a sound presentation.
+pub mod Checked

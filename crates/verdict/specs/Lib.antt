@@ -1,0 +1,2 @@
+-- What checking words for a sound presentation answers.
+pub mod Checked
