@@ -2,7 +2,7 @@
 --
 --   found-is                   a representation that is found stands at its first line
 --   high-is, high-found        so does one that the list names
---   high-inside, high-kept, high-fits, high-power     its lines, and what is asked of it
+--   high-fits, high-power      what is asked of it
 --   listed-inside, listed-refers, listed-reached, listed-relates     one of a level that is compared
 --   level-fits                 what is known of the level
 use mathlib.Core.Path.{_≡_, refl, sym, _∙_, ap, subst}
@@ -54,12 +54,6 @@ module _ {s : Scope} {T firsts : List ℕ} {g : Stage} (S : Staged s T firsts g)
 
   -- one that the list names, before the level is known to be compared
   module _ (r : ℕ) (h : r < g .above) {E : Listed} (e : E ≡ listedIn T (getD firsts (g .high + r) 0)) where
-    pub high-inside : Present s T E
-    high-inside = found-inside (S .whole) (S .short) (high-at S r h e refl)
-
-    pub high-kept : RepFits s T g E → MatricesStored s T E
-    high-kept R = record { few = S .whole .few; modulus = S .modulus .0; stored = fits-stored S (high-at S r h e refl) R }
-
     pub high-fits : RepFits s T g E → RepFits s T g (repAtLevel s T (suc (g .top)) r)
     high-fits R = subst (RepFits s T g) (high-is r h e) R
 

@@ -82,10 +82,7 @@ fn level_compares(
     let above = g.above;
     for r in 0..above {
         let d = compare::rep_at(words, firsts, g.high + r);
-        if !check_single::rep_fits(words, firsts, s, g, d) {
-            return false;
-        }
-        if !check_single::power_holds(words, rows, s, g, d) {
+        if !check_single::rep_passes(words, firsts, rows, s, g, d) {
             return false;
         }
         if !claims::claim(words, g.top, g.p, part, d, marks, slots) {

@@ -1,2 +1,3 @@
--- The power relation of the generator on top.
+-- The power relation of the generator on top, and the value of its word.
+pub mod Value
 pub mod Power

@@ -1,30 +1,56 @@
 // Representations of degree 1, compared with those of the level below and asked their power relation by exponents alone; those of
-// any degree by the same names. A test here is answered one way: where it says true, what it asks holds.
+// any degree by the same call. A test here is answered one way: where it says true, what it asks holds.
 //
+//   SMALL, NONE, lines_value     lines that are those of a representation below, and the value of a word on them
 //   single_takes, single_led, singles_led     the generator on top and those above it, on a representation of degree 1
-//   single_fits, rep_fits        a representation of degree 1, and any, compared with those below
-//   SMALL, word_value            the largest exponent of a word that is summed, and a word by the sum of its exponents
-//   times                        an exponent, several times
-//   single_power, power_holds    the power relation of the generator on top
+//   single_value                 a representation of degree 1, compared with those below, and the value of the power word
+//   times, single_power          an exponent, several times, and the power relation of the generator on top
+//   rep_passes                   both of a representation of any degree
 ghost use mathlib.Core.Path.{_≡_};
 ghost use mathlib.Core.Bool.{true};
-ghost use Prim.Native.Nat.{_*_, _%_, _≤_, _<_};
-ghost use Rattle.definitions.specs.Presentation.{maxGenerators, Presentation, toNF};
-ghost use Rattle.definitions.specs.Monomial.{entry};
-ghost use Rattle.formulas.specs.Formulas.{walk};
-ghost use Rattle.columns.specs.Columns.{powerAt};
-ghost use Rattle.level.specs.Stored.{generatorIn, Stored};
-ghost use Rattle.seek.specs.Among.{repIn};
-ghost use Rattle.relations.specs.Kept.{MatricesStored};
-ghost use Rattle.relations.specs.Said.{PowerOf};
+ghost use Prim.Native.Nat.{ℕ, suc, _+_, _*_, _%_, _≤_, _<_};
+ghost use lib.ListN.{length};
+ghost use Rattle.definitions.specs.Presentation.{maxGenerators};
+ghost use Rattle.definitions.specs.Table.{EXP, wordAt};
+ghost use Rattle.seek.specs.Seek.{Found};
 ghost use Rattle.compare.specs.Staged.{Staged};
 ghost use Rattle.compare.specs.Blocks.{block, Present, Based, TakesBlock, Upper, Uppers, RepFits};
+ghost use Rattle.check_single.specs.Value.{LinesValue, SingleValue};
 ghost use Rattle.check_single.specs.Power.{PowerHolds};
 use compare::Stage;
 use level::Listed;
 use rows::Row;
 use rows::Words;
 use seek::Scope;
+
+// No exponent of a word of a right presentation is larger.
+const SMALL: u32 = 65535;
+
+// What is no value of a word.
+const NONE: usize = 18446744073709551615;
+
+// Where the n lines from `at` on refer to x and are those from src on: the exponents of these lines, each times that of the word u,
+// added up. NONE where they are not, or u has an exponent that is too large.
+fn lines_value(words: &[u32], at: usize, src: usize, n: u32, x: u32, u: &Row) -> usize
+    requires { ⌜ (8 * (at + n) ≤ length (now words)) × (8 * (src + n) ≤ length (now words)) × (n ≤ maxGenerators) ⌝ }
+    ensures { λ r. ⌜ (r < 18446744073709551615 → LinesValue (now (words .entry)) at src n x (now (u .entry)) r) ⌝ }
+{
+    let mut y: usize = 0;
+    let mut k: u32 = 0;
+    while k < n {
+        let c = level::up(k);
+        let a = u[c];
+        if SMALL < a {
+            return NONE;
+        }
+        if !compare::line_same(words, at + c, src + c, x) {
+            return NONE;
+        }
+        y += level::up(a) * level::up(level::word_at(words, at + c, level::EXP));
+        k += 1;
+    }
+    y
+}
 
 // Generator g takes d, of degree 1, to e, as it takes what d refers to, up to a power of the root; its column refers to x.
 fn single_takes(words: &[u32], s: Scope, d: Listed, e: Listed, f: Listed, g: u32, x: u32) -> bool
@@ -92,60 +118,31 @@ fn singles_led(words: &[u32], firsts: &[u32], s: Scope, g: Stage, d: Listed, f: 
     true
 }
 
-// d, of degree 1, fits on the level below: it refers to a representation of degree 1, whose lines it has below the top.
-fn single_fits(words: &[u32], firsts: &[u32], s: Scope, g: Stage, d: Listed) -> bool
+// The value of the word u on d, of degree 1, where d fits on the level below: it refers to a representation of degree 1, whose lines
+// it has below the top. NONE where it does not fit.
+fn single_value(words: &[u32], firsts: &[u32], s: Scope, g: Stage, d: Listed, u: &Row) -> usize
     requires { ⌜ Staged s (now words) (now firsts) g × Present s (now words) d × (d .deg ≡ 1) ⌝ }
-    ensures { λ r. ⌜ (r ≡ true → RepFits s (now (words .entry)) g d) ⌝ }
+    ensures { λ r. ⌜ (r < 18446744073709551615 → SingleValue s (now (words .entry)) g d (now (u .entry)) r) ⌝ }
 {
     let x = level::word_at(words, d.line, level::REF);
     let r = level::up(x);
     if g.below <= r {
-        return false;
+        return NONE;
     }
     let f = compare::rep_at(words, firsts, g.low + r);
     if f.deg != 1 {
-        return false;
-    }
-    if !compare::lines_same(words, d.line, f.line, g.top, x) {
-        return false;
+        return NONE;
     }
     if !single_takes(words, s, d, d, f, g.top, x) {
-        return false;
+        return NONE;
     }
-    singles_led(words, firsts, s, g, d, f)
-}
-
-// d, of the level, fits on the level below.
-pub fn rep_fits(words: &[u32], firsts: &[u32], s: Scope, g: Stage, d: Listed) -> bool
-    requires { ⌜ Staged s (now words) (now firsts) g × Present s (now words) d ⌝ }
-    ensures { λ r. ⌜ (r ≡ true → RepFits s (now (words .entry)) g d) ⌝ }
-{
-    if d.deg == 1 {
-        return single_fits(words, firsts, s, g, d);
+    if !singles_led(words, firsts, s, g, d, f) {
+        return NONE;
     }
-    compare::rep_fits(words, firsts, s, g, d)
+    lines_value(words, d.line, f.line, g.top, x, u)
 }
 
 // ---- The power relation
-
-// No exponent of a word of a right presentation is larger.
-const SMALL: u32 = 65535;
-
-// The word w on the first n generators of d, of degree 1: the exponent of the root, and m where w has an exponent that is too large.
-fn word_value(words: &[u32], d: Listed, w: &Row, n: usize, m: u32) -> u32
-    requires { ⌜ Stored m n (now words) d × (d .deg ≡ 1) × (n ≤ maxGenerators) × (0 < m) × (m ≤ 2147483648) ⌝ }
-    ensures { λ r. ⌜ (r < m → entry 0 r ≡ walk m (generatorIn (now (words .entry)) d) n (toNF n (now (w .entry))) (entry 0 0)) ⌝ }
-{
-    let mut y: usize = 0;
-    for k in 0..n {
-        let a = w[k];
-        if SMALL < a {
-            return m;
-        }
-        y += level::up(a) * level::up(level::word_at(words, d.line + k, level::EXP));
-    }
-    (y % level::up(m)) as u32
-}
 
 // p times the exponent e, modulo m.
 fn times(p: u32, e: u32, m: u32) -> u32
@@ -158,29 +155,38 @@ fn times(p: u32, e: u32, m: u32) -> u32
     level::add_times(0, p, e, m)
 }
 
-// The power relation of generator j, of prime p and power word u, on d of degree 1.
-fn single_power(words: &[u32], s: Scope, d: Listed, j: u32, p: u32, u: &Row) -> bool
-    requires { ⌜ MatricesStored s (now words) d × (d .deg ≡ 1) × (j < s .gens) × (s .m ≤ 2147483648) ⌝ }
-    ensures { λ r. ⌜ (r ≡ true → (P : Presentation) → PowerOf j p (now (u .entry)) P → powerAt P (s .m) (repIn (now (words .entry)) d) j 0 ≡ true) ⌝ }
+// p times the exponent of generator j on d, of degree 1, is y modulo m.
+fn single_power(words: &[u32], d: Listed, j: u32, p: u32, y: usize, m: u32) -> bool
+    requires { ⌜ (8 * (d .line + j) + 8 ≤ length (now words)) × (wordAt (now words) (d .line + j) EXP < m) × (0 < m) × (m ≤ 2147483648) ⌝ }
+    ensures { λ r. ⌜ (r ≡ true → (p * wordAt (now (words .entry)) (d .line + j) EXP) % m ≡ y % m) ⌝ }
 {
-    let n = level::up(j);
-    let e = level::word_at(words, d.line + n, level::EXP);
-    let z = word_value(words, d, u, n, s.m);
-    if s.m <= z {
-        return false;
-    }
-    times(p, e, s.m) == z
+    let e = level::word_at(words, d.line + level::up(j), level::EXP);
+    level::up(times(p, e, m)) == y % level::up(m)
 }
 
-// The power relation of the generator on top holds in column 0 of d.
-pub fn power_holds(words: &[u32], rows: &Words, s: Scope, g: Stage, d: Listed) -> bool
-    requires { ⌜ MatricesStored s (now words) d × (g .top < s .gens) × (s .m ≤ 2147483648) ⌝ }
-    ensures { λ r. ⌜ (r ≡ true → PowerHolds s (now (words .entry)) (now (rows .entry)) g d) ⌝ }
+// d, of the level, fits on the level below, and the power relation of the generator on top holds in its column 0.
+pub fn rep_passes(
+    words: &[u32],
+    firsts: &[u32],
+    rows: &Words,
+    s: Scope,
+    g: Stage,
+    d: Listed,
+) -> bool
+    requires { ⌜ Staged s (now words) (now firsts) g × ((r : ℕ) × Found (s .gens) (now words) (suc (g .top)) r d) ⌝ }
+    ensures { λ r. ⌜ (r ≡ true → RepFits s (now (words .entry)) g d × PowerHolds s (now (words .entry)) (now (rows .entry)) g d) ⌝ }
 {
     let t = level::up(g.top);
     let at = rows::pair(t, t);
     if d.deg == 1 {
-        return single_power(words, s, d, g.top, g.p, &rows[at]);
+        let y = single_value(words, firsts, s, g, d, &rows[at]);
+        if y == NONE {
+            return false;
+        }
+        return single_power(words, d, g.top, g.p, y, s.m);
+    }
+    if !compare::rep_fits(words, firsts, s, g, d) {
+        return false;
     }
     relations::power_at(words, s, d, g.top, g.p, &rows[at], 0)
 }

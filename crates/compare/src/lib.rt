@@ -83,7 +83,7 @@ fn lines_shifted(words: &[u32], at: usize, src: usize, d: u32, t: Shift, m: u32)
 }
 
 // The line `at` refers to x, and has row and exponent of the line src.
-fn line_same(words: &[u32], at: usize, src: usize, x: u32) -> bool
+pub fn line_same(words: &[u32], at: usize, src: usize, x: u32) -> bool
     requires { ⌜ (8 * at + 8 ≤ length (now words)) × (8 * src + 8 ≤ length (now words)) ⌝ }
     ensures { λ r. ⌜ (r ≡ true → LineSame (now (words .entry)) at src x) ⌝ }
 {

@@ -120,7 +120,9 @@ returns-2 c =
 
 add-i : tie.Need-add-i Inv-loop μ-loop
 add-i c =
-    let z = c .before .before .before .before .before .before .before .before .before .before .before .before .before .before .before .before .before .before in
+    let at-first-lines = c .before .before .before .before .before .before .before .before in
+    let at-loop = at-first-lines .before .before .before .before .before in
+    let z = at-loop .before .before .before .before .before in
     omega (arith, z .pre .whole .few)
 
 loop-less : tie.Need-loop-less Inv-loop μ-loop

@@ -15,7 +15,7 @@ use Rattle.compare.specs.Blocks.{RepFits}
 use Rattle.compare.proofs.Staged.{high-at, high-place}
 use Rattle.check_single.specs.Power.{PowerHolds}
 use Rattle.check_level.specs.Level.{repAtLevel}
-use Rattle.check_level.proofs.Level.{high-inside, high-kept, high-fits, high-power}
+use Rattle.check_level.proofs.Level.{high-fits, high-power}
 use Rattle.check_level.proofs.level_compares.Statement.{statement}
 use Rattle.check_level.proofs.level_compares.Tie as tie
 
@@ -39,27 +39,31 @@ returns-2 c = λ e. absurd (false≢true e)
 
 loop-holds : tie.Need-loop-holds Inv-loop μ-loop
 loop-holds c =
-    let z = c .before .before .before .before .before .before .before .before .before in
+    let at-if1 = c .before .before .before in
+    let z = at-if1 .before .before .before .before .before .before in
     let a = z .args in
     ((λ q l. absurd (omega arith)), (λ q l. absurd (omega arith)), claims-none (a .g .top) (a .g .p) _ _ _ _, refl, refl)
 
 add-rep-at : tie.Need-add-rep-at Inv-loop μ-loop
 add-rep-at c =
     let at-loop = c .before .before in
-    let z = at-loop .before .before .before .before .before .before .before .before .before .before in
+    let at-if1 = at-loop .before .before .before .before in
+    let z = at-if1 .before .before .before .before .before .before in
     omega (arith, high-place (z .pre) (at-loop .loop .r) (omega arith) .0, z .good)
 
 rep-at-requires : tie.Need-rep-at-requires Inv-loop μ-loop
 rep-at-requires c κs =
     let at-loop = c .before .before in
-    let z = at-loop .before .before .before .before .before .before .before .before .before .before in
+    let at-if1 = at-loop .before .before .before .before in
+    let z = at-if1 .before .before .before .before .before .before in
     high-place (z .pre) (at-loop .loop .r) (omega arith)
 
-rep-fits-requires : tie.Need-rep-fits-requires Inv-loop μ-loop
-rep-fits-requires c κs =
+rep-passes-requires : tie.Need-rep-passes-requires Inv-loop μ-loop
+rep-passes-requires c κs =
     let at-loop = c .before .before .before in
-    let z = at-loop .before .before .before .before .before .before .before .before .before .before in
-    (z .pre, high-inside (z .pre) (at-loop .loop .r) (omega arith) (c .rep-at .ensures))
+    let at-if1 = at-loop .before .before .before .before in
+    let z = at-if1 .before .before .before .before .before .before in
+    (z .pre, (at-loop .loop .r, high-at (z .pre) (at-loop .loop .r) (omega arith) (c .rep-at .ensures) refl))
 
 same-length : tie.Need-same-length Inv-loop μ-loop
 same-length c =
@@ -74,49 +78,26 @@ same-length-2 c =
 returns-3 : tie.Need-returns-3 Inv-loop μ-loop
 returns-3 c = λ e. absurd (false≢true e)
 
-power-holds-requires : tie.Need-power-holds-requires Inv-loop μ-loop
-power-holds-requires c κs =
-    let at-rep-fits = c .before in
-    let at-rep-at = at-rep-fits .before in
-    let at-loop = at-rep-at .before .before .before in
-    let z = at-loop .before .before .before .before .before .before .before .before .before .before in (
-      high-kept (z .pre) (at-loop .loop .r) (omega arith) (at-rep-at .rep-at .ensures)
-          (at-rep-fits .rep-fits .ensures (not-false (at-rep-fits .rep-fits .result) (c .if3 .left))),
-      z .pre .level .1,
-      z .pre .modulus .1,
-    )
-
-same-length-3 : tie.Need-same-length-3 Inv-loop μ-loop
-same-length-3 c =
-    let at-loop = c .before .before .before .before .before .before .before in
-    at-loop .loop .inv .3
-
-same-length-4 : tie.Need-same-length-4 Inv-loop μ-loop
-same-length-4 c =
-    let at-loop = c .before .before .before .before .before .before .before in
-    at-loop .loop .inv .4
-
-returns-4 : tie.Need-returns-4 Inv-loop μ-loop
-returns-4 c = λ e. absurd (false≢true e)
-
 claim-requires : tie.Need-claim-requires Inv-loop μ-loop
 claim-requires c κs =
-    let at-rep-at = c .before .before .before .before .before .before in
+    let at-rep-at = c .before .before .before .before in
     let at-loop = at-rep-at .before .before .before in
     let at-if2 = at-loop .before in
-    let z = at-if2 .before .before .before .before .before .before .before .before .before in (
-      found-fits (high-at (z .pre) (at-loop .loop .r) (omega arith) (at-rep-at .rep-at .ensures) refl) (z .args .g .top) (z .pre .level .1),
+    let at-if1 = at-if2 .before .before .before in
+    let z = at-if1 .before .before .before .before .before .before in
+    let r = at-loop .loop .r in (
+      found-fits (high-at (z .pre) r (omega arith) (at-rep-at .rep-at .ensures) refl) (z .args .g .top) (z .pre .level .1),
       omega (arith, at-if2 .if2 .left),
     )
 
-same-length-5 : tie.Need-same-length-5 Inv-loop μ-loop
-same-length-5 c = search needs
+same-length-3 : tie.Need-same-length-3 Inv-loop μ-loop
+same-length-3 c = search needs
 
-same-length-6 : tie.Need-same-length-6 Inv-loop μ-loop
-same-length-6 c = search needs
+same-length-4 : tie.Need-same-length-4 Inv-loop μ-loop
+same-length-4 c = search needs
 
-returns-5 : tie.Need-returns-5 Inv-loop μ-loop
-returns-5 c = λ e. absurd (false≢true e)
+returns-4 : tie.Need-returns-4 Inv-loop μ-loop
+returns-4 c = λ e. absurd (false≢true e)
 
 add-r : tie.Need-add-r Inv-loop μ-loop
 add-r c = search needs
@@ -126,51 +107,57 @@ loop-less c = omega arith
 
 loop-again : tie.Need-loop-again Inv-loop μ-loop
 loop-again c = (
-  let at-if3 = c .before .before .before .before .before .before .before .before .before .before in
-      let at-rep-fits = at-if3 .before in
-      let at-rep-at = at-rep-fits .before in
-      let at-loop = at-rep-at .before .before .before in
-      let z = at-loop .before .before .before .before .before .before .before .before .before .before in
+  let at-if3 = c .before .before .before .before .before .before .before .before in
+      let at-rep-passes = at-if3 .before in
+      let at-rep-at = at-rep-passes .before in
+      let at-in-loop = at-rep-at .before .before in
+      let at-loop = at-in-loop .before in
+      let at-if1 = at-loop .before .before .before .before in
+      let z = at-if1 .before .before .before .before .before .before in
       let a = z .args in
       let T = now (a .words) in
-      let F = at-rep-fits .rep-fits .ensures (not-false (at-rep-fits .rep-fits .result) (at-if3 .if3 .left)) in
+      let F = at-rep-passes .rep-passes .ensures (not-false (at-rep-passes .rep-passes .result) (at-if3 .if3 .left)) .0 in
       below-more (λ q. RepFits (a .s) T (a .g) (repAtLevel (a .s) T (suc (a .g .top)) q)) (at-loop .loop .r) (at-loop .loop .inv .0)
-      (high-fits (z .pre) (at-loop .loop .r) (omega arith) (at-rep-at .rep-at .ensures) F),
-  let at-if4 = c .before .before .before .before .before .before .before .before in
-      let at-power-holds = at-if4 .before in
-      let at-rep-at = at-power-holds .before .before .before in
-      let at-loop = at-rep-at .before .before .before in
-      let z = at-loop .before .before .before .before .before .before .before .before .before .before in
+      (high-fits (z .pre) (at-loop .loop .r) (omega (arith, at-in-loop .loop-test)) (at-rep-at .rep-at .ensures) F),
+  let at-if3 = c .before .before .before .before .before .before .before .before in
+      let at-rep-passes = at-if3 .before in
+      let at-rep-at = at-rep-passes .before in
+      let at-in-loop = at-rep-at .before .before in
+      let at-loop = at-in-loop .before in
+      let at-if1 = at-loop .before .before .before .before in
+      let z = at-if1 .before .before .before .before .before .before in
       let a = z .args in
       let T = now (a .words) in
-      let H = at-power-holds .power-holds .ensures (not-false (at-power-holds .power-holds .result) (at-if4 .if4 .left)) in
+      let H = at-rep-passes .rep-passes .ensures (not-false (at-rep-passes .rep-passes .result) (at-if3 .if3 .left)) .1 in
       below-more (λ q. PowerHolds (a .s) T (now (a .rows)) (a .g) (repAtLevel (a .s) T (suc (a .g .top)) q)) (at-loop .loop .r) (at-loop .loop .inv .1)
-      (high-power (z .pre) (at-loop .loop .r) (omega arith) (at-rep-at .rep-at .ensures) H),
+      (high-power (z .pre) (at-loop .loop .r) (omega (arith, at-in-loop .loop-test)) (at-rep-at .rep-at .ensures) H),
   let at-claim = c .before .before .before .before .before in
-      let at-rep-at = at-claim .before .before .before .before .before .before .before in
-      let at-loop-test = at-rep-at .before .before in
-      let at-loop = at-loop-test .before in
-      let z = at-loop .before .before .before .before .before .before .before .before .before .before in
-      let C = at-claim .claim .ensures (not-false (at-claim .claim .result) (c .if5 .left)) in
-      claims-found (high-at (z .pre) (at-loop .loop .r) (omega (arith, at-loop-test .loop-test)) (at-rep-at .rep-at .ensures) refl) (at-loop .loop .inv .2) C,
+      let at-rep-at = at-claim .before .before .before .before .before in
+      let at-in-loop = at-rep-at .before .before in
+      let at-loop = at-in-loop .before in
+      let at-if1 = at-loop .before .before .before .before in
+      let z = at-if1 .before .before .before .before .before .before in
+      let C = at-claim .claim .ensures (not-false (at-claim .claim .result) (c .if4 .left)) in
+      claims-found (high-at (z .pre) (at-loop .loop .r) (omega (arith, at-in-loop .loop-test)) (at-rep-at .rep-at .ensures) refl) (at-loop .loop .inv .2) C,
   search needs,
   search needs,
 )
 
-same-length-7 : tie.Need-same-length-7 Inv-loop μ-loop
-same-length-7 c =
+same-length-5 : tie.Need-same-length-5 Inv-loop μ-loop
+same-length-5 c =
     let at-loop = c .before in
     at-loop .loop .inv .3
 
-same-length-8 : tie.Need-same-length-8 Inv-loop μ-loop
-same-length-8 c =
+same-length-6 : tie.Need-same-length-6 Inv-loop μ-loop
+same-length-6 c =
     let at-loop = c .before in
     at-loop .loop .inv .4
 
-returns-6 : tie.Need-returns-6 Inv-loop μ-loop
-returns-6 c =
+returns-5 : tie.Need-returns-5 Inv-loop μ-loop
+returns-5 c =
     let at-loop = c .before in
-    let z = at-loop .before .before .before .before .before .before .before .before .before .before in
+    let at-if1 = at-loop .before .before .before .before in
+    let z = at-if1 .before .before .before .before .before .before in
     λ e.
     let l = at-loop .loop in
     record {
@@ -191,21 +178,17 @@ level-compares-spec =
     loop-holds
     add-rep-at
     rep-at-requires
-    rep-fits-requires
+    rep-passes-requires
     same-length
     same-length-2
     returns-3
-    power-holds-requires
+    claim-requires
     same-length-3
     same-length-4
     returns-4
-    claim-requires
-    same-length-5
-    same-length-6
-    returns-5
     add-r
     loop-less
     loop-again
-    same-length-7
-    same-length-8
-    returns-6)
+    same-length-5
+    same-length-6
+    returns-5)
