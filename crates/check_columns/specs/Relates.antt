@@ -1,6 +1,7 @@
 -- The relations of the generator on top, in single columns.
 --
 --   SaysTop s rows i p P              p is the prime of generator i of P, and rows are its words with the generators above it
+--   CarryAsked s T D E i j v       D and E hold matrices of one degree, j is above i, and v and the degree are within bounds
 --   Carries s T D E i j v P        the intertwiner of generator j carries generator i from D to E, in every v-th column
 --   ledTo T firsts g D j           where the intertwiner of generator j leads from D
 --   LeadsTo s T firsts g D j         it leads to lines that hold matrices of the same degree
@@ -19,11 +20,16 @@ use Rattle.seek.specs.declared.Scope.{Scope}
 use Rattle.seek.specs.Among.{repIn}
 use Rattle.relations.specs.Kept.{MatricesStored}
 use Rattle.compare.specs.declared.Stage.{Stage}
+use Rattle.compare.specs.Staged.{maxLines}
 
 pub record SaysTop (s : Scope) (rows : List (List ℕ)) (i p : ℕ) (P : Presentation) : Type 0 where
   pub prime : p ≡ P .p i
   pub power : toNF i (getD rows (pairNumber i i) []) ≡ P .u i
   pub word : (j : ℕ) → i < j → j < s .gens → toNF (suc i) (getD rows (pairNumber j i) []) ≡ P .w i j
+
+abbrev pub CarryAsked : Scope → List ℕ → (D E : Listed) → (i j v : ℕ) → Type 0
+CarryAsked s T D E i j v =
+    MatricesStored s T D × MatricesStored s T E × (E .deg ≡ D .deg) × (i < j) × (j < s .gens) × (0 < v) × (v ≤ maxLines) × (D .deg ≤ maxLines)
 
 abbrev pub Carries : Scope → List ℕ → (D E : Listed) → (i j v : ℕ) → Presentation → Type 0
 Carries s T D E i j v P = (k : ℕ) → k * v < D .deg → intertwinesAt P (s .m) (repIn T D) (repIn T E) i j (k * v) ≡ true
@@ -40,7 +46,7 @@ module _ (s : Scope) (T firsts : List ℕ) (g : Stage) (D : Listed) where
   pub record Reached : Type 0 where
     pub top : g .top < s .gens
     pub kept : MatricesStored s T D
-    pub narrow : D .deg ≤ 16777216
+    pub narrow : D .deg ≤ maxLines
     pub leads : (j : ℕ) → g .top < j → j < s .gens → LeadsTo j
 
   pub record CarriesAll (rows : List (List ℕ)) (v : ℕ) : Type 0 where

@@ -13,7 +13,7 @@ ghost use Rattle.relations.specs.Kept.{MatricesStored};
 ghost use Rattle.relations.specs.Said.{Decides, WordOf};
 ghost use Rattle.relations.specs.Tests.{carriesAtIn};
 ghost use Rattle.compare.specs.Staged.{maxLines};
-ghost use Rattle.check_columns.specs.Relates.{Carries, CarriesAll, Reached};
+ghost use Rattle.check_columns.specs.Relates.{CarryAsked, Carries, CarriesAll, Reached};
 use commuting::Reaches;
 use compare::Stage;
 use definitions::Entry;
@@ -45,7 +45,7 @@ fn commutes_at(words: &[u32], s: Scope, d: Listed, e: Listed, i: u32, j: u32, c:
 
 // So in every v-th column.
 fn commutes(words: &[u32], s: Scope, d: Listed, e: Listed, i: u32, j: u32, v: u32) -> bool
-    requires { ⌜ MatricesStored s (now words) d × MatricesStored s (now words) e × (e .deg ≡ d .deg) × (i < j) × (j < s .gens) × (0 < v) × (v ≤ maxLines) × (d .deg ≤ maxLines) ⌝ }
+    requires { ⌜ CarryAsked s (now words) d e i j v ⌝ }
     ensures { λ r. ⌜ (r ≡ true → (P : Presentation) → WordOf i j [] P → Carries s (now (words .entry)) d e i j v P) ⌝ }
 {
     let deg = d.deg;
@@ -62,7 +62,7 @@ fn commutes(words: &[u32], s: Scope, d: Listed, e: Listed, i: u32, j: u32, v: u3
 // The intertwiner of generator j, whose word with generator i is w, carries generator i from d to e, of the same degree, in every
 // v-th column.
 fn carries(words: &[u32], s: Scope, d: Listed, e: Listed, i: u32, j: u32, w: &Row, v: u32) -> bool
-    requires { ⌜ MatricesStored s (now words) d × MatricesStored s (now words) e × (e .deg ≡ d .deg) × (i < j) × (j < s .gens) × (0 < v) × (v ≤ maxLines) × (d .deg ≤ maxLines) ⌝ }
+    requires { ⌜ CarryAsked s (now words) d e i j v ⌝ }
     ensures { λ r. ⌜ (r ≡ true → (P : Presentation) → WordOf i j (now (w .entry)) P → Carries s (now (words .entry)) d e i j v P) ⌝ }
 {
     let deg = d.deg;

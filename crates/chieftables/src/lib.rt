@@ -1,4 +1,4 @@
-// The public calls: in which order the refusals are asked, and what is answered.
+// The public calls, and their exports.
 pub mod accept; // accept.rt: whether a presentation text is accepted
 pub mod build; // build.rt: a presentation text to words
 pub mod check; // check.rt: a table for a presentation text

@@ -42,7 +42,9 @@ module _ {t : Bytes} (f : First (buildRefusals t lentWords) 0) (R : Relations) (
 
   pub table-writable : writable (tableOf (presentation R)) ≡ true
   unfolding lineWords
-  table-writable = let (k, e) = table-words R (s .formed) (said.primes t U R s) (said.words-used t U R s) (said.consistent t U R s) in writable-whole (tableOf (presentation R)) (omega arith) words-small
+  table-writable =
+      let (k, e) = table-words R (s .formed) (said.primes t U R s) (said.words-used t U R s) (said.consistent t U R s) in
+      writable-whole (tableOf (presentation R)) (omega arith) words-small
 
   enough : buildWords (presentation R) ≤ lentWords
   enough =
@@ -52,7 +54,8 @@ module _ {t : Bytes} (f : First (buildRefusals t lentWords) 0) (R : Relations) (
 
   pub table-lent : length (tableOf (presentation R)) ≤ lentWords
   table-lent =
-      let words = stated.room-of R (s .formed) (said.primes t U R s) (said.words-used t U R s) (said.consistent t U R s) (accepted R (s .formed) (said.primes t U R s) (said.words-used t U R s) (said.consistent t U R s) .C .P .n) (omega arith) in
+      let group = accepted R (s .formed) (said.primes t U R s) (said.words-used t U R s) (said.consistent t U R s) in
+      let words = stated.room-of R (s .formed) (said.primes t U R s) (said.words-used t U R s) (said.consistent t U R s) (group .C .P .n) (omega arith) in
       let all = ap length (stated.table-of R (s .formed) (said.primes t U R s) (said.words-used t U R s) (said.consistent t U R s)) in
       let most = enough in
       omega arith

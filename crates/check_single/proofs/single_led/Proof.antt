@@ -75,14 +75,18 @@ add-rep-at-2 : tie.Need-add-rep-at-2
 add-rep-at-2 c =
     let at-if3 = c .before in
     let at-up3 = at-if3 .before .before in
-    let z = at-up3 .before .before .before .before .before .before .before .before .before .before .before .before .before .before in
+    let at-rep-at = at-up3 .before .before .before .before in
+    let at-up2 = at-rep-at .before .before .before .before in
+    let z = at-up2 .before .before .before .before .before .before in
     omega (arith, low-place (z .pre .0) (at-up3 .up3 .result) (omega (arith, at-if3 .if3 .left)) .0, z .good)
 
 rep-at-requires-2 : tie.Need-rep-at-requires-2
 rep-at-requires-2 c κs =
     let at-if3 = c .before in
     let at-up3 = at-if3 .before .before in
-    let z = at-up3 .before .before .before .before .before .before .before .before .before .before .before .before .before .before in
+    let at-rep-at = at-up3 .before .before .before .before in
+    let at-up2 = at-rep-at .before .before .before .before in
+    let z = at-up2 .before .before .before .before .before .before in
     low-place (z .pre .0) (at-up3 .up3 .result) (omega (arith, at-if3 .if3 .left))
 
 returns-4 : tie.Need-returns-4
@@ -90,7 +94,8 @@ returns-4 c = λ e. absurd (false≢true e)
 
 single-takes-requires : tie.Need-single-takes-requires
 single-takes-requires c κs =
-    let at-rep-at = c .before .before .before .before .before .before .before .before .before .before in
+    let at-up3 = c .before .before .before .before .before .before in
+    let at-rep-at = at-up3 .before .before .before .before in
     let at-if1 = at-rep-at .before .before in
     let at-up2 = at-if1 .before .before in
     let z = at-up2 .before .before .before .before .before .before in

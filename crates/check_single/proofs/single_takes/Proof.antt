@@ -54,20 +54,25 @@ returns-3 c = λ e. absurd (false≢true e)
 
 word-at-requires-4 : tie.Need-word-at-requires-4
 word-at-requires-4 c κs =
-    let z = c .before .before .before .before .before .before .before .before .before .before in
+    let at-if2 = c .before .before .before in
+    let z = at-if2 .before .before .before .before .before .before .before in
     let (O, one, E, l) = z .pre in
     (omega (arith, inside-matrix E 0 (omega arith), E .positive), omega arith)
 
 add-word-at : tie.Need-add-word-at
 add-word-at c =
-    let at-up = c .before .before .before .before .before .before .before .before .before .before in
+    let at-if3 = c .before .before in
+    let at-if2 = at-if3 .before .before .before in
+    let at-up = at-if2 .before .before .before .before .before in
     let z = at-up .before .before in
     let (O, one, E, l) = z .pre in
     omega (arith, single.single-room O one (z .args .g) l .1, at-up .up .ensures, z .good)
 
 word-at-requires-5 : tie.Need-word-at-requires-5
 word-at-requires-5 c κs =
-    let at-up = c .before .before .before .before .before .before .before .before .before .before in
+    let at-if3 = c .before .before in
+    let at-if2 = at-if3 .before .before .before in
+    let at-up = at-if2 .before .before .before .before .before in
     let z = at-up .before .before in
     let (O, one, E, l) = z .pre in
     (omega (arith, single.single-room O one (z .args .g) l .1, at-up .up .ensures), omega arith)

@@ -81,7 +81,9 @@ word-at-requires c κs =
 
 word-at-requires-2 : tie.Need-word-at-requires-2
 word-at-requires-2 c κs =
-    let ml2 = c .before .before .before .before .before .before .before .before .before .before .before in
+    let br = c .before .before .before in
+    let ea = br .before .before .before .before .before .before .before in
+    let ml2 = ea .before in
     let z = ml2 .before .before .before .before .before in
     let O = z .pre .0 in
     (omega (arith, O .stored .holds (z .args .g) (z .pre .3) .fits, O .stored .positive, ml2 .matrix-line2 .ensures), omega arith)
@@ -91,7 +93,9 @@ returns-3 c = never
 
 word-at-requires-3 : tie.Need-word-at-requires-3
 word-at-requires-3 c κs =
-    let ml2 = c .before .before .before .before .before .before .before .before .before .before .before .before .before in
+    let br = c .before .before .before .before .before in
+    let ea = br .before .before .before .before .before .before .before in
+    let ml2 = ea .before in
     let z = ml2 .before .before .before .before .before in
     let O = z .pre .0 in
     (omega (arith, O .stored .holds (z .args .g) (z .pre .3) .fits, O .stored .positive, ml2 .matrix-line2 .ensures), omega arith)

@@ -66,14 +66,18 @@ add-rep-at-2 : tie.Need-add-rep-at-2
 add-rep-at-2 c =
     let if3 = c .before in
     let up2 = if3 .before .before in
-    let z = up2 .before .before .before .before .before .before .before .before .before .before .before .before .before .before in
+    let ra = up2 .before .before .before .before .before in
+    let up = ra .before .before .before .before in
+    let z = up .before .before .before .before .before in
     omega (arith, low-place (z .pre .0) (up2 .up2 .result) (omega (arith, if3 .if3 .left)), z .good)
 
 rep-at-requires-2 : tie.Need-rep-at-requires-2
 rep-at-requires-2 c κs =
     let if3 = c .before in
     let up2 = if3 .before .before in
-    let z = up2 .before .before .before .before .before .before .before .before .before .before .before .before .before .before in
+    let ra = up2 .before .before .before .before .before in
+    let up = ra .before .before .before .before in
+    let z = up .before .before .before .before .before in
     low-place (z .pre .0) (up2 .up2 .result) (omega (arith, if3 .if3 .left))
 
 returns-4 : tie.Need-returns-4
@@ -81,7 +85,8 @@ returns-4 c = never
 
 generator-fits-requires : tie.Need-generator-fits-requires
 generator-fits-requires c κs =
-    let if2 = c .before .before .before .before .before .before .before .before .before .before in
+    let up2 = c .before .before .before .before .before .before .before .before in
+    let if2 = up2 .before .before in
     let ra = if2 .before .before .before in
     let if1 = ra .before .before in
     let up = if1 .before .before in

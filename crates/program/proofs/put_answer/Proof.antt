@@ -20,9 +20,10 @@ put-value-requires c κs =
 
 put-byte-requires : tie.Need-put-byte-requires
 put-byte-requires c κs =
-    let name = c .before .before .before .before .before .before .before .put-bytes .ensures in
+    let at-name = c .before .before .before .before .before .before .before in
+    let name = at-name .put-bytes .ensures in
     let number = c .before .before .before .put-value .ensures in
-    let start = c .before .before .before .before .before .before .before .before .before .before .before in
+    let start = at-name .before .before .before .before in
     omega (arith, name .end, wrote-length name, number .end, wrote-length number, number-short (start .args .number) (omega arith))
 
 same-length : tie.Need-same-length

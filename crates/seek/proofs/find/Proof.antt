@@ -38,7 +38,8 @@ loop-again : tie.Need-loop-again Inv-loop μ-loop
 loop-again c =
     let l = c .before .before .before in
     let a = l .before .before .args in
-    halved-low (now (a .words)) (a .i) (a .r) (l .loop .lo) (l .loop .hi) (l .loop .lo + (l .loop .hi - l .loop .lo) / 2) (l .loop .inv) (omega arith) (sym (c .before .stands-before .ensures) ∙ c .if1 .taken)
+    halved-low (now (a .words)) (a .i) (a .r) (l .loop .lo) (l .loop .hi) (l .loop .lo + (l .loop .hi - l .loop .lo) / 2)
+    (l .loop .inv) (omega arith) (sym (c .before .stands-before .ensures) ∙ c .if1 .taken)
 
 loop-less-2 : tie.Need-loop-less-2 Inv-loop μ-loop
 loop-less-2 c = omega arith
@@ -47,7 +48,8 @@ loop-again-2 : tie.Need-loop-again-2 Inv-loop μ-loop
 loop-again-2 c =
     let l = c .before .before .before in
     let a = l .before .before .args in
-    halved-high (now (a .words)) (a .i) (a .r) (l .loop .lo) (l .loop .hi) (l .loop .lo + (l .loop .hi - l .loop .lo) / 2) (l .loop .inv) (omega arith) (sym (c .before .stands-before .ensures) ∙ c .if1 .left)
+    halved-high (now (a .words)) (a .i) (a .r) (l .loop .lo) (l .loop .hi) (l .loop .lo + (l .loop .hi - l .loop .lo) / 2)
+    (l .loop .inv) (omega arith) (sym (c .before .stands-before .ensures) ∙ c .if1 .left)
 
 returns : tie.Need-returns Inv-loop μ-loop
 returns c =

@@ -16,7 +16,9 @@ representation-requires : tie.Need-representation-requires
 representation-requires c κs =
     let a = c .before .before in
     let p = a .pre in
-    found-there (a .args .s) (now (a .args .words)) (p .0) (found-at (a .args .s) (now (a .args .words)) (p .0) (a .args .i) (a .args .r) (c .find-near .result) (p .1) (p .2) (p .3) (c .find-near .ensures))
+    let f = c .find-near in
+    found-there (a .args .s) (now (a .args .words)) (p .0)
+    (found-at (a .args .s) (now (a .args .words)) (p .0) (a .args .i) (a .args .r) (f .result) (p .1) (p .2) (p .3) (f .ensures))
 
 returns : tie.Need-returns
 returns c =

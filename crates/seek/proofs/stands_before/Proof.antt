@@ -28,7 +28,8 @@ returns-3 c =
     let w = c .before .before .before .before in
     let a = w .before .before .args in
     let e = sym (w .word-at .ensures) in
-    ap (λ x. ltb x (a .r)) (c .up .ensures ∙ c .before .word-at2 .ensures) ∙ before-second (now (a .words)) (a .i) (a .r) (a .l) (omega (arith, e, c .before .before .if2 .left, c .before .before .before .if1 .left))
+    ap (λ x. ltb x (a .r)) (c .up .ensures ∙ c .before .word-at2 .ensures)
+    ∙ before-second (now (a .words)) (a .i) (a .r) (a .l) (omega (arith, e, c .before .before .if2 .left, c .before .before .before .if1 .left))
 
 pub stands-before-spec : {M : Type 1} → statement M
 stands-before-spec =
