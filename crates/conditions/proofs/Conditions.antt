@@ -123,16 +123,16 @@ p-power p j i q = ap (λ (b : Bool). b || eqb p 0) (eq-eqb i j q)
 pub p-commutator : (p j i : ℕ) → i ≢ j → (eqb i j || eqb p 0) ≡ eqb p 0
 p-commutator p j i q = ap (λ (b : Bool). b || eqb p 0) (ne-eqb i j q)
 
-module _ (words : List (List ℕ)) (ps primes : List ℕ) (n j i r : ℕ) (is : r ≡ pairNumber j i) where
-  tests : pairWell words ps primes n j i ≡ ((eqb i j || eqb (getD ps r 0) 0) && rowWells (getD words r []) primes n j i)
+module _ (rows : List (List ℕ)) (ps primes : List ℕ) (n j i r : ℕ) (is : r ≡ pairNumber j i) where
+  tests : pairWell rows ps primes n j i ≡ ((eqb i j || eqb (getD ps r 0) 0) && rowWells (getD rows r []) primes n j i)
   unfolding pairWell
-  tests = ap (λ (k : ℕ). (eqb i j || eqb (getD ps k 0) 0) && rowWells (getD words k []) primes n j i) (sym is)
+  tests = ap (λ (k : ℕ). (eqb i j || eqb (getD ps k 0) 0) && rowWells (getD rows k []) primes n j i) (sym is)
 
-  pub pair-stray : (eqb i j || eqb (getD ps r 0) 0) ≡ false → pairWell words ps primes n j i ≡ false
-  pair-stray h = tests ∙ ap (λ (b : Bool). b && rowWells (getD words r []) primes n j i) h
+  pub pair-stray : (eqb i j || eqb (getD ps r 0) 0) ≡ false → pairWell rows ps primes n j i ≡ false
+  pair-stray h = tests ∙ ap (λ (b : Bool). b && rowWells (getD rows r []) primes n j i) h
 
-  pub pair-row : (eqb i j || eqb (getD ps r 0) 0) ≡ true → pairWell words ps primes n j i ≡ rowWells (getD words r []) primes n j i
-  pair-row h = tests ∙ ap (λ (b : Bool). b && rowWells (getD words r []) primes n j i) h
+  pub pair-row : (eqb i j || eqb (getD ps r 0) 0) ≡ true → pairWell rows ps primes n j i ≡ rowWells (getD rows r []) primes n j i
+  pair-row h = tests ∙ ap (λ (b : Bool). b && rowWells (getD rows r []) primes n j i) h
 
 -- ---- The primes of the first j generators
 

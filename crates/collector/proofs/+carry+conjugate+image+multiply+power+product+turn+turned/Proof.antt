@@ -166,7 +166,7 @@ carry-top-requires : (t : ℕ) → carry-lts.Need-top-requires (carry-claims t) 
 carry-top-requires t c κs =
     let z = c .before in
     let ps = now (z .args .primes) in
-    let ws = now (z .args .words) in
+    let rows = now (z .args .rows) in
     let k = z .args .k in
     let x = now (z .args .x) in
     omega (arith, z .pre .1 .0 .few)
@@ -175,23 +175,23 @@ carry-returns : (t : ℕ) → carry-lts.Need-returns (carry-claims t) (carry-at 
 carry-returns t c =
     let z = c .before .before .before in
     let ps = now (z .args .primes) in
-    let ws = now (z .args .words) in
+    let rows = now (z .args .rows) in
     let k = z .args .k in
     let x = now (z .args .x) in
     let u = c .before .before .word in
-    (product-left k ps ws _ x (subst (λ v. Top k v 0) (u .ensures) (subst (Top k (u .result)) (c .if1 .taken) (c .before .top .ensures))) (z .pre .1 .2), kept-all k x)
+    (product-left k ps rows _ x (subst (λ v. Top k v 0) (u .ensures) (subst (Top k (u .result)) (c .if1 .taken) (c .before .top .ensures))) (z .pre .1 .2), kept-all k x)
 
 carry-product-requires : (t : ℕ) → carry-lts.Need-product-requires (carry-claims t) (carry-at t) carry.Post
 carry-product-requires t c κs =
     let z = c .before .before .before .before in
     let ps = now (z .args .primes) in
-    let ws = now (z .args .words) in
+    let rows = now (z .args .rows) in
     let k = z .args .k in
     let x = now (z .args .x) in
     let u = c .before .before .before .word in (
       omega (arith, z .pre .0),
       (
-        ready-below k (suc k) ps ws (omega arith) (z .pre .1 .0),
+        ready-below k (suc k) ps rows (omega arith) (z .pre .1 .0),
         z .pre .1 .1,
         subst (Small k ps) (sym (u .ensures)) (small-below k (suc k) ps _ (omega arith) (z .pre .1 .0 .word k k (omega arith) (omega arith))),
         z .pre .1 .2,
@@ -202,7 +202,7 @@ carry-copied-requires : (t : ℕ) → carry-lts.Need-copied-requires (carry-clai
 carry-copied-requires t c κs =
     let z = c .before .before .before .before .before .before in
     let ps = now (z .args .primes) in
-    let ws = now (z .args .words) in
+    let rows = now (z .args .rows) in
     let k = z .args .k in
     let x = now (z .args .x) in
     (omega (arith, z .pre .1 .0 .few), z .pre .1 .3)
@@ -211,13 +211,13 @@ carry-returns-2 : (t : ℕ) → carry-lts.Need-returns-2 (carry-claims t) (carry
 carry-returns-2 t c =
     let z = c .before .before .before .before .before .before .before in
     let ps = now (z .args .primes) in
-    let ws = now (z .args .words) in
+    let rows = now (z .args .rows) in
     let k = z .args .k in
     let x = now (z .args .x) in
     let u = c .before .before .before .before .before .before .word in
     let v = c .before .before .product in
     let r = c .copied .last .1 .1 .0 in
-    (product-same k ps ws _ x (v .result) r (c .copied .ensures .below) (subst (λ w. Product k ps ws w x (v .result)) (u .ensures) (v .ensures)), mixed-kept (v .result) x k r (c .copied .ensures))
+    (product-same k ps rows _ x (v .result) r (c .copied .ensures .below) (subst (λ w. Product k ps rows w x (v .result)) (u .ensures) (v .ensures)), mixed-kept (v .result) x k r (c .copied .ensures))
 
 conjugate-moved-requires : (t : ℕ) → conjugate-lts.Need-moved-requires (conjugate-claims t) (conjugate-at t) conjugate.Post
 conjugate-moved-requires t c κs =
@@ -227,12 +227,12 @@ conjugate-returns : (t : ℕ) → conjugate-lts.Need-returns (conjugate-claims t
 conjugate-returns t c =
     let z = c .before .before in
     let ps = now (z .args .primes) in
-    let ws = now (z .args .words) in
+    let rows = now (z .args .rows) in
     let rc = now (z .args .reach) in
     let k = z .args .k in
     let j = z .args .j in
     let x = z .args .t6 in
-    conjugate-none j ps ws x k (z .pre .1 .2) (subst (KeepsFrom ws k j x) (c .if1 .taken) (c .before .moved .ensures)) (z .pre .1 .3)
+    conjugate-none j ps rows x k (z .pre .1 .2) (subst (KeepsFrom rows k j x) (c .if1 .taken) (c .before .moved .ensures)) (z .pre .1 .3)
 
 conjugate-sub-l : (t : ℕ) → conjugate-lts.Need-sub-l (conjugate-claims t) (conjugate-at t) conjugate.Post
 conjugate-sub-l t c = search needs
@@ -241,7 +241,7 @@ conjugate-conjugate-requires : (t : ℕ) → conjugate-lts.Need-conjugate-requir
 conjugate-conjugate-requires t c κs =
     let z = c .before .before in
     let ps = now (z .args .primes) in
-    let ws = now (z .args .words) in
+    let rows = now (z .args .rows) in
     let rc = now (z .args .reach) in
     let k = z .args .k in
     let j = z .args .j in
@@ -258,7 +258,7 @@ conjugate-array-write-z : (t : ℕ) → conjugate-lts.Need-array-write-z (conjug
 conjugate-array-write-z t c =
     let z = c .before .before .before in
     let ps = now (z .args .primes) in
-    let ws = now (z .args .words) in
+    let rows = now (z .args .rows) in
     let rc = now (z .args .reach) in
     let k = z .args .k in
     let j = z .args .j in
@@ -273,7 +273,7 @@ conjugate-image-requires : (t : ℕ) → conjugate-lts.Need-image-requires (conj
 conjugate-image-requires t c κs =
     let z = c .before .before .before in
     let ps = now (z .args .primes) in
-    let ws = now (z .args .words) in
+    let rows = now (z .args .rows) in
     let rc = now (z .args .reach) in
     let k = z .args .k in
     let j = z .args .j in
@@ -290,7 +290,7 @@ conjugate-array-read-power : (t : ℕ) → conjugate-lts.Need-array-read-power (
 conjugate-array-read-power t c =
     let z = c .before .before .before .before in
     let ps = now (z .args .primes) in
-    let ws = now (z .args .words) in
+    let rows = now (z .args .rows) in
     let rc = now (z .args .reach) in
     let k = z .args .k in
     let j = z .args .j in
@@ -305,7 +305,7 @@ conjugate-power-requires : (t : ℕ) → conjugate-lts.Need-power-requires (conj
 conjugate-power-requires t c κs =
     let z = c .before .before .before .before in
     let ps = now (z .args .primes) in
-    let ws = now (z .args .words) in
+    let rows = now (z .args .rows) in
     let rc = now (z .args .reach) in
     let k = z .args .k in
     let j = z .args .j in
@@ -313,8 +313,8 @@ conjugate-power-requires t c κs =
     let m = c .before .before .before .moved in
     let mk : m .result ≤ k = m .ensures .less in
     let kj : k ≤ j = z .pre .1 .2 in
-    let r = ready-below (m .result) (suc j) ps ws (omega arith) (z .pre .1 .0) in
-    let quiet = quiet-below (m .result) (suc j) ws rc (omega arith) (z .pre .1 .1) in
+    let r = ready-below (m .result) (suc j) ps rows (omega arith) (z .pre .1 .0) in
+    let quiet = quiet-below (m .result) (suc j) rows rc (omega arith) (z .pre .1 .1) in
     let level : suc (m .result - 1) ≡ m .result = omega (arith, c .before .before .if1 .left) in
     (omega (arith, z .pre .0), (r, quiet, subst (λ n. Small n ps (c .image .result)) level (c .image .ensures .small)))
 
@@ -322,7 +322,7 @@ conjugate-product-requires : (t : ℕ) → conjugate-lts.Need-product-requires (
 conjugate-product-requires t c κs =
     let z = c .before .before .before .before .before in
     let ps = now (z .args .primes) in
-    let ws = now (z .args .words) in
+    let rows = now (z .args .rows) in
     let rc = now (z .args .reach) in
     let k = z .args .k in
     let j = z .args .j in
@@ -330,13 +330,13 @@ conjugate-product-requires t c κs =
     let m = c .before .before .before .before .moved in
     let mk : m .result ≤ k = m .ensures .less in
     let kj : k ≤ j = z .pre .1 .2 in
-    let r = ready-below (m .result) (suc j) ps ws (omega arith) (z .pre .1 .0) in
-    let quiet = quiet-below (m .result) (suc j) ws rc (omega arith) (z .pre .1 .1) in
+    let r = ready-below (m .result) (suc j) ps rows (omega arith) (z .pre .1 .0) in
+    let quiet = quiet-below (m .result) (suc j) rows rc (omega arith) (z .pre .1 .1) in
     let few : suc j ≤ maxGenerators = z .pre .1 .0 .few in
     let q = c .before .before .conjugate in
     let pos : 0 < m .result = omega (arith, c .before .before .before .if1 .left) in
     let long : length (q .result) ≡ maxGenerators = search needs in
-    (omega (arith, z .pre .0), (r, quiet, c .power .ensures .small, lower-small-at k j (m .result) ps ws x (q .result) pos kj (omega arith) (m .ensures) (q .ensures) r))
+    (omega (arith, z .pre .0), (r, quiet, c .power .ensures .small, lower-small-at k j (m .result) ps rows x (q .result) pos kj (omega arith) (m .ensures) (q .ensures) r))
 
 conjugate-mul-stacked : (t : ℕ) → conjugate-lts.Need-mul-stacked (conjugate-claims t) (conjugate-at t) conjugate.Post
 conjugate-mul-stacked t c = search needs
@@ -345,7 +345,7 @@ conjugate-array-read-stacked : (t : ℕ) → conjugate-lts.Need-array-read-stack
 conjugate-array-read-stacked t c =
     let z = c .before .before .before .before .before .before in
     let ps = now (z .args .primes) in
-    let ws = now (z .args .words) in
+    let rows = now (z .args .rows) in
     let rc = now (z .args .reach) in
     let k = z .args .k in
     let j = z .args .j in
@@ -360,7 +360,7 @@ conjugate-stacked-requires : (t : ℕ) → conjugate-lts.Need-stacked-requires (
 conjugate-stacked-requires t c κs =
     let z = c .before .before .before .before .before .before in
     let ps = now (z .args .primes) in
-    let ws = now (z .args .words) in
+    let rows = now (z .args .rows) in
     let rc = now (z .args .reach) in
     let k = z .args .k in
     let j = z .args .j in
@@ -375,7 +375,7 @@ conjugate-returns-2 : (t : ℕ) → conjugate-lts.Need-returns-2 (conjugate-clai
 conjugate-returns-2 t c =
     let z = c .before .before .before .before .before .before .before in
     let ps = now (z .args .primes) in
-    let ws = now (z .args .words) in
+    let rows = now (z .args .rows) in
     let rc = now (z .args .reach) in
     let k = z .args .k in
     let j = z .args .j in
@@ -387,14 +387,14 @@ conjugate-returns-2 t c =
     let q = c .before .before .before .before .conjugate in
     let pos : 0 < m .result = omega (arith, c .before .before .before .before .before .if1 .left) in
     let long : length (q .result) ≡ maxGenerators = search needs in
-    conjugate-moves-at k j (m .result) ps ws x (q .result) pos kj (omega arith) (m .ensures) (q .ensures) (c .before .before .before .image .result) (c .before .before .power .result) (c .before .product .result) (c .stacked .result)
+    conjugate-moves-at k j (m .result) ps rows x (q .result) pos kj (omega arith) (m .ensures) (q .ensures) (c .before .before .before .image .result) (c .before .before .power .result) (c .before .product .result) (c .stacked .result)
     (z .pre .1 .3) (c .before .before .before .image .ensures) (c .before .before .power .ensures) (c .before .product .ensures) (c .stacked .ensures)
 
 image-word-requires : (t : ℕ) → image-lts.Need-word-requires (image-claims t) (image-at t) image.Post
 image-word-requires t c κs =
     let z = c in
     let ps = now (z .args .primes) in
-    let ws = now (z .args .words) in
+    let rows = now (z .args .rows) in
     let j = z .args .j in
     let l = z .args .l in
     let lj : l < j = z .pre .1 .2 in
@@ -407,7 +407,7 @@ image-array-read-s : (t : ℕ) → image-lts.Need-array-read-s (image-claims t) 
 image-array-read-s t c =
     let z = c .before in
     let ps = now (z .args .primes) in
-    let ws = now (z .args .words) in
+    let rows = now (z .args .rows) in
     let j = z .args .j in
     let l = z .args .l in
     let lj : l < j = z .pre .1 .2 in
@@ -417,15 +417,15 @@ image-add-s : (t : ℕ) → image-lts.Need-add-s (image-claims t) (image-at t) i
 image-add-s t c =
     let z = c .before in
     let ps = now (z .args .primes) in
-    let ws = now (z .args .words) in
+    let rows = now (z .args .rows) in
     let j = z .args .j in
     let l = z .args .l in
     let lj : l < j = z .pre .1 .2 in
     let w = c .word in
     let few : suc j ≤ maxGenerators = z .pre .1 .0 .few in
     let long : length (w .result) ≡ maxGenerators = search needs in
-    let small = commutator-small j l ps ws (w .result) lj (z .pre .1 .0) (w .ensures) in
-    omega (arith, small .below l (omega arith), prime-fits (suc j) ps ws (z .pre .1 .0) l (omega arith))
+    let small = commutator-small j l ps rows (w .result) lj (z .pre .1 .0) (w .ensures) in
+    omega (arith, small .below l (omega arith), prime-fits (suc j) ps rows (z .pre .1 .0) l (omega arith))
 
 image-mul-p : (t : ℕ) → image-lts.Need-mul-p (image-claims t) (image-at t) image.Post
 image-mul-p t c = search needs
@@ -434,7 +434,7 @@ image-element-copy-out-p : (t : ℕ) → image-lts.Need-element-copy-out-p (imag
 image-element-copy-out-p t c =
     let z = c .before in
     let ps = now (z .args .primes) in
-    let ws = now (z .args .words) in
+    let rows = now (z .args .rows) in
     let j = z .args .j in
     let l = z .args .l in
     let lj : l < j = z .pre .1 .2 in
@@ -447,7 +447,7 @@ image-array-write-h : (t : ℕ) → image-lts.Need-array-write-h (image-claims t
 image-array-write-h t c =
     let z = c .before .before .before in
     let ps = now (z .args .primes) in
-    let ws = now (z .args .words) in
+    let rows = now (z .args .rows) in
     let j = z .args .j in
     let l = z .args .l in
     let lj : l < j = z .pre .1 .2 in
@@ -457,20 +457,20 @@ image-returns : (t : ℕ) → image-lts.Need-returns (image-claims t) (image-at 
 image-returns t c =
     let z = c .before .before .before in
     let ps = now (z .args .primes) in
-    let ws = now (z .args .words) in
+    let rows = now (z .args .rows) in
     let j = z .args .j in
     let l = z .args .l in
     let lj : l < j = z .pre .1 .2 in
     let w = c .before .before .word in
     let few : suc j ≤ maxGenerators = z .pre .1 .0 .few in
     let long : length (w .result) ≡ maxGenerators = search needs in
-    image-low j l ps ws (w .result) lj (z .pre .1 .0) (w .ensures) (omega arith) (c .if1 .taken)
+    image-low j l ps rows (w .result) lj (z .pre .1 .0) (w .ensures) (omega arith) (c .if1 .taken)
 
 image-word-requires-2 : (t : ℕ) → image-lts.Need-word-requires-2 (image-claims t) (image-at t) image.Post
 image-word-requires-2 t c κs =
     let z = c .before .before .before in
     let ps = now (z .args .primes) in
-    let ws = now (z .args .words) in
+    let rows = now (z .args .rows) in
     let j = z .args .j in
     let l = z .args .l in
     let lj : l < j = z .pre .1 .2 in
@@ -480,7 +480,7 @@ image-product-requires : (t : ℕ) → image-lts.Need-product-requires (image-cl
 image-product-requires t c κs =
     let z = c .before .before .before .before in
     let ps = now (z .args .primes) in
-    let ws = now (z .args .words) in
+    let rows = now (z .args .rows) in
     let j = z .args .j in
     let l = z .args .l in
     let lj : l < j = z .pre .1 .2 in
@@ -490,10 +490,10 @@ image-product-requires t c κs =
     let u = c .word2 in (
       omega (arith, z .pre .0),
       (
-        ready-below l (suc j) ps ws (omega arith) (z .pre .1 .0),
-        quiet-below l (suc j) ws (now (z .args .reach)) (omega arith) (z .pre .1 .1),
+        ready-below l (suc j) ps rows (omega arith) (z .pre .1 .0),
+        quiet-below l (suc j) rows (now (z .args .reach)) (omega arith) (z .pre .1 .1),
         subst (Small l ps) (sym (u .ensures)) (small-below l (suc j) ps _ (omega arith) (z .pre .1 .0 .word l l (omega arith) (omega arith))),
-        small-below l (suc l) ps (w .result) (omega arith) (commutator-small j l ps ws (w .result) lj (z .pre .1 .0) (w .ensures)),
+        small-below l (suc l) ps (w .result) (omega arith) (commutator-small j l ps rows (w .result) lj (z .pre .1 .0) (w .ensures)),
       ),
     )
 
@@ -504,7 +504,7 @@ image-array-write-v : (t : ℕ) → image-lts.Need-array-write-v (image-claims t
 image-array-write-v t c =
     let z = c .before .before .before .before .before in
     let ps = now (z .args .primes) in
-    let ws = now (z .args .words) in
+    let rows = now (z .args .rows) in
     let j = z .args .j in
     let l = z .args .l in
     let lj : l < j = z .pre .1 .2 in
@@ -514,7 +514,7 @@ image-returns-2 : (t : ℕ) → image-lts.Need-returns-2 (image-claims t) (image
 image-returns-2 t c =
     let z = c .before .before .before .before .before in
     let ps = now (z .args .primes) in
-    let ws = now (z .args .words) in
+    let rows = now (z .args .rows) in
     let j = z .args .j in
     let l = z .args .l in
     let lj : l < j = z .pre .1 .2 in
@@ -524,13 +524,13 @@ image-returns-2 t c =
     let u = c .before .word2 in
     let v = c .product in
     let longv : length (v .result) ≡ maxGenerators = search needs in
-    image-high j l ps ws (w .result) lj (z .pre .1 .0) (w .ensures) (u .result) (v .result) (u .ensures) (v .ensures) (omega arith) (c .before .before .if1 .left)
+    image-high j l ps rows (w .result) lj (z .pre .1 .0) (w .ensures) (u .result) (v .result) (u .ensures) (v .ensures) (omega arith) (c .before .before .if1 .left)
 
 multiply-top-requires : (t : ℕ) → multiply-lts.Need-top-requires (multiply-claims t) (multiply-at t) multiply.Post
 multiply-top-requires t c κs =
     let z = c .before in
     let ps = now (z .args .primes) in
-    let ws = now (z .args .words) in
+    let rows = now (z .args .rows) in
     let rc = now (z .args .reach) in
     let i = z .args .i in
     let x = now (z .args .x) in
@@ -541,12 +541,12 @@ multiply-returns : (t : ℕ) → multiply-lts.Need-returns (multiply-claims t) (
 multiply-returns t c =
     let z = c .before .before .before in
     let ps = now (z .args .primes) in
-    let ws = now (z .args .words) in
+    let rows = now (z .args .rows) in
     let rc = now (z .args .reach) in
     let i = z .args .i in
     let x = now (z .args .x) in
     let y = now (z .args .y) in
-    (product-none i ps ws x y (subst (Top i y) (c .if1 .taken) (c .before .top .ensures)) (z .pre .1 .2), kept-all i x)
+    (product-none i ps rows x y (subst (Top i y) (c .if1 .taken) (c .before .top .ensures)) (z .pre .1 .2), kept-all i x)
 
 multiply-sub-k : (t : ℕ) → multiply-lts.Need-sub-k (multiply-claims t) (multiply-at t) multiply.Post
 multiply-sub-k t c = search needs
@@ -558,7 +558,7 @@ multiply-element-copy-out-b : (t : ℕ) → multiply-lts.Need-element-copy-out-b
 multiply-element-copy-out-b t c =
     let z = c .before .before .before in
     let ps = now (z .args .primes) in
-    let ws = now (z .args .words) in
+    let rows = now (z .args .rows) in
     let rc = now (z .args .reach) in
     let i = z .args .i in
     let x = now (z .args .x) in
@@ -573,7 +573,7 @@ multiply-turn-requires : (t : ℕ) → multiply-lts.Need-turn-requires (multiply
 multiply-turn-requires t c κs =
     let z = c .before .before .before .before .before in
     let ps = now (z .args .primes) in
-    let ws = now (z .args .words) in
+    let rows = now (z .args .rows) in
     let rc = now (z .args .reach) in
     let i = z .args .i in
     let x = now (z .args .x) in
@@ -584,8 +584,8 @@ multiply-turn-requires t c κs =
     let pos : 0 < m .result = omega (arith, c .before .before .if1 .left) in (
       omega (arith, z .pre .0),
       (
-        ready-below (suc (m .result - 1)) i ps ws (omega arith) (z .pre .1 .0),
-        quiet-below (suc (m .result - 1)) i ws rc (omega arith) (z .pre .1 .1),
+        ready-below (suc (m .result - 1)) i ps rows (omega arith) (z .pre .1 .0),
+        quiet-below (suc (m .result - 1)) i rows rc (omega arith) (z .pre .1 .1),
         small-below (m .result - 1) i ps x (omega arith) (z .pre .1 .2),
         z .pre .1 .4,
       ),
@@ -595,7 +595,7 @@ multiply-multiply-requires : (t : ℕ) → multiply-lts.Need-multiply-requires (
 multiply-multiply-requires t c κs =
     let z = c .before .before .before .before .before .before .before in
     let ps = now (z .args .primes) in
-    let ws = now (z .args .words) in
+    let rows = now (z .args .rows) in
     let rc = now (z .args .reach) in
     let i = z .args .i in
     let x = now (z .args .x) in
@@ -608,8 +608,8 @@ multiply-multiply-requires t c κs =
     let x₁ = t .last .1 .1 .1 .1 .0 in (
       omega (arith, z .pre .0),
       (
-        ready-below (m .result - 1) i ps ws (omega arith) (z .pre .1 .0),
-        quiet-below (m .result - 1) i ws rc (omega arith) (z .pre .1 .1),
+        ready-below (m .result - 1) i ps rows (omega arith) (z .pre .1 .0),
+        quiet-below (m .result - 1) i rows rc (omega arith) (z .pre .1 .1),
         t .ensures .0 .small,
         small-below (m .result - 1) i ps y (omega arith) (z .pre .1 .3),
         t .ensures .1 .long ∙ z .pre .1 .4,
@@ -623,7 +623,7 @@ multiply-element-copy-out-s : (t : ℕ) → multiply-lts.Need-element-copy-out-s
 multiply-element-copy-out-s t c =
     let z = c .before .before .before .before .before .before .before .before in
     let ps = now (z .args .primes) in
-    let ws = now (z .args .words) in
+    let rows = now (z .args .rows) in
     let rc = now (z .args .reach) in
     let i = z .args .i in
     let x = now (z .args .x) in
@@ -638,7 +638,7 @@ multiply-add-s : (t : ℕ) → multiply-lts.Need-add-s (multiply-claims t) (mult
 multiply-add-s t c =
     let z = c .before .before .before .before .before .before .before .before .before in
     let ps = now (z .args .primes) in
-    let ws = now (z .args .words) in
+    let rows = now (z .args .rows) in
     let rc = now (z .args .reach) in
     let i = z .args .i in
     let x = now (z .args .x) in
@@ -654,10 +654,10 @@ multiply-add-s t c =
     let long : m .result ≤ length x = omega (arith, z .pre .1 .4) in
     omega (
       arith,
-      multiply-top i (m .result) ps ws x y x₁ x₂ pos (m .ensures) (z .pre .1 .2) long (t .ensures .0) (t .ensures .1) (q .ensures .0) (q .ensures .1),
+      multiply-top i (m .result) ps rows x y x₁ x₂ pos (m .ensures) (z .pre .1 .2) long (t .ensures .0) (t .ensures .1) (q .ensures .0) (q .ensures .1),
       z .pre .1 .2 .below (m .result - 1) (omega arith),
       z .pre .1 .3 .below (m .result - 1) (omega arith),
-      prime-fits i ps ws (z .pre .1 .0) (m .result - 1) (omega arith),
+      prime-fits i ps rows (z .pre .1 .0) (m .result - 1) (omega arith),
     )
 
 multiply-mul-p : (t : ℕ) → multiply-lts.Need-mul-p (multiply-claims t) (multiply-at t) multiply.Post
@@ -667,7 +667,7 @@ multiply-element-copy-out-p : (t : ℕ) → multiply-lts.Need-element-copy-out-p
 multiply-element-copy-out-p t c =
     let z = c .before .before .before .before .before .before .before .before .before in
     let ps = now (z .args .primes) in
-    let ws = now (z .args .words) in
+    let rows = now (z .args .rows) in
     let rc = now (z .args .reach) in
     let i = z .args .i in
     let x = now (z .args .x) in
@@ -685,7 +685,7 @@ multiply-element-write-x : (t : ℕ) → multiply-lts.Need-element-write-x (mult
 multiply-element-write-x t c =
     let z = c .before .before .before .before .before .before .before .before .before .before .before in
     let ps = now (z .args .primes) in
-    let ws = now (z .args .words) in
+    let rows = now (z .args .rows) in
     let rc = now (z .args .reach) in
     let i = z .args .i in
     let x = now (z .args .x) in
@@ -700,7 +700,7 @@ multiply-returns-2 : (t : ℕ) → multiply-lts.Need-returns-2 (multiply-claims 
 multiply-returns-2 t c =
     let z = c .before .before .before .before .before .before .before .before .before .before .before in
     let ps = now (z .args .primes) in
-    let ws = now (z .args .words) in
+    let rows = now (z .args .rows) in
     let rc = now (z .args .reach) in
     let i = z .args .i in
     let x = now (z .args .x) in
@@ -714,13 +714,13 @@ multiply-returns-2 t c =
     let q = c .before .before .before .multiply in
     let x₂ = q .last .1 .1 .1 .1 .0 in
     let long : m .result ≤ length x = omega (arith, z .pre .1 .4) in
-    multiply-low i (m .result) ps ws x y x₁ x₂ pos (m .ensures) (z .pre .1 .2) long (t .ensures .0) (t .ensures .1) (q .ensures .0) (q .ensures .1) (c .if2 .taken)
+    multiply-low i (m .result) ps rows x y x₁ x₂ pos (m .ensures) (z .pre .1 .2) long (t .ensures .0) (t .ensures .1) (q .ensures .0) (q .ensures .1) (c .if2 .taken)
 
 multiply-carry-requires : (t : ℕ) → multiply-lts.Need-carry-requires (multiply-claims t) (multiply-at t) multiply.Post
 multiply-carry-requires t c κs =
     let z = c .before .before .before .before .before .before .before .before .before .before .before .before in
     let ps = now (z .args .primes) in
-    let ws = now (z .args .words) in
+    let rows = now (z .args .rows) in
     let rc = now (z .args .reach) in
     let i = z .args .i in
     let x = now (z .args .x) in
@@ -736,8 +736,8 @@ multiply-carry-requires t c κs =
     let long : m .result ≤ length x = omega (arith, z .pre .1 .4) in (
       omega (arith, z .pre .0),
       (
-        ready-below (suc (m .result - 1)) i ps ws (omega arith) (z .pre .1 .0),
-        quiet-below (m .result - 1) i ws rc (omega arith) (z .pre .1 .1),
+        ready-below (suc (m .result - 1)) i ps rows (omega arith) (z .pre .1 .0),
+        quiet-below (m .result - 1) i rows rc (omega arith) (z .pre .1 .1),
         q .ensures .0 .small,
         q .ensures .1 .long ∙ t .ensures .1 .long ∙ z .pre .1 .4,
       ),
@@ -750,7 +750,7 @@ multiply-element-write-x-2 : (t : ℕ) → multiply-lts.Need-element-write-x-2 (
 multiply-element-write-x-2 t c =
     let z = c .before .before .before .before .before .before .before .before .before .before .before .before .before in
     let ps = now (z .args .primes) in
-    let ws = now (z .args .words) in
+    let rows = now (z .args .rows) in
     let rc = now (z .args .reach) in
     let i = z .args .i in
     let x = now (z .args .x) in
@@ -765,7 +765,7 @@ multiply-returns-3 : (t : ℕ) → multiply-lts.Need-returns-3 (multiply-claims 
 multiply-returns-3 t c =
     let z = c .before .before .before .before .before .before .before .before .before .before .before .before .before in
     let ps = now (z .args .primes) in
-    let ws = now (z .args .words) in
+    let rows = now (z .args .rows) in
     let rc = now (z .args .reach) in
     let i = z .args .i in
     let x = now (z .args .x) in
@@ -779,29 +779,29 @@ multiply-returns-3 t c =
     let q = c .before .before .before .before .before .multiply in
     let x₂ = q .last .1 .1 .1 .1 .0 in
     let long : m .result ≤ length x = omega (arith, z .pre .1 .4) in
-    multiply-high i (m .result) ps ws x y x₁ x₂ pos (m .ensures) (z .pre .1 .2) long (t .ensures .0) (t .ensures .1) (q .ensures .0) (q .ensures .1) (c .carry .last .1 .1 .1 .1 .0) (c .carry .ensures .0) (c .carry .ensures .1)
+    multiply-high i (m .result) ps rows x y x₁ x₂ pos (m .ensures) (z .pre .1 .2) long (t .ensures .0) (t .ensures .1) (q .ensures .0) (q .ensures .1) (c .carry .last .1 .1 .1 .1 .0) (c .carry .ensures .0) (c .carry .ensures .1)
     (c .before .before .if2 .left) (z .pre .1 .3)
 
 abbrev power-Inv-loop : power-lts.InvT-loop
-power-Inv-loop primes words reach i x e m r₀ n₀ r n = (n ≤ e) × Power i primes words x r n
+power-Inv-loop primes rows reach i x e m r₀ n₀ r n = (n ≤ e) × Power i primes rows x r n
 
 abbrev power-μ-loop : power-lts.MeasureT-loop
-power-μ-loop primes words reach i x e m r₀ n₀ r n = e - n
+power-μ-loop primes rows reach i x e m r₀ n₀ r n = e - n
 
 power-returns : (t : ℕ) → power-lts.Need-returns (power-claims t) (power-at t) power.Post power-Inv-loop power-μ-loop
 power-returns t c =
     let z = c .before in
     let ps = now (z .args .primes) in
-    let ws = now (z .args .words) in
+    let rows = now (z .args .rows) in
     let i = z .args .i in
     let x = z .args .x in
-    subst (Power i ps ws x x) (sym (c .if1 .taken)) (power-once i ps ws x (z .pre .1 .2))
+    subst (Power i ps rows x x) (sym (c .if1 .taken)) (power-once i ps rows x (z .pre .1 .2))
 
 power-top-requires : (t : ℕ) → power-lts.Need-top-requires (power-claims t) (power-at t) power.Post power-Inv-loop power-μ-loop
 power-top-requires t c κs =
     let z = c .before in
     let ps = now (z .args .primes) in
-    let ws = now (z .args .words) in
+    let rows = now (z .args .rows) in
     let i = z .args .i in
     let x = z .args .x in
     z .pre .1 .0 .few
@@ -810,7 +810,7 @@ power-alone-requires : (t : ℕ) → power-lts.Need-alone-requires (power-claims
 power-alone-requires t c κs =
     let z = c .before .before in
     let ps = now (z .args .primes) in
-    let ws = now (z .args .words) in
+    let rows = now (z .args .rows) in
     let i = z .args .i in
     let x = z .args .x in
     omega (arith, c .top .ensures .less, z .pre .1 .0 .few)
@@ -819,7 +819,7 @@ power-sub-multiple : (t : ℕ) → power-lts.Need-sub-multiple (power-claims t) 
 power-sub-multiple t c =
     let z = c .before .before .before .before in
     let ps = now (z .args .primes) in
-    let ws = now (z .args .words) in
+    let rows = now (z .args .rows) in
     let i = z .args .i in
     let x = z .args .x in
     omega (arith, c .before .alone .ensures .is (c .if2 .taken) .0)
@@ -828,7 +828,7 @@ power-multiple-requires : (t : ℕ) → power-lts.Need-multiple-requires (power-
 power-multiple-requires t c κs =
     let z = c .before .before .before .before in
     let ps = now (z .args .primes) in
-    let ws = now (z .args .words) in
+    let rows = now (z .args .rows) in
     let i = z .args .i in
     let x = z .args .x in
     let t = c .before .before .top in
@@ -840,26 +840,26 @@ power-returns-2 : (t : ℕ) → power-lts.Need-returns-2 (power-claims t) (power
 power-returns-2 t c =
     let z = c .before .before .before .before .before in
     let ps = now (z .args .primes) in
-    let ws = now (z .args .words) in
+    let rows = now (z .args .rows) in
     let i = z .args .i in
     let x = z .args .x in
     let t = c .before .before .before .top in
-    power-single i (t .result) ps ws x (z .pre .1 .0) (z .pre .1 .2) (t .ensures) (c .before .before .alone .ensures .is (c .before .if2 .taken)) (z .args .e) (c .multiple .result) (c .multiple .ensures)
+    power-single i (t .result) ps rows x (z .pre .1 .0) (z .pre .1 .2) (t .ensures) (c .before .before .alone .ensures .is (c .before .if2 .taken)) (z .args .e) (c .multiple .result) (c .multiple .ensures)
 
 power-loop-holds : (t : ℕ) → power-lts.Need-loop-holds (power-claims t) (power-at t) power.Post power-Inv-loop power-μ-loop
 power-loop-holds t c =
     let z = c .before .before .before .before in
     let ps = now (z .args .primes) in
-    let ws = now (z .args .words) in
+    let rows = now (z .args .rows) in
     let i = z .args .i in
     let x = z .args .x in
-    (search needs, powering-start i ps ws x (z .pre .1 .0))
+    (search needs, powering-start i ps rows x (z .pre .1 .0))
 
 power-product-requires : (t : ℕ) → power-lts.Need-product-requires (power-claims t) (power-at t) power.Post power-Inv-loop power-μ-loop
 power-product-requires t c κs =
     let z = c .before .before .before .before .before .before in
     let ps = now (z .args .primes) in
-    let ws = now (z .args .words) in
+    let rows = now (z .args .rows) in
     let i = z .args .i in
     let x = z .args .x in
     (omega (arith, z .pre .0), (z .pre .1 .0, z .pre .1 .1, z .pre .1 .2, c .before .loop .inv .1 .small))
@@ -874,28 +874,28 @@ power-loop-again : (t : ℕ) → power-lts.Need-loop-again (power-claims t) (pow
 power-loop-again t c =
     let z = c .before .before .before .before .before .before .before in
     let ps = now (z .args .primes) in
-    let ws = now (z .args .words) in
+    let rows = now (z .args .rows) in
     let i = z .args .i in
     let x = z .args .x in
     let l = c .before .before .loop in
-    (search needs, powering-more i ps ws x (l .r) (c .product .result) (l .n) (l .inv .1) (c .product .ensures))
+    (search needs, powering-more i ps rows x (l .r) (c .product .result) (l .n) (l .inv .1) (c .product .ensures))
 
 power-returns-3 : (t : ℕ) → power-lts.Need-returns-3 (power-claims t) (power-at t) power.Post power-Inv-loop power-μ-loop
 power-returns-3 t c =
     let z = c .before .before .before .before .before .before in
     let ps = now (z .args .primes) in
-    let ws = now (z .args .words) in
+    let rows = now (z .args .rows) in
     let i = z .args .i in
     let x = z .args .x in
     let l = c .before .loop in
     let e : l .n ≡ z .args .e = omega arith in
-    subst (Power i ps ws x (l .r)) e (l .inv .1)
+    subst (Power i ps rows x (l .r)) e (l .inv .1)
 
 product-multiply-requires : (t : ℕ) → product-lts.Need-multiply-requires (product-claims t) (product-at t) product.Post
 product-multiply-requires t c κs =
     let z = c .before .before in
     let ps = now (z .args .primes) in
-    let ws = now (z .args .words) in
+    let rows = now (z .args .rows) in
     (omega (arith, z .pre .0), (z .pre .1 .0, z .pre .1 .1, z .pre .1 .2, z .pre .1 .3, search needs))
 
 product-returns : (t : ℕ) → product-lts.Need-returns (product-claims t) (product-at t) product.Post
@@ -911,17 +911,17 @@ turn-returns : (t : ℕ) → turn-lts.Need-returns (turn-claims t) (turn-at t) t
 turn-returns t c =
     let z = c .before .before in
     let ps = now (z .args .primes) in
-    let ws = now (z .args .words) in
+    let rows = now (z .args .rows) in
     let k = z .args .k in
     let x = now (z .args .x) in
-    let still = moved-reach ws k k 0 x (omega arith) (omega arith) (subst (Reach ws k) (c .if1 .taken) (z .pre .1 .1 .at k (omega arith))) in
-    (turned-fixed k (z .args .b) ps ws x (conjugate-none k ps ws x k (omega arith) still (z .pre .1 .2)), kept-all k x)
+    let still = moved-reach rows k k 0 x (omega arith) (omega arith) (subst (Reach rows k) (c .if1 .taken) (z .pre .1 .1 .at k (omega arith))) in
+    (turned-fixed k (z .args .b) ps rows x (conjugate-none k ps rows x k (omega arith) still (z .pre .1 .2)), kept-all k x)
 
 turn-turned-requires : (t : ℕ) → turn-lts.Need-turned-requires (turn-claims t) (turn-at t) turn.Post
 turn-turned-requires t c κs =
     let z = c .before .before .before in
     let ps = now (z .args .primes) in
-    let ws = now (z .args .words) in
+    let rows = now (z .args .rows) in
     let k = z .args .k in
     let x = now (z .args .x) in
     (omega (arith, z .pre .0), (z .pre .1 .0, z .pre .1 .1, z .pre .1 .2))
@@ -930,7 +930,7 @@ turn-copied-requires : (t : ℕ) → turn-lts.Need-copied-requires (turn-claims 
 turn-copied-requires t c κs =
     let z = c .before .before .before .before .before in
     let ps = now (z .args .primes) in
-    let ws = now (z .args .words) in
+    let rows = now (z .args .rows) in
     let k = z .args .k in
     let x = now (z .args .x) in
     (omega (arith, z .pre .1 .0 .few), z .pre .1 .3)
@@ -939,18 +939,18 @@ turn-returns-2 : (t : ℕ) → turn-lts.Need-returns-2 (turn-claims t) (turn-at 
 turn-returns-2 t c =
     let z = c .before .before .before .before .before .before in
     let ps = now (z .args .primes) in
-    let ws = now (z .args .words) in
+    let rows = now (z .args .rows) in
     let k = z .args .k in
     let x = now (z .args .x) in
     let t = c .before .before .turned in
     let r = c .copied .last .1 .1 .0 in
-    (turned-same k (z .args .b) ps ws x (t .result) r (c .copied .ensures .below) (t .ensures), mixed-kept (t .result) x k r (c .copied .ensures))
+    (turned-same k (z .args .b) ps rows x (t .result) r (c .copied .ensures .below) (t .ensures), mixed-kept (t .result) x k r (c .copied .ensures))
 
 abbrev turned-Inv-loop : turned-lts.InvT-loop
-turned-Inv-loop primes words reach i x b c₀ n₀ left₀ c n left = Turning i b primes words x c n left
+turned-Inv-loop primes rows reach i x b c₀ n₀ left₀ c n left = Turning i b primes rows x c n left
 
 abbrev turned-μ-loop : turned-lts.MeasureT-loop
-turned-μ-loop primes words reach i x b c₀ n₀ left₀ c n left = left
+turned-μ-loop primes rows reach i x b c₀ n₀ left₀ c n left = left
 
 turned-mul-if1 : (t : ℕ) → turned-lts.Need-mul-if1 (turned-claims t) (turned-at t) turned.Post turned-Inv-loop turned-μ-loop
 turned-mul-if1 t c = search needs
@@ -962,27 +962,27 @@ turned-returns : (t : ℕ) → turned-lts.Need-returns (turned-claims t) (turned
 turned-returns t c =
     let z = c .before .before in
     let ps = now (z .args .primes) in
-    let ws = now (z .args .words) in
+    let rows = now (z .args .rows) in
     let rc = now (z .args .reach) in
     let i = z .args .i in
     let x = z .args .x in
-    turned-fixed i (z .args .b) ps ws x (conjugate-none i ps ws x i (omega arith) (moved-reach ws i i 0 x (omega arith) (omega arith) (subst (Reach ws i) (c .if1 .taken) (z .pre .1 .1 .at i (omega arith)))) (z .pre .1 .2))
+    turned-fixed i (z .args .b) ps rows x (conjugate-none i ps rows x i (omega arith) (moved-reach rows i i 0 x (omega arith) (omega arith) (subst (Reach rows i) (c .if1 .taken) (z .pre .1 .1 .at i (omega arith)))) (z .pre .1 .2))
 
 turned-loop-holds : (t : ℕ) → turned-lts.Need-loop-holds (turned-claims t) (turned-at t) turned.Post turned-Inv-loop turned-μ-loop
 turned-loop-holds t c =
     let z = c .before .before in
     let ps = now (z .args .primes) in
-    let ws = now (z .args .words) in
+    let rows = now (z .args .rows) in
     let rc = now (z .args .reach) in
     let i = z .args .i in
     let x = z .args .x in
-    turning-start i (z .args .b) ps ws x (z .pre .1 .2)
+    turning-start i (z .args .b) ps rows x (z .pre .1 .2)
 
 turned-conjugate-requires : (t : ℕ) → turned-lts.Need-conjugate-requires (turned-claims t) (turned-at t) turned.Post turned-Inv-loop turned-μ-loop
 turned-conjugate-requires t c κs =
     let z = c .before .before .before .before in
     let ps = now (z .args .primes) in
-    let ws = now (z .args .words) in
+    let rows = now (z .args .rows) in
     let rc = now (z .args .reach) in
     let i = z .args .i in
     let x = z .args .x in
@@ -992,7 +992,7 @@ turned-add-n : (t : ℕ) → turned-lts.Need-add-n (turned-claims t) (turned-at 
 turned-add-n t c =
     let z = c .before .before .before .before .before in
     let ps = now (z .args .primes) in
-    let ws = now (z .args .words) in
+    let rows = now (z .args .rows) in
     let rc = now (z .args .reach) in
     let i = z .args .i in
     let x = z .args .x in
@@ -1005,7 +1005,7 @@ turned-remaining-requires : (t : ℕ) → turned-lts.Need-remaining-requires (tu
 turned-remaining-requires t c κs =
     let z = c .before .before .before .before .before in
     let ps = now (z .args .primes) in
-    let ws = now (z .args .words) in
+    let rows = now (z .args .rows) in
     let rc = now (z .args .reach) in
     let i = z .args .i in
     let x = z .args .x in
@@ -1018,24 +1018,24 @@ turned-loop-again : (t : ℕ) → turned-lts.Need-loop-again (turned-claims t) (
 turned-loop-again t c =
     let z = c .before .before .before .before .before .before in
     let ps = now (z .args .primes) in
-    let ws = now (z .args .words) in
+    let rows = now (z .args .rows) in
     let rc = now (z .args .reach) in
     let i = z .args .i in
     let x = z .args .x in
     let l = c .before .before .before .loop in
-    turning-more i (z .args .b) ps ws x (l .c) (c .before .conjugate .result) (l .n) (l .left) (c .remaining .result) (search needs) (l .inv) (c .before .conjugate .ensures) (c .remaining .ensures)
+    turning-more i (z .args .b) ps rows x (l .c) (c .before .conjugate .result) (l .n) (l .left) (c .remaining .result) (search needs) (l .inv) (c .before .conjugate .ensures) (c .remaining .ensures)
 
 turned-returns-2 : (t : ℕ) → turned-lts.Need-returns-2 (turned-claims t) (turned-at t) turned.Post turned-Inv-loop turned-μ-loop
 turned-returns-2 t c =
     let z = c .before .before .before .before in
     let ps = now (z .args .primes) in
-    let ws = now (z .args .words) in
+    let rows = now (z .args .rows) in
     let rc = now (z .args .reach) in
     let i = z .args .i in
     let x = z .args .x in
     let l = c .before .loop in
     let over : l .left ≡ 0 = omega arith in
-    turned-done i (z .args .b) ps ws x (l .c) (l .n) (l .left) over (l .inv)
+    turned-done i (z .args .b) ps rows x (l .c) (l .n) (l .left) over (l .inv)
 
 pub +carry+conjugate+image+multiply+power+product+turn+turned-spec : {M : Type 1} → statement M
 +carry+conjugate+image+multiply+power+product+turn+turned-spec =

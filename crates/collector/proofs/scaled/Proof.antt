@@ -9,8 +9,8 @@ returns : tie.Need-returns
 returns c =
     let z = c .before in
     let ps = now (z .args .primes) in
-    let ws = now (z .args .words) in
-    scaled-zero (z .args .i) ps ws (z .args .x) (z .args .v) (z .args .e) (c .if1 .taken) (z .pre .3)
+    let rows = now (z .args .rows) in
+    scaled-zero (z .args .i) ps rows (z .args .x) (z .args .v) (z .args .e) (c .if1 .taken) (z .pre .3)
 
 power-requires : tie.Need-power-requires
 power-requires c κs = search needs
@@ -22,8 +22,8 @@ returns-2 : tie.Need-returns-2
 returns-2 c =
     let z = c .before .before .before in
     let ps = now (z .args .primes) in
-    let ws = now (z .args .words) in
-    scaled-more (z .args .i) ps ws (z .args .x) (c .before .power .result) (z .args .v) (c .product .result) (z .args .e) (c .before .power .ensures) (c .product .ensures)
+    let rows = now (z .args .rows) in
+    scaled-more (z .args .i) ps rows (z .args .x) (c .before .power .result) (z .args .v) (c .product .result) (z .args .e) (c .before .power .ensures) (c .product .ensures)
 
 pub scaled-spec : {M : Type 1} → statement M
 scaled-spec = tie.close (tie.spec returns power-requires product-requires returns-2)

@@ -17,10 +17,10 @@ use Rattle.consistency.proofs.consistent.Statement.{statement}
 use Rattle.consistency.proofs.consistent.Tie as tie
 
 abbrev Inv-loop : tie.InvT-loop
-Inv-loop primes words n reach rise i₀ i = (i ≤ n) × TestAnswer n primes words (λ P. allBelow i (levelTest P)) true
+Inv-loop primes rows n reach rise i₀ i = (i ≤ n) × TestAnswer n primes rows (λ P. allBelow i (levelTest P)) true
 
 abbrev μ-loop : tie.MeasureT-loop
-μ-loop primes words n reach rise i₀ i = n - i
+μ-loop primes rows n reach rise i₀ i = n - i
 
 reaches-requires : tie.Need-reaches-requires Inv-loop μ-loop
 reaches-requires c κs = c .pre .few
@@ -35,23 +35,23 @@ level-passes-requires : tie.Need-level-passes-requires Inv-loop μ-loop
 level-passes-requires c κs =
     let z = c .before .before .before .before .before .before .before in
     let ps = now (z .args .primes) in
-    let ws = now (z .args .words) in
+    let rows = now (z .args .rows) in
     let n = z .args .n in
     let i = c .before .before .before .loop .i in (
-      ready-below (suc i) n ps ws (search needs) (z .pre),
-      quiet-below (suc i) n ws (c .before .before .before .before .before .before .reaches .result) (search needs) (c .before .before .before .before .before .before .reaches .ensures),
-      central-below (suc i) n ws (c .before .before .before .before .rises .result) (search needs) (c .before .before .before .before .rises .ensures),
+      ready-below (suc i) n ps rows (search needs) (z .pre),
+      quiet-below (suc i) n rows (c .before .before .before .before .before .before .reaches .result) (search needs) (c .before .before .before .before .before .before .reaches .ensures),
+      central-below (suc i) n rows (c .before .before .before .before .rises .result) (search needs) (c .before .before .before .before .rises .ensures),
     )
 
 returns : tie.Need-returns Inv-loop μ-loop
 returns c =
     let z = c .before .before .before .before .before .before .before .before .before in
     let ps = now (z .args .primes) in
-    let ws = now (z .args .words) in
+    let rows = now (z .args .rows) in
     let n = z .args .n in
     let l = c .before .before .before .before .before .loop in
     let t = c .before .level-passes in
-    decides n ps ws _ (answer-fails n ps ws (l .i) (t .result) (search needs) (l .inv .1) (t .ensures) (not-true _ (c .if1 .taken)))
+    decides n ps rows _ (answer-fails n ps rows (l .i) (t .result) (search needs) (l .inv .1) (t .ensures) (not-true _ (c .if1 .taken)))
 
 add-i : tie.Need-add-i Inv-loop μ-loop
 add-i c = search needs
@@ -63,21 +63,21 @@ loop-again : tie.Need-loop-again Inv-loop μ-loop
 loop-again c =
     let z = c .before .before .before .before .before .before .before .before .before in
     let ps = now (z .args .primes) in
-    let ws = now (z .args .words) in
+    let rows = now (z .args .rows) in
     let n = z .args .n in
     let l = c .before .before .before .before .before .loop in
     let t = c .before .level-passes in
-    (search needs, answer-more n ps ws (l .i) (t .result) (search needs) (l .inv .1) (t .ensures) (not-false _ (c .if1 .left)))
+    (search needs, answer-more n ps rows (l .i) (t .result) (search needs) (l .inv .1) (t .ensures) (not-false _ (c .if1 .left)))
 
 returns-2 : tie.Need-returns-2 Inv-loop μ-loop
 returns-2 c =
     let z = c .before .before .before .before .before in
     let ps = now (z .args .primes) in
-    let ws = now (z .args .words) in
+    let rows = now (z .args .rows) in
     let n = z .args .n in
     let l = c .before .loop in
     let e : l .i ≡ n = omega arith in
-    decides n ps ws true (subst (λ i. TestAnswer n ps ws (λ P. allBelow i (levelTest P)) true) e (l .inv .1))
+    decides n ps rows true (subst (λ i. TestAnswer n ps rows (λ P. allBelow i (levelTest P)) true) e (l .inv .1))
 
 pub consistent-spec : {M : Type 1} → statement M
 consistent-spec =

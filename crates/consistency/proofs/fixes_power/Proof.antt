@@ -14,9 +14,9 @@ conjugate-requires : tie.Need-conjugate-requires
 conjugate-requires c κs =
     let z = c .before in
     let ps = now (z .args .primes) in
-    let ws = now (z .args .words) in
+    let rows = now (z .args .rows) in
     let i = z .args .i in
-    (z .pre .0, z .pre .1, omega arith, word-small (suc i) ps ws i i i (c .word .result) (z .pre .0) (omega arith) (omega arith) (omega arith) (c .word .ensures))
+    (z .pre .0, z .pre .1, omega arith, word-small (suc i) ps rows i i i (c .word .result) (z .pre .0) (omega arith) (omega arith) (omega arith) (c .word .ensures))
 
 same-requires : tie.Need-same-requires
 same-requires c κs = search needs
@@ -25,8 +25,8 @@ returns : tie.Need-returns
 returns c =
     let z = c .before .before .before in
     let ps = now (z .args .primes) in
-    let ws = now (z .args .words) in
-    power-fixed (z .args .i) ps ws (c .before .before .word .result) (c .before .conjugate .result) (c .same .result) (c .before .before .word .ensures) (c .before .conjugate .ensures) (c .same .ensures)
+    let rows = now (z .args .rows) in
+    power-fixed (z .args .i) ps rows (c .before .before .word .result) (c .before .conjugate .result) (c .same .result) (c .before .before .word .ensures) (c .before .conjugate .ensures) (c .same .ensures)
 
 pub fixes-power-spec : {M : Type 1} → statement M
 fixes-power-spec = tie.close (tie.spec word-requires conjugate-requires same-requires returns)

@@ -13,10 +13,10 @@ use Rattle.consistency.proofs.is_inner.Statement.{statement}
 use Rattle.consistency.proofs.is_inner.Tie as tie
 
 abbrev Inv-loop : tie.InvT-loop
-Inv-loop primes words reach rise i k₀ k = (k ≤ i) × Settles i primes words (λ P. allBelow k (innerAt P i)) true
+Inv-loop primes rows reach rise i k₀ k = (k ≤ i) × Settles i primes rows (λ P. allBelow k (innerAt P i)) true
 
 abbrev μ-loop : tie.MeasureT-loop
-μ-loop primes words reach rise i k₀ k = i - k
+μ-loop primes rows reach rise i k₀ k = i - k
 
 loop-holds : tie.Need-loop-holds Inv-loop μ-loop
 loop-holds c = (search needs, settles-none _ _ _ _)
@@ -28,9 +28,9 @@ returns : tie.Need-returns Inv-loop μ-loop
 returns c =
     let z = c .before .before .before .before in
     let ps = now (z .args .primes) in
-    let ws = now (z .args .words) in
+    let rows = now (z .args .rows) in
     let l = c .before .before .before .loop in
-    inner-all (z .args .i) ps ws false (settles-fails (z .args .i) ps ws (λ P. innerAt P (z .args .i)) (l .k) (z .args .i) (c .before .is-inner-on .result) (search needs) (not-true _ (c .if1 .taken)) (c .before .is-inner-on .ensures))
+    inner-all (z .args .i) ps rows false (settles-fails (z .args .i) ps rows (λ P. innerAt P (z .args .i)) (l .k) (z .args .i) (c .before .is-inner-on .result) (search needs) (not-true _ (c .if1 .taken)) (c .before .is-inner-on .ensures))
 
 add-k : tie.Need-add-k Inv-loop μ-loop
 add-k c = search needs
@@ -42,18 +42,18 @@ loop-again : tie.Need-loop-again Inv-loop μ-loop
 loop-again c =
     let z = c .before .before .before .before in
     let ps = now (z .args .primes) in
-    let ws = now (z .args .words) in
+    let rows = now (z .args .rows) in
     let l = c .before .before .before .loop in
-    (search needs, settles-more (z .args .i) ps ws (λ P. innerAt P (z .args .i)) (l .k) (c .before .is-inner-on .result) (not-false _ (c .if1 .left)) (l .inv .1) (c .before .is-inner-on .ensures))
+    (search needs, settles-more (z .args .i) ps rows (λ P. innerAt P (z .args .i)) (l .k) (c .before .is-inner-on .result) (not-false _ (c .if1 .left)) (l .inv .1) (c .before .is-inner-on .ensures))
 
 returns-2 : tie.Need-returns-2 Inv-loop μ-loop
 returns-2 c =
     let z = c .before .before in
     let ps = now (z .args .primes) in
-    let ws = now (z .args .words) in
+    let rows = now (z .args .rows) in
     let l = c .before .loop in
     let e : l .k ≡ z .args .i = omega arith in
-    inner-all (z .args .i) ps ws true (subst (λ k. Settles (z .args .i) ps ws (λ P. allBelow k (innerAt P (z .args .i))) true) e (l .inv .1))
+    inner-all (z .args .i) ps rows true (subst (λ k. Settles (z .args .i) ps rows (λ P. allBelow k (innerAt P (z .args .i))) true) e (l .inv .1))
 
 pub is-inner-spec : {M : Type 1} → statement M
 is-inner-spec =

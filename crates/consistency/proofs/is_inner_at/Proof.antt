@@ -25,26 +25,26 @@ turned-requires : tie.Need-turned-requires
 turned-requires c κs =
     let z = c .before .before .before in
     let ps = now (z .args .primes) in
-    let ws = now (z .args .words) in
+    let rows = now (z .args .rows) in
     let i = z .args .i in
-    (z .pre .0, z .pre .1, small-generator (z .args .k) i ps ws (c .before .generator .result) (ready-below i (suc i) ps ws (omega arith) (z .pre .0)) (c .before .generator .ensures))
+    (z .pre .0, z .pre .1, small-generator (z .args .k) i ps rows (c .before .generator .result) (ready-below i (suc i) ps rows (omega arith) (z .pre .0)) (c .before .generator .ensures))
 
 product-requires : tie.Need-product-requires
 product-requires c κs =
     let z = c .before .before .before .before in
     let ps = now (z .args .primes) in
-    let ws = now (z .args .words) in
+    let rows = now (z .args .rows) in
     let i = z .args .i in
-    (ready-below i (suc i) ps ws (omega arith) (z .pre .0), quiet-below i (suc i) ws (now (z .args .reach)) (omega arith) (z .pre .1), word-small (suc i) ps ws i i i (c .before .before .before .word .result) (z .pre .0) (omega arith) (omega arith) (omega arith) (c .before .before .before .word .ensures), c .turned .ensures .small)
+    (ready-below i (suc i) ps rows (omega arith) (z .pre .0), quiet-below i (suc i) rows (now (z .args .reach)) (omega arith) (z .pre .1), word-small (suc i) ps rows i i i (c .before .before .before .word .result) (z .pre .0) (omega arith) (omega arith) (omega arith) (c .before .before .before .word .ensures), c .turned .ensures .small)
 
 product-requires-2 : tie.Need-product-requires-2
 product-requires-2 c κs =
     let z = c .before .before .before .before .before in
     let ps = now (z .args .primes) in
-    let ws = now (z .args .words) in
+    let rows = now (z .args .rows) in
     let i = z .args .i in
-    let r = ready-below i (suc i) ps ws (omega arith) (z .pre .0) in
-    (r, quiet-below i (suc i) ws (now (z .args .reach)) (omega arith) (z .pre .1), small-generator (z .args .k) i ps ws (c .before .before .before .generator .result) r (c .before .before .before .generator .ensures), word-small (suc i) ps ws i i i (c .before .before .before .before .word .result) (z .pre .0) (omega arith) (omega arith) (omega arith) (c .before .before .before .before .word .ensures))
+    let r = ready-below i (suc i) ps rows (omega arith) (z .pre .0) in
+    (r, quiet-below i (suc i) rows (now (z .args .reach)) (omega arith) (z .pre .1), small-generator (z .args .k) i ps rows (c .before .before .before .generator .result) r (c .before .before .before .generator .ensures), word-small (suc i) ps rows i i i (c .before .before .before .before .word .result) (z .pre .0) (omega arith) (omega arith) (omega arith) (c .before .before .before .before .word .ensures))
 
 same-requires : tie.Need-same-requires
 same-requires c κs = search needs
@@ -53,8 +53,8 @@ returns : tie.Need-returns
 returns c =
     let z = c .before .before .before .before .before .before .before in
     let ps = now (z .args .primes) in
-    let ws = now (z .args .words) in
-    inner-at (z .args .i) ps ws (z .args .k) (c .before .before .before .before .before .before .word .result) (c .before .before .before .before .before .generator .result) (c .before .before .before .turned .result) (c .before .before .product .result) (c .before .product2 .result) (c .same .result)
+    let rows = now (z .args .rows) in
+    inner-at (z .args .i) ps rows (z .args .k) (c .before .before .before .before .before .before .word .result) (c .before .before .before .before .before .generator .result) (c .before .before .before .turned .result) (c .before .before .product .result) (c .before .product2 .result) (c .same .result)
     (c .before .before .before .before .before .before .word .ensures) (c .before .before .before .before .before .generator .ensures) (c .before .before .before .turned .ensures) (c .before .before .product .ensures) (c .before .product2 .ensures) (c .same .ensures)
 
 pub is-inner-at-spec : {M : Type 1} → statement M

@@ -16,9 +16,9 @@ returns : tie.Need-returns
 returns c =
     let z = c .before .before in
     let ps = now (z .args .primes) in
-    let ws = now (z .args .words) in
+    let rows = now (z .args .rows) in
     let i = z .args .i in
-    inner-central i ps ws (z .args .k) (z .pre .3) (z .pre .2 .at (z .args .k) (omega (arith, z .pre .3)) .at i (c .if1 .taken))
+    inner-central i ps rows (z .args .k) (z .pre .3) (z .pre .2 .at (z .args .k) (omega (arith, z .pre .3)) .at i (c .if1 .taken))
 
 is-inner-at-requires : tie.Need-is-inner-at-requires
 is-inner-at-requires c κs = search needs

@@ -25,10 +25,10 @@ product-requires : tie.Need-product-requires
 product-requires c κs =
     let z = c .before .before in
     let ps = now (z .args .primes) in
-    let ws = now (z .args .words) in
+    let rows = now (z .args .rows) in
     let i = z .args .i in
-    let r = ready-below i (suc i) ps ws (omega arith) (z .pre .0) in
-    (r, quiet-below i (suc i) ws (now (z .args .reach)) (omega arith) (z .pre .1), z .pre .2 .small (z .args .k) (omega (arith, z .pre .3, z .pre .4)), z .pre .2 .small (z .args .j) (z .pre .4))
+    let r = ready-below i (suc i) ps rows (omega arith) (z .pre .0) in
+    (r, quiet-below i (suc i) rows (now (z .args .reach)) (omega arith) (z .pre .1), z .pre .2 .small (z .args .k) (omega (arith, z .pre .3, z .pre .4)), z .pre .2 .small (z .args .j) (z .pre .4))
 
 word-requires : tie.Need-word-requires
 word-requires c κs = search needs
@@ -43,19 +43,19 @@ product-requires-2 : tie.Need-product-requires-2
 product-requires-2 c κs =
     let z = c .before .before .before .before .before in
     let ps = now (z .args .primes) in
-    let ws = now (z .args .words) in
+    let rows = now (z .args .rows) in
     let i = z .args .i in
-    let r = ready-below i (suc i) ps ws (omega arith) (z .pre .0) in
-    (r, quiet-below i (suc i) ws (now (z .args .reach)) (omega arith) (z .pre .1), z .pre .2 .small (z .args .k) (omega (arith, z .pre .3, z .pre .4)), c .value .ensures .small)
+    let r = ready-below i (suc i) ps rows (omega arith) (z .pre .0) in
+    (r, quiet-below i (suc i) rows (now (z .args .reach)) (omega arith) (z .pre .1), z .pre .2 .small (z .args .k) (omega (arith, z .pre .3, z .pre .4)), c .value .ensures .small)
 
 product-requires-3 : tie.Need-product-requires-3
 product-requires-3 c κs =
     let z = c .before .before .before .before .before .before in
     let ps = now (z .args .primes) in
-    let ws = now (z .args .words) in
+    let rows = now (z .args .rows) in
     let i = z .args .i in
-    let r = ready-below i (suc i) ps ws (omega arith) (z .pre .0) in
-    (r, quiet-below i (suc i) ws (now (z .args .reach)) (omega arith) (z .pre .1), z .pre .2 .small (z .args .j) (z .pre .4), c .product2 .ensures .small)
+    let r = ready-below i (suc i) ps rows (omega arith) (z .pre .0) in
+    (r, quiet-below i (suc i) rows (now (z .args .reach)) (omega arith) (z .pre .1), z .pre .2 .small (z .args .j) (z .pre .4), c .product2 .ensures .small)
 
 same-requires : tie.Need-same-requires
 same-requires c κs = search needs
@@ -64,8 +64,8 @@ returns : tie.Need-returns
 returns c =
     let z = c .before .before .before .before .before .before .before .before in
     let ps = now (z .args .primes) in
-    let ws = now (z .args .words) in
-    commutator-kept (z .args .i) ps ws (now (z .args .h)) (z .pre .2) (z .args .j) (z .args .k)
+    let rows = now (z .args .rows) in
+    commutator-kept (z .args .i) ps rows (now (z .args .h)) (z .pre .2) (z .args .j) (z .args .k)
     (c .before .before .before .before .before .product .result) (c .before .before .before .before .word .result) (c .before .before .before .value .result) (c .before .before .product2 .result) (c .before .product3 .result) (c .same .result) (z .pre .3) (z .pre .4)
     (c .before .before .before .before .before .product .ensures) (c .before .before .before .before .word .ensures) (c .before .before .before .value .ensures) (c .before .before .product2 .ensures) (c .before .product3 .ensures) (c .same .ensures)
 

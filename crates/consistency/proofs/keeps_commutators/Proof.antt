@@ -13,10 +13,10 @@ use Rattle.consistency.proofs.keeps_commutators.Statement.{statement}
 use Rattle.consistency.proofs.keeps_commutators.Tie as tie
 
 abbrev Inv-loop : tie.InvT-loop
-Inv-loop primes words reach rise h i j₀ j = (j ≤ i) × Settles i primes words (λ P. allBelow j (λ j. allBelow j (commutatorKept P i j))) true
+Inv-loop primes rows reach rise h i j₀ j = (j ≤ i) × Settles i primes rows (λ P. allBelow j (λ j. allBelow j (commutatorKept P i j))) true
 
 abbrev μ-loop : tie.MeasureT-loop
-μ-loop primes words reach rise h i j₀ j = i - j
+μ-loop primes rows reach rise h i j₀ j = i - j
 
 loop-holds : tie.Need-loop-holds Inv-loop μ-loop
 loop-holds c = (search needs, settles-none _ _ _ _)
@@ -28,9 +28,9 @@ returns : tie.Need-returns Inv-loop μ-loop
 returns c =
     let z = c .before .before .before .before in
     let ps = now (z .args .primes) in
-    let ws = now (z .args .words) in
+    let rows = now (z .args .rows) in
     let l = c .before .before .before .loop in
-    commutators-all (z .args .i) ps ws false (settles-fails (z .args .i) ps ws (λ P j. allBelow j (commutatorKept P (z .args .i) j)) (l .j) (z .args .i) (c .before .keeps-commutators-of .result) (search needs) (not-true _ (c .if1 .taken)) (c .before .keeps-commutators-of .ensures))
+    commutators-all (z .args .i) ps rows false (settles-fails (z .args .i) ps rows (λ P j. allBelow j (commutatorKept P (z .args .i) j)) (l .j) (z .args .i) (c .before .keeps-commutators-of .result) (search needs) (not-true _ (c .if1 .taken)) (c .before .keeps-commutators-of .ensures))
 
 add-j : tie.Need-add-j Inv-loop μ-loop
 add-j c = search needs
@@ -42,18 +42,18 @@ loop-again : tie.Need-loop-again Inv-loop μ-loop
 loop-again c =
     let z = c .before .before .before .before in
     let ps = now (z .args .primes) in
-    let ws = now (z .args .words) in
+    let rows = now (z .args .rows) in
     let l = c .before .before .before .loop in
-    (search needs, settles-more (z .args .i) ps ws (λ P j. allBelow j (commutatorKept P (z .args .i) j)) (l .j) (c .before .keeps-commutators-of .result) (not-false _ (c .if1 .left)) (l .inv .1) (c .before .keeps-commutators-of .ensures))
+    (search needs, settles-more (z .args .i) ps rows (λ P j. allBelow j (commutatorKept P (z .args .i) j)) (l .j) (c .before .keeps-commutators-of .result) (not-false _ (c .if1 .left)) (l .inv .1) (c .before .keeps-commutators-of .ensures))
 
 returns-2 : tie.Need-returns-2 Inv-loop μ-loop
 returns-2 c =
     let z = c .before .before in
     let ps = now (z .args .primes) in
-    let ws = now (z .args .words) in
+    let rows = now (z .args .rows) in
     let l = c .before .loop in
     let e : l .j ≡ z .args .i = omega arith in
-    commutators-all (z .args .i) ps ws true (subst (λ j. Settles (z .args .i) ps ws (λ P. allBelow j (λ j. allBelow j (commutatorKept P (z .args .i) j))) true) e (l .inv .1))
+    commutators-all (z .args .i) ps rows true (subst (λ j. Settles (z .args .i) ps rows (λ P. allBelow j (λ j. allBelow j (commutatorKept P (z .args .i) j))) true) e (l .inv .1))
 
 pub keeps-commutators-spec : {M : Type 1} → statement M
 keeps-commutators-spec =

@@ -16,9 +16,9 @@ returns : tie.Need-returns
 returns c =
     let z = c .before .before in
     let ps = now (z .args .primes) in
-    let ws = now (z .args .words) in
+    let rows = now (z .args .rows) in
     let i = z .args .i in
-    commutator-low i ps ws (z .args .k) (omega (arith, z .pre .1 .1, z .pre .1 .2)) (z .pre .0 .2 .at (z .args .k) (omega (arith, z .pre .1 .1, z .pre .1 .2)) .at i (c .if1 .taken)) (z .args .j) (z .pre .1 .1) (z .pre .1 .2)
+    commutator-low i ps rows (z .args .k) (omega (arith, z .pre .1 .1, z .pre .1 .2)) (z .pre .0 .2 .at (z .args .k) (omega (arith, z .pre .1 .1, z .pre .1 .2)) .at i (c .if1 .taken)) (z .args .j) (z .pre .1 .1) (z .pre .1 .2)
 
 mul-if2 : tie.Need-mul-if2
 mul-if2 c = search needs
@@ -30,9 +30,9 @@ returns-2 : tie.Need-returns-2
 returns-2 c =
     let z = c .before .before .before .before in
     let ps = now (z .args .primes) in
-    let ws = now (z .args .words) in
+    let rows = now (z .args .rows) in
     let i = z .args .i in
-    commutator-high i ps ws (z .args .j) (z .pre .1 .2) (z .pre .0 .2 .at (z .args .j) (omega (arith, z .pre .1 .2)) .at i (c .if2 .taken)) (z .args .k) (z .pre .1 .1)
+    commutator-high i ps rows (z .args .j) (z .pre .1 .2) (z .pre .0 .2 .at (z .args .j) (omega (arith, z .pre .1 .2)) .at i (c .if2 .taken)) (z .args .k) (z .pre .1 .1)
 
 keeps-commutator-requires : tie.Need-keeps-commutator-requires
 keeps-commutator-requires c κs = search needs

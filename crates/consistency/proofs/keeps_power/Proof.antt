@@ -25,9 +25,9 @@ power-requires : tie.Need-power-requires
 power-requires c κs =
     let z = c .before .before in
     let ps = now (z .args .primes) in
-    let ws = now (z .args .words) in
+    let rows = now (z .args .rows) in
     let i = z .args .i in
-    (ready-below i (suc i) ps ws (omega arith) (z .pre .0), quiet-below i (suc i) ws (now (z .args .reach)) (omega arith) (z .pre .1), z .pre .2 .small (z .args .k) (z .pre .3))
+    (ready-below i (suc i) ps rows (omega arith) (z .pre .0), quiet-below i (suc i) rows (now (z .args .reach)) (omega arith) (z .pre .1), z .pre .2 .small (z .args .k) (z .pre .3))
 
 word-requires : tie.Need-word-requires
 word-requires c κs = search needs
@@ -42,8 +42,8 @@ returns : tie.Need-returns
 returns c =
     let z = c .before .before .before .before .before .before in
     let ps = now (z .args .primes) in
-    let ws = now (z .args .words) in
-    power-kept (z .args .i) ps ws (now (z .args .h)) (z .pre .2) (z .args .k) (c .before .before .before .power .result) (c .before .before .word .result) (c .before .value .result) (c .same .result) (z .pre .3)
+    let rows = now (z .args .rows) in
+    power-kept (z .args .i) ps rows (now (z .args .h)) (z .pre .2) (z .args .k) (c .before .before .before .power .result) (c .before .before .word .result) (c .before .value .result) (c .same .result) (z .pre .3)
     (c .before .before .before .power .ensures) (c .before .before .word .ensures) (c .before .value .ensures) (c .same .ensures)
 
 pub keeps-power-spec : {M : Type 1} → statement M

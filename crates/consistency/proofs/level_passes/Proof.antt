@@ -16,8 +16,8 @@ returns : tie.Need-returns
 returns c =
     let z = c .before .before .before .before in
     let ps = now (z .args .primes) in
-    let ws = now (z .args .words) in
-    level-first (z .args .i) ps ws (c .before .keeps-powers .result) (not-true _ (c .if1 .taken)) (c .before .keeps-powers .ensures)
+    let rows = now (z .args .rows) in
+    level-first (z .args .i) ps rows (c .before .keeps-powers .result) (not-true _ (c .if1 .taken)) (c .before .keeps-powers .ensures)
 
 keeps-commutators-requires : tie.Need-keeps-commutators-requires
 keeps-commutators-requires c κs = search needs
@@ -26,8 +26,8 @@ returns-2 : tie.Need-returns-2
 returns-2 c =
     let z = c .before .before .before .before .before .before .before in
     let ps = now (z .args .primes) in
-    let ws = now (z .args .words) in
-    level-second (z .args .i) ps ws (c .before .before .before .before .keeps-powers .result) (c .before .keeps-commutators .result) (not-false _ (c .before .before .before .if1 .left)) (c .before .before .before .before .keeps-powers .ensures) (c .before .keeps-commutators .ensures) (not-true _ (c .if2 .taken))
+    let rows = now (z .args .rows) in
+    level-second (z .args .i) ps rows (c .before .before .before .before .keeps-powers .result) (c .before .keeps-commutators .result) (not-false _ (c .before .before .before .if1 .left)) (c .before .before .before .before .keeps-powers .ensures) (c .before .keeps-commutators .ensures) (not-true _ (c .if2 .taken))
 
 fixes-power-requires : tie.Need-fixes-power-requires
 fixes-power-requires c κs = search needs
@@ -36,8 +36,8 @@ returns-3 : tie.Need-returns-3
 returns-3 c =
     let z = c .before .before .before .before .before .before .before .before .before in
     let ps = now (z .args .primes) in
-    let ws = now (z .args .words) in
-    level-third (z .args .i) ps ws (c .before .before .before .before .before .before .keeps-powers .result) (c .before .before .before .keeps-commutators .result) (not-false _ (c .before .before .before .before .before .if1 .left)) (c .before .before .before .before .before .before .keeps-powers .ensures) (c .before .before .before .keeps-commutators .ensures)
+    let rows = now (z .args .rows) in
+    level-third (z .args .i) ps rows (c .before .before .before .before .before .before .keeps-powers .result) (c .before .before .before .keeps-commutators .result) (not-false _ (c .before .before .before .before .before .if1 .left)) (c .before .before .before .before .before .before .keeps-powers .ensures) (c .before .before .before .keeps-commutators .ensures)
     (c .before .fixes-power .result) (not-false _ (c .before .before .if2 .left)) (c .before .fixes-power .ensures) (not-true _ (c .if3 .taken))
 
 is-inner-requires : tie.Need-is-inner-requires
@@ -47,8 +47,8 @@ returns-4 : tie.Need-returns-4
 returns-4 c =
     let z = c .before .before .before .before .before .before .before .before .before .before in
     let ps = now (z .args .primes) in
-    let ws = now (z .args .words) in
-    level-last (z .args .i) ps ws (c .before .before .before .before .before .before .before .keeps-powers .result) (c .before .before .before .before .keeps-commutators .result) (not-false _ (c .before .before .before .before .before .before .if1 .left)) (c .before .before .before .before .before .before .before .keeps-powers .ensures) (c .before .before .before .before .keeps-commutators .ensures)
+    let rows = now (z .args .rows) in
+    level-last (z .args .i) ps rows (c .before .before .before .before .before .before .before .keeps-powers .result) (c .before .before .before .before .keeps-commutators .result) (not-false _ (c .before .before .before .before .before .before .if1 .left)) (c .before .before .before .before .before .before .before .keeps-powers .ensures) (c .before .before .before .before .keeps-commutators .ensures)
     (c .before .before .fixes-power .result) (not-false _ (c .before .before .before .if2 .left)) (c .before .before .fixes-power .ensures) (c .is-inner .result) (not-false _ (c .before .if3 .left)) (c .is-inner .ensures)
 
 pub level-passes-spec : {M : Type 1} → statement M

@@ -12,15 +12,15 @@ use Rattle.consistency.proofs.value.Statement.{statement}
 use Rattle.consistency.proofs.value.Tie as tie
 
 abbrev Inv-loop : tie.InvT-loop
-Inv-loop primes words reach h i k x v₀ m₀ v m = (m ≤ k) × Value i primes words m x v
+Inv-loop primes rows reach h i k x v₀ m₀ v m = (m ≤ k) × Value i primes rows m x v
 
 abbrev μ-loop : tie.MeasureT-loop
-μ-loop primes words reach h i k x v₀ m₀ v m = k - m
+μ-loop primes rows reach h i k x v₀ m₀ v m = k - m
 
 loop-holds : tie.Need-loop-holds Inv-loop μ-loop
 loop-holds c =
     let i = c .args .i in
-    (search needs, value-none i (now (c .args .primes)) (now (c .args .words)) _ (ready-below i (suc i) (now (c .args .primes)) (now (c .args .words)) (omega arith) (c .pre .0)))
+    (search needs, value-none i (now (c .args .primes)) (now (c .args .rows)) _ (ready-below i (suc i) (now (c .args .primes)) (now (c .args .rows)) (omega arith) (c .pre .0)))
 
 mul-g : tie.Need-mul-g Inv-loop μ-loop
 mul-g c = search needs
@@ -38,10 +38,10 @@ scaled-requires : tie.Need-scaled-requires Inv-loop μ-loop
 scaled-requires c κs =
     let z = c .before .before .before in
     let ps = now (z .args .primes) in
-    let ws = now (z .args .words) in
+    let rows = now (z .args .rows) in
     let i = z .args .i in
     let l = c .before .before .loop in
-    (ready-below i (suc i) ps ws (omega arith) (z .pre .0), quiet-below i (suc i) ws (now (z .args .reach)) (omega arith) (z .pre .1), z .pre .2 .small (l .m) (omega (arith, z .pre .3)), l .inv .1 .small)
+    (ready-below i (suc i) ps rows (omega arith) (z .pre .0), quiet-below i (suc i) rows (now (z .args .reach)) (omega arith) (z .pre .1), z .pre .2 .small (l .m) (omega (arith, z .pre .3)), l .inv .1 .small)
 
 add-m : tie.Need-add-m Inv-loop μ-loop
 add-m c = search needs
@@ -53,18 +53,18 @@ loop-again : tie.Need-loop-again Inv-loop μ-loop
 loop-again c =
     let z = c .before .before .before .before in
     let ps = now (z .args .primes) in
-    let ws = now (z .args .words) in
+    let rows = now (z .args .rows) in
     let l = c .before .before .before .loop in
-    (search needs, value-more (z .args .i) ps ws (now (z .args .h)) (z .args .t7) (l .v) (c .scaled .result) (l .m) (omega (arith, z .pre .3)) (z .pre .2) (l .inv .1) (c .scaled .ensures))
+    (search needs, value-more (z .args .i) ps rows (now (z .args .h)) (z .args .t7) (l .v) (c .scaled .result) (l .m) (omega (arith, z .pre .3)) (z .pre .2) (l .inv .1) (c .scaled .ensures))
 
 returns : tie.Need-returns Inv-loop μ-loop
 returns c =
     let z = c .before .before in
     let ps = now (z .args .primes) in
-    let ws = now (z .args .words) in
+    let rows = now (z .args .rows) in
     let l = c .before .loop in
     let e : l .m ≡ z .args .k = omega arith in
-    subst (λ m. Value (z .args .i) ps ws m (z .args .t7) (l .v)) e (l .inv .1)
+    subst (λ m. Value (z .args .i) ps rows m (z .args .t7) (l .v)) e (l .inv .1)
 
 pub value-spec : {M : Type 1} → statement M
 value-spec =

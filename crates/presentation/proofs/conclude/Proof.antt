@@ -1,4 +1,4 @@
--- The order, then the words.
+-- The order, then the rows.
 use mathlib.Core.Path.{refl, sym, _∙_}
 use native.Mathlib.Omega.{arith}
 use borrow.Author.Tests.{not-true, not-false}

@@ -50,9 +50,9 @@ Rows = Array Row pairCount
 abbrev stayed : Stays (f.ended .signature .params) (f.ended .kept)
 stayed = (stay-none (λ _. usize) yes, (stay-none (λ _. Row) yes, (stay-none (λ _. Rows) yes, tt)))
 
-module _ {M : Type 1} (𝓤 : URA M) (H : Heap 𝓤) (A : Atoms 𝓤) (W : Given 𝓤 H A) (mem : Memory → SProp 𝓤) (run : Routine → Fun 𝓤) (n : ℕ) (ps : List ℕ) (ws : List (List ℕ)) where
+module _ {M : Type 1} (𝓤 : URA M) (H : Heap 𝓤) (A : Atoms 𝓤) (W : Given 𝓤 H A) (mem : Memory → SProp 𝓤) (run : Routine → Fun 𝓤) (n : ℕ) (ps : List ℕ) (rows : List (List ℕ)) where
   abbrev h : ReadPresentation
-  h = record { n = n; primes = ps; words = ws }
+  h = record { n = n; primes = ps; words = rows }
 
   -- the parameters' machine values, and the struct's
   abbrev m₁ : Val
@@ -62,32 +62,32 @@ module _ {M : Type 1} (𝓤 : URA M) (H : Heap 𝓤) (A : Atoms 𝓤) (W : Given
   m₂ = arrayVal (map (vint w32) ps)
 
   abbrev m₃ : Val
-  m₃ = arrayVal (map (λ xs. arrayVal (map (vint w32) xs)) ws)
+  m₃ = arrayVal (map (λ xs. arrayVal (map (vint w32) xs)) rows)
 
   abbrev mach : Val
   mach = vstruct (vcons m₁ (vcons m₂ (vcons m₃ vnil)))
 
-  module _ (is₁ : Is usize n (m₁ ∷ [])) (is₂ : Is Row ps (m₂ ∷ [])) (is₃ : Is Rows ws (m₃ ∷ [])) where
+  module _ (is₁ : Is usize n (m₁ ∷ [])) (is₂ : Is Row ps (m₂ ∷ [])) (is₃ : Is Rows rows (m₃ ∷ [])) where
     -- what whoever returns the record owes
     made : Is T.the-row h (mach ∷ [])
-    made = ((m₁ ∷ [], (m₂ ∷ [], (m₃ ∷ [], tt))), (refl, (is₁, (subst (λ (xs : List ℕ). Is Row xs (m₂ ∷ [])) (sym (map-id ps)) is₂, (subst (λ (xs : List (List ℕ)). Is Rows xs (m₃ ∷ [])) (sym (rows-same ws)) is₃, tt)))))
+    made = ((m₁ ∷ [], (m₂ ∷ [], (m₃ ∷ [], tt))), (refl, (is₁, (subst (λ (xs : List ℕ). Is Row xs (m₂ ∷ [])) (sym (map-id ps)) is₂, (subst (λ (xs : List (List ℕ)). Is Rows xs (m₃ ∷ [])) (sym (rows-same rows)) is₃, tt)))))
 
     abbrev Post : Val → SProp 𝓤
-    Post = walkOf 𝓤 H A f.ended stayed (f.clauses 𝓤 H A mem run) .post ((tt, tt, tt, (n, (ps, (ws, tt))), (m₁ ∷ [], (m₂ ∷ [], (m₃ ∷ [], tt)))), tt)
+    Post = walkOf 𝓤 H A f.ended stayed (f.clauses 𝓤 H A mem run) .post ((tt, tt, tt, (n, (ps, (rows, tt))), (m₁ ∷ [], (m₂ ∷ [], (m₃ ∷ [], tt)))), tt)
 
-    exits : ent 𝓤 (sem 𝓤 H A (owns (usize ∷ Row ∷ Rows ∷ []) (n, (ps, (ws, tt))) (m₁ ∷ [], (m₂ ∷ [], (m₃ ∷ [], tt))))) (Post mach)
+    exits : ent 𝓤 (sem 𝓤 H A (owns (usize ∷ Row ∷ Rows ∷ []) (n, (ps, (rows, tt))) (m₁ ∷ [], (m₂ ∷ [], (m₃ ∷ [], tt))))) (Post mach)
     exits =
-        qed W (‵ (owns (usize ∷ Row ∷ Rows ∷ []) (n, (ps, (ws, tt))) (m₁ ∷ [], (m₂ ∷ [], (m₃ ∷ [], tt)))) ∷ []) ∵
-        suffices ! _ (ends-at 𝓤 H A f.ended stayed (f.clauses 𝓤 H A mem run) W ((tt, tt, tt, (n, (ps, (ws, tt))), (m₁ ∷ [], (m₂ ∷ [], (m₃ ∷ [], tt)))), tt) mach h (tt, (tt, (tt, tt))) (tt, (tt, (tt, tt)))) $ says ! (refl, refl, refl) $
+        qed W (‵ (owns (usize ∷ Row ∷ Rows ∷ []) (n, (ps, (rows, tt))) (m₁ ∷ [], (m₂ ∷ [], (m₃ ∷ [], tt)))) ∷ []) ∵
+        suffices ! _ (ends-at 𝓤 H A f.ended stayed (f.clauses 𝓤 H A mem run) W ((tt, tt, tt, (n, (ps, (rows, tt))), (m₁ ∷ [], (m₂ ∷ [], (m₃ ∷ [], tt)))), tt) mach h (tt, (tt, (tt, tt))) (tt, (tt, (tt, tt)))) $ says ! (refl, refl, refl) $
         owned ! T.the-row (Is T.the-row) (LL.makes T.the-type T′.the-plain 𝓤 H A) h _ made $ move ! (1 ∷ 0 ∷ []) $ nothing ! $ done !
 
     module _ (C : Calls 𝓤 H) (Λ : Loops 𝓤 H) where
-      walk : ent 𝓤 (onEntry 𝓤 H A f.signature tt tt (n, (ps, (ws, tt))) (m₁ ∷ [], (m₂ ∷ [], (m₃ ∷ [], tt)))) (WpFn 𝓤 H C Λ code.function (m₁ ∷ m₂ ∷ m₃ ∷ []) Post)
+      walk : ent 𝓤 (onEntry 𝓤 H A f.signature tt tt (n, (ps, (rows, tt))) (m₁ ∷ [], (m₂ ∷ [], (m₃ ∷ [], tt)))) (WpFn 𝓤 H C Λ code.function (m₁ ∷ m₂ ∷ m₃ ∷ []) Post)
       walk =
-          qed W (‵ ftrue ∷ ‵ (owns (usize ∷ Row ∷ Rows ∷ []) (n, (ps, (ws, tt))) (m₁ ∷ [], (m₂ ∷ [], (m₃ ∷ [], tt)))) ∷ []) ∵ enter ! C Λ code.function (m₁ ∷ m₂ ∷ m₃ ∷ []) _ $
+          qed W (‵ ftrue ∷ ‵ (owns (usize ∷ Row ∷ Rows ∷ []) (n, (ps, (rows, tt))) (m₁ ∷ [], (m₂ ∷ [], (m₃ ∷ [], tt)))) ∷ []) ∵ enter ! C Λ code.function (m₁ ∷ m₂ ∷ m₃ ∷ []) _ $
           alloc1 ! (λ l₀. alloc1 ! (λ l₁. alloc1 ! (λ l₂. alloc1 ! (λ l₃. alloc0 ! $ params1 ! $ pass1 ! (init ! 4 refl (uint-lawful 𝓤 H A W w64 .typed n (m₁ ∷ []) is₁ .0)) $
           pass1 ! (init ! 2 refl (array-lawful 𝓤 H A W u32 (uint-lawful 𝓤 H A W w32) maxGenerators .typed ps (m₂ ∷ []) is₂ .0)) $
-          pass1 ! (init ! 0 refl (array-lawful 𝓤 H A W Row (array-lawful 𝓤 H A W u32 (uint-lawful 𝓤 H A W w32) maxGenerators) pairCount .typed ws (m₃ ∷ []) is₃ .0)) $ pass0 ! $
+          pass1 ! (init ! 0 refl (array-lawful 𝓤 H A W Row (array-lawful 𝓤 H A W u32 (uint-lawful 𝓤 H A W w32) maxGenerators) pairCount .typed rows (m₃ ∷ []) is₃ .0)) $ pass0 ! $
           assigns ! (agg ! (and-then ! (load ! (from ! (stop !)) (look ! 4 refl)) (and-then ! (load ! (from ! (stop !)) (look ! 2 refl)) (and-then ! (load ! (from ! (stop !)) (look ! 0 refl)) (no-more !)))))
           (from ! (stop !)) (init ! 6 refl (LL.lawful T.the-type T′.the-laws 𝓤 H A W .typed h (mach ∷ []) made .0)) $
           returns ! (look ! 6 refl) $ forget ! 0 refl $ forget ! 2 refl $ forget ! 4 refl $ forget ! 6 refl $ move ! (6 ∷ 7 ∷ 4 ∷ 5 ∷ 2 ∷ 3 ∷ []) $ free1 ! $ free1 ! $ free1 ! $ free1 ! $ free0 ! $ keep ! (1 ∷ []) $ by ! exits))))

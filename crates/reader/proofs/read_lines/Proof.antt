@@ -10,10 +10,10 @@ use Rattle.reader.proofs.read_lines.Statement.{statement}
 use Rattle.reader.proofs.read_lines.Tie as tie
 
 abbrev Inv-loop : tie.InvT-loop
-Inv-loop text start n words₀ ps₀ at₀ j₀ i₀ k₀ primes₀ words ps at j i k primes = Reading text start n at j i k words ps primes
+Inv-loop text start n rows₀ ps₀ at₀ j₀ i₀ k₀ primes₀ rows ps at j i k primes = Reading text start n at j i k rows ps primes
 
 abbrev μ-loop : tie.MeasureT-loop
-μ-loop text start n words₀ ps₀ at₀ j₀ i₀ k₀ primes₀ words ps at j i k primes = length text - at
+μ-loop text start n rows₀ ps₀ at₀ j₀ i₀ k₀ primes₀ rows ps at j i k primes = length text - at
 
 loop-holds : tie.Need-loop-holds Inv-loop μ-loop
 loop-holds c =

@@ -22,7 +22,7 @@ returns : tie.Need-returns
 returns c =
     let a = c .before .before .before .before .args in
     let n = c .before .before .before .pair in
-    sym (pair-stray (a .words .now) (a .ps .now) (a .primes .now) (a .n) (a .j) (a .i) (n .result) (n .ensures .0) (sym (c .before .p-well .ensures) ∙ not-true (c .before .p-well .result) (c .if1 .taken)))
+    sym (pair-stray (a .rows .now) (a .ps .now) (a .primes .now) (a .n) (a .j) (a .i) (n .result) (n .ensures .0) (sym (c .before .p-well .ensures) ∙ not-true (c .before .p-well .result) (c .if1 .taken)))
 
 mul-row-well : tie.Need-mul-row-well
 mul-row-well c = search needs
@@ -39,7 +39,7 @@ returns-2 c =
     let a = c .before .before .before .before .before .before .args in
     let n = c .before .before .before .before .before .pair in
     let p = c .before .before .before .p-well in
-    c .row-well .ensures ∙ sym (pair-row (a .words .now) (a .ps .now) (a .primes .now) (a .n) (a .j) (a .i) (n .result) (n .ensures .0) (sym (p .ensures) ∙ not-false (p .result) (if1 .left)))
+    c .row-well .ensures ∙ sym (pair-row (a .rows .now) (a .ps .now) (a .primes .now) (a .n) (a .j) (a .i) (n .result) (n .ensures .0) (sym (p .ensures) ∙ not-false (p .result) (if1 .left)))
 
 pub pair-well-spec : {M : Type 1} → statement M
 pair-well-spec =
