@@ -1,9 +1,12 @@
--- What product and conjugation of normal forms return, for every presentation that primes and rows read.
+-- What product and conjugation of normal forms ask, and what they return for every presentation that primes and rows read.
 --
+--   Prepared m primes rows reach  what is asked of the first m generators
+--   Factors                       what a product asks
 --   Alone rows m x r              where r is true, x has no exponent below m - 1, and nor has the power word of generator m - 1
 --   Product, Image, Conjugate     a product; the conjugate of a generator; the conjugate of a form
 --   Remaining                     how many turns are left, once a period is known
 --   Power, Scaled, Turned         powers, a power times a form, and conjugates turn after turn
+--   Multiplied, Carried, Conjugated     a product, that with a power word, and conjugates, each in place of a form
 use mathlib.Core.Path.{_≡_}
 use mathlib.Core.Bool.{Bool, true}
 use mathlib.Core.List.{List, []}
@@ -13,7 +16,19 @@ use Rattle.definitions.specs.Lists.{iter}
 use Rattle.definitions.specs.Presentation.{NF, toNF, trivial, power, pairNumber}
 use Rattle.definitions.specs.Consistency.{mul, conj, forms}
 use Rattle.group.specs.Context.{Context}
-use Rattle.rows.specs.Rows.{Small, Reads, Top}
+use Rattle.rows.specs.Rows.{Small, Ranged, Reads, Top, Kept}
+use Rattle.commuting.specs.Commuting.{Quiet}
+
+-- primes and rows are in range, and reach tells from where on each generator commutes with those below it
+pub record Prepared (m : ℕ) (primes : List ℕ) (rows : List (List ℕ)) (reach : List ℕ) : Type 0 where
+  pub ranged : Ranged m primes rows
+  pub quiet : Quiet m rows reach
+
+-- the forms x and y of level i can be multiplied
+pub record Factors (i : ℕ) (primes : List ℕ) (rows : List (List ℕ)) (reach x y : List ℕ) : Type 0 where
+  pub prepared : Prepared i primes rows reach
+  pub left : Small i primes x
+  pub right : Small i primes y
 
 pub record Alone (rows : List (List ℕ)) (m : ℕ) (x : List ℕ) (r : Bool) : Type 0 where
   pub is : r ≡ true → (0 < m) × Top (m - 1) x 0 × Top (m - 1) (getD rows (pairNumber (m - 1) (m - 1)) []) 0
@@ -50,3 +65,20 @@ pub record Scaled (i : ℕ) (primes : List ℕ) (rows : List (List ℕ)) (x : Li
 pub record Turned (i b : ℕ) (primes : List ℕ) (rows : List (List ℕ)) (x r : List ℕ) : Type 0 where
   pub small : Small i primes r
   pub is : (C : Context) → Reads (C .P) (suc i) primes rows → toNF i r ≡ iter (conj (C .P) i i) b (toNF i x)
+
+-- ---- In place: the exponents above stay
+
+-- x times y, in place of x
+pub record Multiplied (i : ℕ) (primes : List ℕ) (rows : List (List ℕ)) (x y r : List ℕ) : Type 0 where
+  pub product : Product i primes rows x y r
+  pub kept : Kept i x r
+
+-- the power word of generator k times x, in place of x
+pub record Carried (k : ℕ) (primes : List ℕ) (rows : List (List ℕ)) (x r : List ℕ) : Type 0 where
+  pub product : Product k primes rows (getD rows (pairNumber k k) []) x r
+  pub kept : Kept k x r
+
+-- x after b conjugations by generator k, in place of x
+pub record Conjugated (k b : ℕ) (primes : List ℕ) (rows : List (List ℕ)) (x r : List ℕ) : Type 0 where
+  pub turned : Turned k b primes rows x r
+  pub kept : Kept k x r

@@ -9,13 +9,12 @@
 //   image, conjugate, turned     conjugates: of a generator, of a form, again and again
 //   power, scaled                a power; a power times a form
 ghost use mathlib.Core.Path.{_≡_};
-ghost use mathlib.Core.List.{[]};
 ghost use Prim.Native.Nat.{suc, _*_, _%_, _≤_, _<_};
 ghost use lib.ListN.{length, getD};
-ghost use Rattle.definitions.specs.Presentation.{maxGenerators, pairNumber};
-ghost use Rattle.rows.specs.Rows.{Small, Ranged, Kept, Single};
-ghost use Rattle.commuting.specs.Commuting.{Quiet};
-ghost use Rattle.collector.specs.Products.{Alone, Product, Image, Conjugate, Remaining, Power, Scaled, Turned};
+ghost use Rattle.definitions.specs.Presentation.{maxGenerators};
+ghost use Rattle.rows.specs.Rows.{Small, Single};
+ghost use Rattle.collector.specs.Products.{Prepared, Factors, Alone, Product, Image, Conjugate, Remaining, Power, Scaled, Turned};
+ghost use Rattle.collector.specs.Products.{Multiplied, Carried, Conjugated};
 use commuting::Reaches;
 use commuting::moved;
 use rows::GENERATORS;
@@ -50,8 +49,8 @@ fn remaining(k: usize, x: Row, c: Row, n: u32, left: u32) -> u32
 
 // The first k exponents of x after b conjugations by generator k.
 fn turn(primes: &Row, rows: &Words, reach: &Reaches, k: usize, x: &mut Row, b: u32)
-    requires { ⌜ Ranged (suc k) (now primes) (now rows) × Quiet (suc k) (now rows) (now reach) × Small k (now primes) (now x) × (length (now x) ≡ maxGenerators) ⌝ }
-    ensures { λ r. ⌜ Turned k b (now (primes .entry)) (now (rows .entry)) (now (x .entry)) (now (x .exit)) × Kept k (now (x .entry)) (now (x .exit)) ⌝ }
+    requires { ⌜ Prepared (suc k) (now primes) (now rows) (now reach) × Small k (now primes) (now x) × (length (now x) ≡ maxGenerators) ⌝ }
+    ensures { λ r. ⌜ Conjugated k b (now (primes .entry)) (now (rows .entry)) (now (x .entry)) (now (x .exit)) ⌝ }
 {
     if reach[k] == 0 {
         return;
@@ -62,8 +61,8 @@ fn turn(primes: &Row, rows: &Words, reach: &Reaches, k: usize, x: &mut Row, b: u
 
 // The power word of generator k, times the first k exponents of x.
 fn carry(primes: &Row, rows: &Words, reach: &Reaches, k: usize, x: &mut Row)
-    requires { ⌜ Ranged (suc k) (now primes) (now rows) × Quiet k (now rows) (now reach) × Small k (now primes) (now x) × (length (now x) ≡ maxGenerators) ⌝ }
-    ensures { λ r. ⌜ Product k (now (primes .entry)) (now (rows .entry)) (getD (now (rows .entry)) (pairNumber k k) []) (now (x .entry)) (now (x .exit)) × Kept k (now (x .entry)) (now (x .exit)) ⌝ }
+    requires { ⌜ Prepared (suc k) (now primes) (now rows) (now reach) × Small k (now primes) (now x) × (length (now x) ≡ maxGenerators) ⌝ }
+    ensures { λ r. ⌜ Carried k (now (primes .entry)) (now (rows .entry)) (now (x .entry)) (now (x .exit)) ⌝ }
 {
     let u = word(rows, k, k);
     if top(k, u) == 0 {
@@ -75,8 +74,8 @@ fn carry(primes: &Row, rows: &Words, reach: &Reaches, k: usize, x: &mut Row)
 
 // x times y on level i. The conjugates that this needs are of the level below the highest exponent of y.
 fn multiply(primes: &Row, rows: &Words, reach: &Reaches, i: usize, x: &mut Row, y: &Row)
-    requires { ⌜ Ranged i (now primes) (now rows) × Quiet i (now rows) (now reach) × Small i (now primes) (now x) × Small i (now primes) (now y) × (length (now x) ≡ maxGenerators) ⌝ }
-    ensures { λ r. ⌜ Product i (now (primes .entry)) (now (rows .entry)) (now (x .entry)) (now (y .entry)) (now (x .exit)) × Kept i (now (x .entry)) (now (x .exit)) ⌝ }
+    requires { ⌜ Factors i (now primes) (now rows) (now reach) (now x) (now y) × (length (now x) ≡ maxGenerators) ⌝ }
+    ensures { λ r. ⌜ Multiplied i (now (primes .entry)) (now (rows .entry)) (now (x .entry)) (now (y .entry)) (now (x .exit)) ⌝ }
 {
     let m = top(i, *y);
     if m == 0 {
@@ -98,7 +97,7 @@ fn multiply(primes: &Row, rows: &Words, reach: &Reaches, i: usize, x: &mut Row, 
 
 // The product of x and y on level i.
 pub fn product(primes: &Row, rows: &Words, reach: &Reaches, i: usize, x: Row, y: Row) -> Row
-    requires { ⌜ Ranged i (now primes) (now rows) × Quiet i (now rows) (now reach) × Small i (now primes) x × Small i (now primes) y ⌝ }
+    requires { ⌜ Factors i (now primes) (now rows) (now reach) x y ⌝ }
     ensures { λ r. ⌜ Product i (now (primes .entry)) (now (rows .entry)) x y r ⌝ }
 {
     let mut r = x;
@@ -108,7 +107,7 @@ pub fn product(primes: &Row, rows: &Words, reach: &Reaches, i: usize, x: Row, y:
 
 // The conjugate of generator l by generator j.
 fn image(primes: &Row, rows: &Words, reach: &Reaches, j: usize, l: usize) -> Row
-    requires { ⌜ Ranged (suc j) (now primes) (now rows) × Quiet (suc j) (now rows) (now reach) × (l < j) ⌝ }
+    requires { ⌜ Prepared (suc j) (now primes) (now rows) (now reach) × (l < j) ⌝ }
     ensures { λ r. ⌜ Image j l (now (primes .entry)) (now (rows .entry)) r ⌝ }
 {
     let mut h = word(rows, j, l);
@@ -126,7 +125,7 @@ fn image(primes: &Row, rows: &Words, reach: &Reaches, j: usize, l: usize) -> Row
 
 // The conjugate of x by generator j on level k, k ≤ j. It is a product on the level of the highest exponent that moves.
 pub fn conjugate(primes: &Row, rows: &Words, reach: &Reaches, k: usize, j: usize, x: Row) -> Row
-    requires { ⌜ Ranged (suc j) (now primes) (now rows) × Quiet (suc j) (now rows) (now reach) × (k ≤ j) × Small k (now primes) x ⌝ }
+    requires { ⌜ Prepared (suc j) (now primes) (now rows) (now reach) × (k ≤ j) × Small k (now primes) x ⌝ }
     ensures { λ r. ⌜ Conjugate k j (now (primes .entry)) (now (rows .entry)) x r ⌝ }
 {
     let m = moved(rows, reach, k, j, x);
@@ -169,7 +168,7 @@ fn multiple(primes: &Row, k: usize, x: Row, e: u32) -> Row
 
 // x to the power e on level i.
 pub fn power(primes: &Row, rows: &Words, reach: &Reaches, i: usize, x: Row, e: u32) -> Row
-    requires { ⌜ Ranged i (now primes) (now rows) × Quiet i (now rows) (now reach) × Small i (now primes) x ⌝ }
+    requires { ⌜ Prepared i (now primes) (now rows) (now reach) × Small i (now primes) x ⌝ }
     ensures { λ r. ⌜ Power i (now (primes .entry)) (now (rows .entry)) x r e ⌝ }
 {
     if e == 1 {
@@ -191,7 +190,7 @@ pub fn power(primes: &Row, rows: &Words, reach: &Reaches, i: usize, x: Row, e: u
 
 // x after b conjugations by generator i, on level i.
 pub fn turned(primes: &Row, rows: &Words, reach: &Reaches, i: usize, x: Row, b: u32) -> Row
-    requires { ⌜ Ranged (suc i) (now primes) (now rows) × Quiet (suc i) (now rows) (now reach) × Small i (now primes) x ⌝ }
+    requires { ⌜ Prepared (suc i) (now primes) (now rows) (now reach) × Small i (now primes) x ⌝ }
     ensures { λ r. ⌜ Turned i b (now (primes .entry)) (now (rows .entry)) x r ⌝ }
 {
     if reach[i] == 0 {
@@ -211,7 +210,7 @@ pub fn turned(primes: &Row, rows: &Words, reach: &Reaches, i: usize, x: Row, b: 
 
 // x to the power e, times v, on level i.
 pub fn scaled(primes: &Row, rows: &Words, reach: &Reaches, i: usize, x: Row, e: u32, v: Row) -> Row
-    requires { ⌜ Ranged i (now primes) (now rows) × Quiet i (now rows) (now reach) × Small i (now primes) x × Small i (now primes) v ⌝ }
+    requires { ⌜ Factors i (now primes) (now rows) (now reach) x v ⌝ }
     ensures { λ r. ⌜ Scaled i (now (primes .entry)) (now (rows .entry)) x e v r ⌝ }
 {
     if e == 0 {

@@ -2,11 +2,11 @@
 --
 --   stays-zero, stays-word        an exponent that stays
 --   reach-none, reach-more        the scan for the generators that a generator does not commute with
---   quiet-none, quiet-more, quiet-below    the table of these, one more; for fewer generators
+--   quiet-none, quiet-more, quiet-below, one more; for fewer generators
 --   moved-reach, moved-all, moved-more     the scan for the exponents that a conjugation changes
 --   keeps-empty                   an exponent 1 is kept only where the word is empty
 --   rise-none, rise-first, rise-more       the scan for the generators that a generator commutes with
---   central-none, central-more, central-below    the table of these, one more; for fewer generators
+--   central-none, central-more, central-below, one more; for fewer generators
 use mathlib.Core.Path.{_≡_, sym, _∙_, ap, subst}
 use mathlib.Core.Logic.{_≢_}
 use mathlib.Core.Bool.{true, _||_}
@@ -66,8 +66,8 @@ module _ (rows : List (List ℕ)) (reach : List ℕ) where
         (subst (Reach rows j) (sym (getD-set-same reach j r 0 l)) q);
   })
 
-pub quiet-below : (m n : ℕ) (rows : List (List ℕ)) (reach : List ℕ) → m ≤ n → Quiet n rows reach → Quiet m rows reach
-quiet-below m n rows reach l t = record { at = λ j a. t .at j (omega arith) }
+pub quiet-below : {m n : ℕ} {rows : List (List ℕ)} {reach : List ℕ} → m ≤ n → Quiet n rows reach → Quiet m rows reach
+quiet-below l t = record { at = λ j a. t .at j (omega arith) }
 
 -- ---- Generators that commute
 
@@ -103,5 +103,5 @@ module _ (rows : List (List ℕ)) (rise : List ℕ) where
         (subst (Rise rows c) (sym (getD-set-same rise c r 0 l)) q);
   })
 
-pub central-below : (m n : ℕ) (rows : List (List ℕ)) (rise : List ℕ) → m ≤ n → Central n rows rise → Central m rows rise
-central-below m n rows rise l t = record { at = λ c a. t .at c (omega arith) }
+pub central-below : {m n : ℕ} {rows : List (List ℕ)} {rise : List ℕ} → m ≤ n → Central n rows rise → Central m rows rise
+central-below l t = record { at = λ c a. t .at c (omega arith) }

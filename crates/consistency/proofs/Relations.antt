@@ -41,5 +41,5 @@ module _ (R : Relations) (formed : wellFormed R ≡ true) (primes : someNotPrime
       let e = d .is R formed primes used count reads in
       (λ t. accept R formed primes used .0 (sym e ∙ t), λ c. e ∙ accept R formed primes used .1 c)
 
-pub decides : (n : ℕ) (ps : List ℕ) (rows : List (List ℕ)) (r : Bool) → TestAnswer n ps rows (λ P. allBelow n (levelTest P)) r → DecidesTest n ps rows r
-decides n ps rows r a = record { is = λ R f p u c H. decides-relations R f p u n c ps rows H r a }
+pub decides : {n : ℕ} {ps : List ℕ} {rows : List (List ℕ)} {r : Bool} → TestAnswer n ps rows (λ P. allBelow n (levelTest P)) r → DecidesTest n ps rows r
+decides {n} {ps} {rows} {r} a = record { is = λ R f p u c H. decides-relations R f p u n c ps rows H r a }

@@ -10,8 +10,9 @@ ghost use Prim.Native.Nat.{suc, _≤_, _<_};
 ghost use Rattle.definitions.specs.Lists.{allBelow};
 ghost use Rattle.definitions.specs.Consistency.{keepsPowers, keepsCommutators, fixesPower, powerIsInner, levelTest};
 ghost use Rattle.rows.specs.Rows.{Ranged};
-ghost use Rattle.commuting.specs.Commuting.{Quiet, Central};
-ghost use Rattle.consistency.specs.Images.{Images, Value};
+ghost use Rattle.commuting.specs.Commuting.{Central};
+ghost use Rattle.collector.specs.Products.{Prepared};
+ghost use Rattle.consistency.specs.Images.{Images, Imaged, Value};
 ghost use Rattle.consistency.specs.Answers.{Settles, DecidesTest, powerKept, commutatorKept, innerAt};
 use collector::conjugate;
 use collector::power;
@@ -33,7 +34,7 @@ pub type Forms = [[u32; GENERATORS]; GENERATORS];
 
 // The images of the generators below i under conjugation by generator i.
 fn images(primes: &Row, rows: &Words, reach: &Reaches, i: usize) -> Forms
-    requires { ⌜ Ranged (suc i) (now primes) (now rows) × Quiet (suc i) (now rows) (now reach) ⌝ }
+    requires { ⌜ Prepared (suc i) (now primes) (now rows) (now reach) ⌝ }
     ensures { λ r. ⌜ Images i (now (primes .entry)) (now (rows .entry)) r i ⌝ }
 {
     let mut h = [[0u32; GENERATORS]; GENERATORS];
@@ -47,7 +48,7 @@ fn images(primes: &Row, rows: &Words, reach: &Reaches, i: usize) -> Forms
 
 // The value over the images h of the first k exponents of x, on level i.
 fn value(primes: &Row, rows: &Words, reach: &Reaches, h: &Forms, i: usize, k: usize, x: Row) -> Row
-    requires { ⌜ Ranged (suc i) (now primes) (now rows) × Quiet (suc i) (now rows) (now reach) × Images i (now primes) (now rows) (now h) i × (k ≤ i) ⌝ }
+    requires { ⌜ Imaged i (now primes) (now rows) (now reach) (now h) × (k ≤ i) ⌝ }
     ensures { λ r. ⌜ Value i (now (primes .entry)) (now (rows .entry)) k x r ⌝ }
 {
     let mut v = [0u32; GENERATORS];
@@ -62,7 +63,7 @@ fn value(primes: &Row, rows: &Words, reach: &Reaches, h: &Forms, i: usize, k: us
 
 // The images h keep the power relation of generator k.
 fn keeps_power(primes: &Row, rows: &Words, reach: &Reaches, h: &Forms, i: usize, k: usize) -> bool
-    requires { ⌜ Ranged (suc i) (now primes) (now rows) × Quiet (suc i) (now rows) (now reach) × Images i (now primes) (now rows) (now h) i × (k < i) ⌝ }
+    requires { ⌜ Imaged i (now primes) (now rows) (now reach) (now h) × (k < i) ⌝ }
     ensures { λ r. ⌜ Settles i (now (primes .entry)) (now (rows .entry)) (λ P. powerKept P i k) r ⌝ }
 {
     let g = h[k];
@@ -75,7 +76,7 @@ fn keeps_power(primes: &Row, rows: &Words, reach: &Reaches, h: &Forms, i: usize,
 
 // The images h keep the power relations of the generators below i.
 fn keeps_powers(primes: &Row, rows: &Words, reach: &Reaches, h: &Forms, i: usize) -> bool
-    requires { ⌜ Ranged (suc i) (now primes) (now rows) × Quiet (suc i) (now rows) (now reach) × Images i (now primes) (now rows) (now h) i ⌝ }
+    requires { ⌜ Imaged i (now primes) (now rows) (now reach) (now h) ⌝ }
     ensures { λ r. ⌜ Settles i (now (primes .entry)) (now (rows .entry)) (λ P. keepsPowers P i) r ⌝ }
 {
     for k in 0..i {
@@ -96,7 +97,7 @@ fn keeps_commutator(
     j: usize,
     k: usize,
 ) -> bool
-    requires { ⌜ Ranged (suc i) (now primes) (now rows) × Quiet (suc i) (now rows) (now reach) × Images i (now primes) (now rows) (now h) i × (k < j) × (j < i) ⌝ }
+    requires { ⌜ Imaged i (now primes) (now rows) (now reach) (now h) × (k < j) × (j < i) ⌝ }
     ensures { λ r. ⌜ Settles i (now (primes .entry)) (now (rows .entry)) (λ P. commutatorKept P i j k) r ⌝ }
 {
     let a = h[k];
@@ -121,8 +122,7 @@ fn keeps_pair(
     j: usize,
     k: usize,
 ) -> bool
-    requires { ⌜ Ranged (suc i) (now primes) (now rows) × Quiet (suc i) (now rows) (now reach) × Central (suc i) (now rows) (now rise) ⌝ }
-    requires { ⌜ Images i (now primes) (now rows) (now h) i × (k < j) × (j < i) ⌝ }
+    requires { ⌜ Imaged i (now primes) (now rows) (now reach) (now h) × Central (suc i) (now rows) (now rise) × (k < j) × (j < i) ⌝ }
     ensures { λ r. ⌜ Settles i (now (primes .entry)) (now (rows .entry)) (λ P. commutatorKept P i j k) r ⌝ }
 {
     if i < rise[k] {
@@ -144,7 +144,7 @@ fn keeps_commutators_of(
     i: usize,
     j: usize,
 ) -> bool
-    requires { ⌜ Ranged (suc i) (now primes) (now rows) × Quiet (suc i) (now rows) (now reach) × Central (suc i) (now rows) (now rise) × Images i (now primes) (now rows) (now h) i × (j < i) ⌝ }
+    requires { ⌜ Imaged i (now primes) (now rows) (now reach) (now h) × Central (suc i) (now rows) (now rise) × (j < i) ⌝ }
     ensures { λ r. ⌜ Settles i (now (primes .entry)) (now (rows .entry)) (λ P. allBelow j (commutatorKept P i j)) r ⌝ }
 {
     for k in 0..j {
@@ -164,7 +164,7 @@ fn keeps_commutators(
     h: &Forms,
     i: usize,
 ) -> bool
-    requires { ⌜ Ranged (suc i) (now primes) (now rows) × Quiet (suc i) (now rows) (now reach) × Central (suc i) (now rows) (now rise) × Images i (now primes) (now rows) (now h) i ⌝ }
+    requires { ⌜ Imaged i (now primes) (now rows) (now reach) (now h) × Central (suc i) (now rows) (now rise) ⌝ }
     ensures { λ r. ⌜ Settles i (now (primes .entry)) (now (rows .entry)) (λ P. keepsCommutators P i) r ⌝ }
 {
     for j in 0..i {
@@ -177,7 +177,7 @@ fn keeps_commutators(
 
 // Conjugation by generator i fixes its power word.
 fn fixes_power(primes: &Row, rows: &Words, reach: &Reaches, i: usize) -> bool
-    requires { ⌜ Ranged (suc i) (now primes) (now rows) × Quiet (suc i) (now rows) (now reach) ⌝ }
+    requires { ⌜ Prepared (suc i) (now primes) (now rows) (now reach) ⌝ }
     ensures { λ r. ⌜ Settles i (now (primes .entry)) (now (rows .entry)) (λ P. fixesPower P i) r ⌝ }
 {
     let u = word(rows, i, i);
@@ -187,7 +187,7 @@ fn fixes_power(primes: &Row, rows: &Words, reach: &Reaches, i: usize) -> bool
 
 // As many conjugations by generator i as its prime are conjugation by its power word, at generator k.
 fn is_inner_at(primes: &Row, rows: &Words, reach: &Reaches, i: usize, k: usize) -> bool
-    requires { ⌜ Ranged (suc i) (now primes) (now rows) × Quiet (suc i) (now rows) (now reach) × (k < i) ⌝ }
+    requires { ⌜ Prepared (suc i) (now primes) (now rows) (now reach) × (k < i) ⌝ }
     ensures { λ r. ⌜ Settles i (now (primes .entry)) (now (rows .entry)) (λ P. innerAt P i k) r ⌝ }
 {
     let u = word(rows, i, i);
@@ -209,7 +209,7 @@ fn is_inner_on(
     i: usize,
     k: usize,
 ) -> bool
-    requires { ⌜ Ranged (suc i) (now primes) (now rows) × Quiet (suc i) (now rows) (now reach) × Central (suc i) (now rows) (now rise) × (k < i) ⌝ }
+    requires { ⌜ Prepared (suc i) (now primes) (now rows) (now reach) × Central (suc i) (now rows) (now rise) × (k < i) ⌝ }
     ensures { λ r. ⌜ Settles i (now (primes .entry)) (now (rows .entry)) (λ P. innerAt P i k) r ⌝ }
 {
     if i < rise[k] {
@@ -220,7 +220,7 @@ fn is_inner_on(
 
 // As many conjugations by generator i as its prime are conjugation by its power word, at every generator below i.
 fn is_inner(primes: &Row, rows: &Words, reach: &Reaches, rise: &Reaches, i: usize) -> bool
-    requires { ⌜ Ranged (suc i) (now primes) (now rows) × Quiet (suc i) (now rows) (now reach) × Central (suc i) (now rows) (now rise) ⌝ }
+    requires { ⌜ Prepared (suc i) (now primes) (now rows) (now reach) × Central (suc i) (now rows) (now rise) ⌝ }
     ensures { λ r. ⌜ Settles i (now (primes .entry)) (now (rows .entry)) (λ P. powerIsInner P i) r ⌝ }
 {
     for k in 0..i {
@@ -233,7 +233,7 @@ fn is_inner(primes: &Row, rows: &Words, reach: &Reaches, rise: &Reaches, i: usiz
 
 // The known test for generator i.
 fn level_passes(primes: &Row, rows: &Words, reach: &Reaches, rise: &Reaches, i: usize) -> bool
-    requires { ⌜ Ranged (suc i) (now primes) (now rows) × Quiet (suc i) (now rows) (now reach) × Central (suc i) (now rows) (now rise) ⌝ }
+    requires { ⌜ Prepared (suc i) (now primes) (now rows) (now reach) × Central (suc i) (now rows) (now rise) ⌝ }
     ensures { λ r. ⌜ Settles i (now (primes .entry)) (now (rows .entry)) (λ P. levelTest P i) r ⌝ }
 {
     let h = images(primes, rows, reach, i);
