@@ -23,7 +23,7 @@ use Rattle.rows.proofs.Forms.{small-below, ready-below, prime-fits, small-set, 
 use Rattle.rows.proofs.Parts.{kept-all, kept-then, mixed-kept, kept-stacked, stored-kept}
 use Rattle.commuting.specs.Commuting.{KeepsFrom, Reach}
 use Rattle.commuting.proofs.Skips.{quiet-below, moved-reach}
-use Rattle.collector.specs.Products.{Prepared, Factors, Product, Image, Conjugate, Power, Turned, Multiplied, Carried, Conjugated}
+use Rattle.collector.specs.Products.{Prepared, Factors, Product, Image, Conjugate, Power, Turned, MultipliedInPlace, CarriedInPlace, TurnedInPlace}
 use Rattle.collector.proofs.Steps.{turned-fixed, turned-same, product-same, product-left, product-none, product-low-at, product-high-at}
 use Rattle.collector.proofs.Steps.{power-once, conjugate-none, conjugate-up, conjugate-moves, commutator-small}
 
@@ -38,12 +38,12 @@ module _ {k b : ℕ} {ps : List ℕ} {rows : List (List ℕ)} {x : List ℕ} whe
   turned-still P e s = turned-fixed (conjugate-none (omega arith) keeps s)
     where
       keeps : KeepsFrom rows k k x 0
-      keeps = moved-reach rows k k 0 x (omega arith) (omega arith) (subst (Reach rows k) e (P .quiet .at k (omega arith)))
+      keeps = moved-reach (omega arith) (omega arith) (subst (Reach rows k) e (P .quiet .at k (omega arith)))
 
-  pub conjugated-still : {reach : List ℕ} → Prepared (suc k) ps rows reach → getD reach k 0 ≡ 0 → Small k ps x → Conjugated k b ps rows x x
+  pub conjugated-still : {reach : List ℕ} → Prepared (suc k) ps rows reach → getD reach k 0 ≡ 0 → Small k ps x → TurnedInPlace k b ps rows x x
   conjugated-still P e s = record { turned = turned-still P e s; kept = kept-all k x }
 
-  pub conjugated : {c r : List ℕ} → Turned k b ps rows x c → Mixed c x k r → Conjugated k b ps rows x r
+  pub conjugated : {c r : List ℕ} → Turned k b ps rows x c → Mixed c x k r → TurnedInPlace k b ps rows x r
   conjugated {c} {r} t m = record { turned = turned-same (m .below) t; kept = mixed-kept c x k r m }
 
 -- ---- The power word, times a form
@@ -56,17 +56,17 @@ module _ {k : ℕ} {ps : List ℕ} {rows : List (List ℕ)} {reach u x : List �
     right = sx;
   }
 
-  pub carried-none : {t : ℕ} → Top k u t → t ≡ 0 → Carried k ps rows x x
+  pub carried-none : {t : ℕ} → Top k u t → t ≡ 0 → CarriedInPlace k ps rows x x
   carried-none a e = record { product = subst (λ v. Product k ps rows v x x) ue (product-left (subst (Top k u) e a) sx); kept = kept-all k x }
 
-  pub carried : {v r : List ℕ} → Product k ps rows u x v → Mixed v x k r → Carried k ps rows x r
+  pub carried : {v r : List ℕ} → Product k ps rows u x v → Mixed v x k r → CarriedInPlace k ps rows x r
   carried {v} {r} q m = record { product = product-same (m .below) (subst (λ w. Product k ps rows w x v) ue q); kept = mixed-kept v x k r m }
 
 -- ---- Product
 
 -- m is one more than the place of the highest exponent of y
 module _ {i m : ℕ} {ps : List ℕ} {rows : List (List ℕ)} {reach x y : List ℕ} (F : Factors i ps rows reach x y) (over : Top i y m) where
-  pub multiply-none : m ≡ 0 → Multiplied i ps rows x y x
+  pub multiply-none : m ≡ 0 → MultipliedInPlace i ps rows x y x
   multiply-none e = record { product = product-none (subst (Top i y) e over) (F .left); kept = kept-all i x }
 
   module _ (some : m ≢ 0) where
@@ -81,7 +81,7 @@ module _ {i m : ℕ} {ps : List ℕ} {rows : List (List ℕ)} {reach x y : List 
       turn-asks = (prepared-below (omega (arith, top-level)) (F .prepared), small-below (omega (arith, top-level)) (F .left), long)
 
       -- x₁ is x with its lower part turned, x₂ with the lower part multiplied
-      module _ {x₁ : List ℕ} (t : Conjugated (m - 1) (getD y (m - 1) 0) ps rows x x₁) where
+      module _ {x₁ : List ℕ} (t : TurnedInPlace (m - 1) (getD y (m - 1) 0) ps rows x x₁) where
         pub multiply-asks : Factors (m - 1) ps rows reach x₁ y × (length x₁ ≡ maxGenerators)
         multiply-asks = (
           record {
@@ -92,7 +92,7 @@ module _ {i m : ℕ} {ps : List ℕ} {rows : List (List ℕ)} {reach x y : List 
           t .kept .long ∙ long,
         )
 
-        module _ {x₂ : List ℕ} (q : Multiplied (m - 1) ps rows x₁ y x₂) where
+        module _ {x₂ : List ℕ} (q : MultipliedInPlace (m - 1) ps rows x₁ y x₂) where
           kept : Kept (m - 1) x x₂
           kept = kept-then (m - 1) (m - 1) x x₁ x₂ (omega arith) (t .kept) (q .kept)
 
@@ -112,7 +112,7 @@ module _ {i m : ℕ} {ps : List ℕ} {rows : List (List ℕ)} {reach x y : List 
           carry-asks = (prepared-below (omega (arith, top-level)) (F .prepared), q .product .small, kept .long ∙ long)
 
           pub multiply-low : getD x₂ (m - 1) 0 + getD y (m - 1) 0 < getD ps (m - 1) 0
-              → Multiplied i ps rows x y (set x₂ (m - 1) (getD x₂ (m - 1) 0 + getD y (m - 1) 0))
+              → MultipliedInPlace i ps rows x y (set x₂ (m - 1) (getD x₂ (m - 1) 0 + getD y (m - 1) 0))
           multiply-low h = record {
             product = product-low-at i m ps rows x y x₁ x₂ (omega arith) over (F .left) (t .turned) (q .product) _ stacked (omega (arith, top-is));
             kept = stored-kept (m - 1) i _ x x₂ top-level kept;
@@ -122,8 +122,8 @@ module _ {i m : ℕ} {ps : List ℕ} {rows : List (List ℕ)} {reach x y : List 
               stacked = subst (λ a. Stacked (m - 1) x₂ x (a + getD y (m - 1) 0) (set x₂ (m - 1) (getD x₂ (m - 1) 0 + getD y (m - 1) 0))) top-is
                   (kept-stacked (m - 1) _ x x₂ (omega (arith, top-within, kept .long)) kept)
 
-          pub multiply-high : {v : List ℕ} → Carried (m - 1) ps rows x₂ v → getD ps (m - 1) 0 ≤ getD x₂ (m - 1) 0 + getD y (m - 1) 0
-              → Multiplied i ps rows x y (set v (m - 1) (getD x₂ (m - 1) 0 + getD y (m - 1) 0 - getD ps (m - 1) 0))
+          pub multiply-high : {v : List ℕ} → CarriedInPlace (m - 1) ps rows x₂ v → getD ps (m - 1) 0 ≤ getD x₂ (m - 1) 0 + getD y (m - 1) 0
+              → MultipliedInPlace i ps rows x y (set v (m - 1) (getD x₂ (m - 1) 0 + getD y (m - 1) 0 - getD ps (m - 1) 0))
           multiply-high {v} a h = record {
             product = product-high-at i m ps rows x y x₁ x₂ (omega arith) over (F .left) (t .turned) (q .product) _ v _ refl (a .product) stacked (omega (arith, top-is)) (F .right);
             kept = stored-kept (m - 1) i _ x v top-level kept′;

@@ -6,7 +6,7 @@
 --   Product, Image, Conjugate     a product; the conjugate of a generator; the conjugate of a form
 --   Remaining                     how many turns are left, once a period is known
 --   Power, Scaled, Turned         powers, a power times a form, and conjugates turn after turn
---   Multiplied, Carried, Conjugated     a product, that with a power word, and conjugates, each in place of a form
+--   MultipliedInPlace, CarriedInPlace, TurnedInPlace     a product, that with a power word, and conjugates, each in place of a form
 use mathlib.Core.Path.{_≡_}
 use mathlib.Core.Bool.{Bool, true}
 use mathlib.Core.List.{List, []}
@@ -69,16 +69,16 @@ pub record Turned (i b : ℕ) (primes : List ℕ) (rows : List (List ℕ)) (x r 
 -- ---- In place: the exponents above stay
 
 -- x times y, in place of x
-pub record Multiplied (i : ℕ) (primes : List ℕ) (rows : List (List ℕ)) (x y r : List ℕ) : Type 0 where
+pub record MultipliedInPlace (i : ℕ) (primes : List ℕ) (rows : List (List ℕ)) (x y r : List ℕ) : Type 0 where
   pub product : Product i primes rows x y r
   pub kept : Kept i x r
 
 -- the power word of generator k times x, in place of x
-pub record Carried (k : ℕ) (primes : List ℕ) (rows : List (List ℕ)) (x r : List ℕ) : Type 0 where
+pub record CarriedInPlace (k : ℕ) (primes : List ℕ) (rows : List (List ℕ)) (x r : List ℕ) : Type 0 where
   pub product : Product k primes rows (getD rows (pairNumber k k) []) x r
   pub kept : Kept k x r
 
 -- x after b conjugations by generator k, in place of x
-pub record Conjugated (k b : ℕ) (primes : List ℕ) (rows : List (List ℕ)) (x r : List ℕ) : Type 0 where
+pub record TurnedInPlace (k b : ℕ) (primes : List ℕ) (rows : List (List ℕ)) (x r : List ℕ) : Type 0 where
   pub turned : Turned k b primes rows x r
   pub kept : Kept k x r

@@ -14,7 +14,7 @@ ghost use lib.ListN.{length, getD};
 ghost use Rattle.definitions.specs.Presentation.{maxGenerators};
 ghost use Rattle.rows.specs.Rows.{Small, Single};
 ghost use Rattle.collector.specs.Products.{Prepared, Factors, Alone, Product, Image, Conjugate, Remaining, Power, Scaled, Turned};
-ghost use Rattle.collector.specs.Products.{Multiplied, Carried, Conjugated};
+ghost use Rattle.collector.specs.Products.{MultipliedInPlace, CarriedInPlace, TurnedInPlace};
 use commuting::Reaches;
 use commuting::moved;
 use rows::GENERATORS;
@@ -50,7 +50,7 @@ fn remaining(k: usize, x: Row, c: Row, n: u32, left: u32) -> u32
 // The first k exponents of x after b conjugations by generator k.
 fn turn(primes: &Row, rows: &Words, reach: &Reaches, k: usize, x: &mut Row, b: u32)
     requires { ⌜ Prepared (suc k) (now primes) (now rows) (now reach) × Small k (now primes) (now x) × (length (now x) ≡ maxGenerators) ⌝ }
-    ensures { λ r. ⌜ Conjugated k b (now (primes .entry)) (now (rows .entry)) (now (x .entry)) (now (x .exit)) ⌝ }
+    ensures { λ r. ⌜ TurnedInPlace k b (now (primes .entry)) (now (rows .entry)) (now (x .entry)) (now (x .exit)) ⌝ }
 {
     if reach[k] == 0 {
         return;
@@ -62,7 +62,7 @@ fn turn(primes: &Row, rows: &Words, reach: &Reaches, k: usize, x: &mut Row, b: u
 // The power word of generator k, times the first k exponents of x.
 fn carry(primes: &Row, rows: &Words, reach: &Reaches, k: usize, x: &mut Row)
     requires { ⌜ Prepared (suc k) (now primes) (now rows) (now reach) × Small k (now primes) (now x) × (length (now x) ≡ maxGenerators) ⌝ }
-    ensures { λ r. ⌜ Carried k (now (primes .entry)) (now (rows .entry)) (now (x .entry)) (now (x .exit)) ⌝ }
+    ensures { λ r. ⌜ CarriedInPlace k (now (primes .entry)) (now (rows .entry)) (now (x .entry)) (now (x .exit)) ⌝ }
 {
     let u = word(rows, k, k);
     if top(k, u) == 0 {
@@ -75,7 +75,7 @@ fn carry(primes: &Row, rows: &Words, reach: &Reaches, k: usize, x: &mut Row)
 // x times y on level i. The conjugates that this needs are of the level below the highest exponent of y.
 fn multiply(primes: &Row, rows: &Words, reach: &Reaches, i: usize, x: &mut Row, y: &Row)
     requires { ⌜ Factors i (now primes) (now rows) (now reach) (now x) (now y) × (length (now x) ≡ maxGenerators) ⌝ }
-    ensures { λ r. ⌜ Multiplied i (now (primes .entry)) (now (rows .entry)) (now (x .entry)) (now (y .entry)) (now (x .exit)) ⌝ }
+    ensures { λ r. ⌜ MultipliedInPlace i (now (primes .entry)) (now (rows .entry)) (now (x .entry)) (now (y .entry)) (now (x .exit)) ⌝ }
 {
     let m = top(i, *y);
     if m == 0 {

@@ -1,5 +1,6 @@
 -- Which generators commute, as the rows of a presentation tell.
 --
+--   emptyAt l x                   the row x says the trivial form of level l
 --   keeps rows j l e              conjugation by generator j keeps an exponent e of generator l
 --   KeepsFrom rows k j x r            it keeps the exponents of x from r up to k
 --   Reach rows j r                it keeps every exponent from r up to j
@@ -16,9 +17,12 @@ use lib.Dec.{eqb}
 use Rattle.definitions.specs.Presentation.{toNF, trivial, pairNumber}
 use Rattle.definitions.specs.Consistency.{sameForm}
 
+abbrev pub emptyAt : ℕ → List ℕ → Bool
+emptyAt l x = sameForm l (toNF l x) (trivial l)
+
 -- conjugation by generator j keeps an exponent e of generator l: e is 0, or the word of the two is empty
 abbrev pub keeps : (rows : List (List ℕ)) (j l e : ℕ) → Bool
-keeps rows j l e = eqb e 0 || sameForm (suc l) (toNF (suc l) (getD rows (pairNumber j l) [])) (trivial (suc l))
+keeps rows j l e = eqb e 0 || emptyAt (suc l) (getD rows (pairNumber j l) [])
 
 -- conjugation by generator j keeps the exponents of x from r up to k
 pub record KeepsFrom (rows : List (List ℕ)) (k j : ℕ) (x : List ℕ) (r : ℕ) : Type 0 where

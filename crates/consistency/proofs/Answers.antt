@@ -1,6 +1,6 @@
 -- The steps of the known test, as answers for every presentation that primes and rows read.
 --
---   Passing, passing-none, passing-more, passing-all, passing-fails    a test of every number below n, one after another
+--   SettledBelow, settled-none, settled-more, settled-all, settled-fails    a test of every number below n, one after another
 --   answer-none, answer-more, answer-fails     the test of every generator, one after another
 --   power-kept, commutator-kept, power-fixed, inner-at     the single tests
 --   commutator-low, commutator-high, inner-central    the same where a generator commutes with every one up to i
@@ -29,29 +29,29 @@ use Rattle.consistency.specs.Images.{Images, Value}
 use Rattle.consistency.specs.Answers.{TestAnswer, Settles, powerKept, commutatorKept, innerAt}
 
 -- the first k answers of q are yes
-pub record Passing (i : ℕ) (ps : List ℕ) (rows : List (List ℕ)) (q : Presentation → ℕ → Bool) (k : ℕ) : Type 0 where
+pub record SettledBelow (i : ℕ) (ps : List ℕ) (rows : List (List ℕ)) (q : Presentation → ℕ → Bool) (k : ℕ) : Type 0 where
   pub settled : Settles i ps rows (λ P. allBelow k (q P)) true
 
 module _ {i : ℕ} {ps : List ℕ} {rows : List (List ℕ)} {q : Presentation → ℕ → Bool} where
-  pub passing-none : Passing i ps rows q 0
+  pub settled-none : SettledBelow i ps rows q 0
   unfolding allBelow
-  passing-none = record { settled = record { is = λ C R B. refl } }
+  settled-none = record { settled = record { is = λ C R B. refl } }
 
-  module _ {k : ℕ} (a : Passing i ps rows q k) where
-    pub passing-more : {b : Bool} → Settles i ps rows (λ P. q P k) b → b ≡ true → Passing i ps rows q (k + 1)
+  module _ {k : ℕ} (a : SettledBelow i ps rows q k) where
+    pub settled-more : {b : Bool} → Settles i ps rows (λ P. q P k) b → b ≡ true → SettledBelow i ps rows q (k + 1)
     unfolding allBelow
-    passing-more t e = record {
+    settled-more t e = record {
       settled = record {
         is = λ C R B. sym (ap (λ n. allBelow n (q (C .P))) (add-one k)
             ∙ and-intro (allBelow k (q (C .P))) (q (C .P) k) (sym (a .settled .is C R B)) (sym (t .is C R B) ∙ e));
       };
     }
 
-    pub passing-all : {n : ℕ} → k ≡ n → Settles i ps rows (λ P. allBelow n (q P)) true
-    passing-all e = subst (λ n. Settles i ps rows (λ P. allBelow n (q P)) true) e (a .settled)
+    pub settled-all : {n : ℕ} → k ≡ n → Settles i ps rows (λ P. allBelow n (q P)) true
+    settled-all e = subst (λ n. Settles i ps rows (λ P. allBelow n (q P)) true) e (a .settled)
 
-    pub passing-fails : {n : ℕ} {b : Bool} → k < n → Settles i ps rows (λ P. q P k) b → b ≡ false → Settles i ps rows (λ P. allBelow n (q P)) false
-    passing-fails {n} l t e = record { is = λ C R B. sym (allBelow-fails n (q (C .P)) k l (sym (t .is C R B) ∙ e)) }
+    pub settled-fails : {n : ℕ} {b : Bool} → k < n → Settles i ps rows (λ P. q P k) b → b ≡ false → Settles i ps rows (λ P. allBelow n (q P)) false
+    settled-fails {n} l t e = record { is = λ C R B. sym (allBelow-fails n (q (C .P)) k l (sym (t .is C R B) ∙ e)) }
 
 -- the levels below i pass, so that what needs this is known of level i
 module _ {n : ℕ} {ps : List ℕ} {rows : List (List ℕ)} where

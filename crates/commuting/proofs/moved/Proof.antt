@@ -28,15 +28,11 @@ element-copy-out-first c = search needs
 loop-holds : tie.Need-loop-holds Inv-loop μ-loop
 loop-holds c =
     let z = c .before .before in
-    let rows = now (z .args .rows) in
-    let k = z .args .k in
-    let j = z .args .j in
-    let x = z .args .t5 in (
+    let keeps-from = KeepsFrom (now (z .args .rows)) (z .args .k) (z .args .j) (z .args .t5) in (
       search needs,
       search needs,
       ⊎-elim (λ w. omega arith) (λ w. omega arith) (c .if1 .came),
-      ⊎-elim (λ w. subst (KeepsFrom rows k j x) (sym (w .1)) (moved-reach rows j k (getD (now (z .args .reach)) j 0) x (search needs) (omega (arith, w .0 .taken)) (z .pre .2)))
-          (λ w. subst (KeepsFrom rows k j x) (sym (w .1)) (moved-all rows j k x)) (c .if1 .came),
+      ⊎-elim (λ w. subst keeps-from (sym (w .1)) (moved-reach (search needs) (omega (arith, w .0 .taken)) (z .pre .2))) (λ w. subst keeps-from (sym (w .1)) moved-all) (c .if1 .came),
     )
 
 sub-stays : tie.Need-sub-stays Inv-loop μ-loop
@@ -65,9 +61,8 @@ loop-less c = search needs
 
 loop-again : tie.Need-loop-again Inv-loop μ-loop
 loop-again c =
-    let z = c .before .before .before .before .before .before .before in
     let l = c .before .before .before .before .loop in
-    (search needs, search needs, search needs, moved-more (now (z .args .rows)) (z .args .j) (z .args .k) (z .args .t5) (l .m) (search needs) (sym (c .before .stays .ensures) ∙ not-false _ (c .if2 .left)) (l .inv .3))
+    (search needs, search needs, search needs, moved-more (search needs) (sym (c .before .stays .ensures) ∙ not-false _ (c .if2 .left)) (l .inv .3))
 
 returns-2 : tie.Need-returns-2 Inv-loop μ-loop
 returns-2 c =

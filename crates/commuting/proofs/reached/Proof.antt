@@ -18,7 +18,7 @@ abbrev μ-loop : tie.MeasureT-loop
 μ-loop rows j m₀ m = m
 
 loop-holds : tie.Need-loop-holds Inv-loop μ-loop
-loop-holds c = (search needs, omega arith, reach-none (now (c .args .rows)) (c .args .j))
+loop-holds c = (search needs, omega arith, reach-none)
 
 sub-word : tie.Need-sub-word Inv-loop μ-loop
 sub-word c = search needs
@@ -40,10 +40,8 @@ loop-less c = search needs
 
 loop-again : tie.Need-loop-again Inv-loop μ-loop
 loop-again c =
-    let z = c .before .before .before .before .before in
-    let l = c .before .before .before .before .loop in
-    let w = c .before .before .word in
-    (search needs, search needs, reach-more (now (z .args .rows)) (z .args .j) (l .m) (w .result) (search needs) (w .ensures) (sym (c .before .empty .ensures) ∙ not-false _ (c .if1 .left)) (l .inv .2))
+    let empty = sym (c .before .empty .ensures) ∙ not-false _ (c .if1 .left) in
+    (search needs, search needs, reach-more (search needs) (c .before .before .word .ensures) empty (c .before .before .before .before .loop .inv .2))
 
 returns-2 : tie.Need-returns-2 Inv-loop μ-loop
 returns-2 c =

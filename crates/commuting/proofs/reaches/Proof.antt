@@ -18,7 +18,7 @@ abbrev μ-loop : tie.MeasureT-loop
 μ-loop rows n r₀ j₀ r j = n - j
 
 loop-holds : tie.Need-loop-holds Inv-loop μ-loop
-loop-holds c = (search needs, search needs, search needs, quiet-none _ _)
+loop-holds c = (search needs, search needs, search needs, quiet-none)
 
 reached-requires : tie.Need-reached-requires Inv-loop μ-loop
 reached-requires c κs = search needs
@@ -36,10 +36,7 @@ loop-less : tie.Need-loop-less Inv-loop μ-loop
 loop-less c = search needs
 
 loop-again : tie.Need-loop-again Inv-loop μ-loop
-loop-again c =
-    let z = c .before .before .before in
-    let l = c .before .before .loop in
-    (search needs, search needs, search needs, quiet-more (now (z .args .rows)) (l .r) (l .j) (c .reached .result) (search needs) (l .inv .3) (c .reached .ensures))
+loop-again c = (search needs, search needs, search needs, quiet-more (search needs) (c .before .before .loop .inv .3) (c .reached .ensures))
 
 returns : tie.Need-returns Inv-loop μ-loop
 returns c =

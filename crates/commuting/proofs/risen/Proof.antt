@@ -24,7 +24,7 @@ element-copy-out-if1 : tie.Need-element-copy-out-if1 Inv-loop μ-loop
 element-copy-out-if1 c = search needs
 
 returns : tie.Need-returns Inv-loop μ-loop
-returns c = rise-none (now (c .before .before .args .rows)) (c .before .before .args .c)
+returns c = rise-none
 
 add-j : tie.Need-add-j Inv-loop μ-loop
 add-j c = search needs
@@ -32,8 +32,7 @@ add-j c = search needs
 loop-holds : tie.Need-loop-holds Inv-loop μ-loop
 loop-holds c =
     let z = c .before .before in
-    let rows = now (z .args .rows) in
-    (search needs, search needs, search needs, rise-first rows (z .args .c) (subst (Reach rows (z .args .c)) (c .if1 .left) (z .pre .2)))
+    (search needs, search needs, search needs, rise-first (subst (Reach (now (z .args .rows)) (z .args .c)) (c .if1 .left) (z .pre .2)))
 
 word-requires : tie.Need-word-requires Inv-loop μ-loop
 word-requires c κs = search needs
@@ -55,10 +54,9 @@ loop-less c = search needs
 
 loop-again : tie.Need-loop-again Inv-loop μ-loop
 loop-again c =
-    let z = c .before .before .before .before .before .before .before in
     let l = c .before .before .before .before .loop in
-    let w = c .before .before .word in
-    (search needs, search needs, search needs, rise-more (now (z .args .rows)) (z .args .c) (l .j) (w .result) (l .inv .1) (w .ensures) (sym (c .before .empty .ensures) ∙ not-false _ (c .if2 .left)) (l .inv .3))
+    let empty = sym (c .before .empty .ensures) ∙ not-false _ (c .if2 .left) in
+    (search needs, search needs, search needs, rise-more (l .inv .1) (c .before .before .word .ensures) empty (l .inv .3))
 
 returns-3 : tie.Need-returns-3 Inv-loop μ-loop
 returns-3 c =

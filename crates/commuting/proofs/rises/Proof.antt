@@ -18,7 +18,7 @@ abbrev μ-loop : tie.MeasureT-loop
 μ-loop rows reach n r₀ c₀ r c = n - c
 
 loop-holds : tie.Need-loop-holds Inv-loop μ-loop
-loop-holds c = (search needs, search needs, search needs, central-none _ _)
+loop-holds c = (search needs, search needs, search needs, central-none)
 
 risen-requires : tie.Need-risen-requires Inv-loop μ-loop
 risen-requires c κs =
@@ -38,10 +38,7 @@ loop-less : tie.Need-loop-less Inv-loop μ-loop
 loop-less c = search needs
 
 loop-again : tie.Need-loop-again Inv-loop μ-loop
-loop-again c =
-    let z = c .before .before .before in
-    let l = c .before .before .loop in
-    (search needs, search needs, search needs, central-more (now (z .args .rows)) (l .r) (l .c) (c .risen .result) (search needs) (l .inv .3) (c .risen .ensures))
+loop-again c = (search needs, search needs, search needs, central-more (search needs) (c .before .before .loop .inv .3) (c .risen .ensures))
 
 returns : tie.Need-returns Inv-loop μ-loop
 returns c =

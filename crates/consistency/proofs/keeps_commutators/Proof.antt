@@ -5,19 +5,19 @@ use native.Mathlib.Omega.{arith}
 use borrow.Author.Tests.{not-true, not-false}
 use Rattle.definitions.specs.Lists.{allBelow}
 use Rattle.consistency.specs.Answers.{commutatorKept}
-use Rattle.consistency.proofs.Answers.{Passing, passing-none, passing-more, passing-all, passing-fails, commutators-all}
+use Rattle.consistency.proofs.Answers.{SettledBelow, settled-none, settled-more, settled-all, settled-fails, commutators-all}
 use borrow.Author.Needs.{needs}
 use Rattle.consistency.proofs.keeps_commutators.Statement.{statement}
 use Rattle.consistency.proofs.keeps_commutators.Tie as tie
 
 abbrev Inv-loop : tie.InvT-loop
-Inv-loop primes rows reach rise h i j₀ j = (j ≤ i) × Passing i primes rows (λ P j. allBelow j (commutatorKept P i j)) j
+Inv-loop primes rows reach rise h i j₀ j = (j ≤ i) × SettledBelow i primes rows (λ P j. allBelow j (commutatorKept P i j)) j
 
 abbrev μ-loop : tie.MeasureT-loop
 μ-loop primes rows reach rise h i j₀ j = i - j
 
 loop-holds : tie.Need-loop-holds Inv-loop μ-loop
-loop-holds c = (search needs, passing-none)
+loop-holds c = (search needs, settled-none)
 
 keeps-commutators-of-requires : tie.Need-keeps-commutators-of-requires Inv-loop μ-loop
 keeps-commutators-of-requires c κs = search needs
@@ -25,7 +25,7 @@ keeps-commutators-of-requires c κs = search needs
 returns : tie.Need-returns Inv-loop μ-loop
 returns c =
     let l = c .before .before .before .loop in
-    commutators-all (passing-fails (l .inv .1) (search needs) (c .before .keeps-commutators-of .ensures) (not-true _ (c .if1 .taken)))
+    commutators-all (settled-fails (l .inv .1) (search needs) (c .before .keeps-commutators-of .ensures) (not-true _ (c .if1 .taken)))
 
 add-j : tie.Need-add-j Inv-loop μ-loop
 add-j c = search needs
@@ -34,13 +34,13 @@ loop-less : tie.Need-loop-less Inv-loop μ-loop
 loop-less c = search needs
 
 loop-again : tie.Need-loop-again Inv-loop μ-loop
-loop-again c = (search needs, passing-more (c .before .before .before .loop .inv .1) (c .before .keeps-commutators-of .ensures) (not-false _ (c .if1 .left)))
+loop-again c = (search needs, settled-more (c .before .before .before .loop .inv .1) (c .before .keeps-commutators-of .ensures) (not-false _ (c .if1 .left)))
 
 returns-2 : tie.Need-returns-2 Inv-loop μ-loop
 returns-2 c =
     let l = c .before .loop in
     let e : l .j ≡ c .before .before .args .i = omega arith in
-    commutators-all (passing-all (l .inv .1) e)
+    commutators-all (settled-all (l .inv .1) e)
 
 pub keeps-commutators-spec : {M : Type 1} → statement M
 keeps-commutators-spec =

@@ -4,19 +4,19 @@ use Prim.Native.Nat.{_-_, _≤_}
 use native.Mathlib.Omega.{arith}
 use borrow.Author.Tests.{not-true, not-false}
 use Rattle.consistency.specs.Answers.{commutatorKept}
-use Rattle.consistency.proofs.Answers.{Passing, passing-none, passing-more, passing-all, passing-fails}
+use Rattle.consistency.proofs.Answers.{SettledBelow, settled-none, settled-more, settled-all, settled-fails}
 use borrow.Author.Needs.{needs}
 use Rattle.consistency.proofs.keeps_commutators_of.Statement.{statement}
 use Rattle.consistency.proofs.keeps_commutators_of.Tie as tie
 
 abbrev Inv-loop : tie.InvT-loop
-Inv-loop primes rows reach rise h i j k₀ k = (k ≤ j) × Passing i primes rows (λ P. commutatorKept P i j) k
+Inv-loop primes rows reach rise h i j k₀ k = (k ≤ j) × SettledBelow i primes rows (λ P. commutatorKept P i j) k
 
 abbrev μ-loop : tie.MeasureT-loop
 μ-loop primes rows reach rise h i j k₀ k = j - k
 
 loop-holds : tie.Need-loop-holds Inv-loop μ-loop
-loop-holds c = (search needs, passing-none)
+loop-holds c = (search needs, settled-none)
 
 keeps-pair-requires : tie.Need-keeps-pair-requires Inv-loop μ-loop
 keeps-pair-requires c κs = search needs
@@ -24,7 +24,7 @@ keeps-pair-requires c κs = search needs
 returns : tie.Need-returns Inv-loop μ-loop
 returns c =
     let l = c .before .before .before .loop in
-    passing-fails (l .inv .1) (search needs) (c .before .keeps-pair .ensures) (not-true _ (c .if1 .taken))
+    settled-fails (l .inv .1) (search needs) (c .before .keeps-pair .ensures) (not-true _ (c .if1 .taken))
 
 add-k : tie.Need-add-k Inv-loop μ-loop
 add-k c = search needs
@@ -33,13 +33,13 @@ loop-less : tie.Need-loop-less Inv-loop μ-loop
 loop-less c = search needs
 
 loop-again : tie.Need-loop-again Inv-loop μ-loop
-loop-again c = (search needs, passing-more (c .before .before .before .loop .inv .1) (c .before .keeps-pair .ensures) (not-false _ (c .if1 .left)))
+loop-again c = (search needs, settled-more (c .before .before .before .loop .inv .1) (c .before .keeps-pair .ensures) (not-false _ (c .if1 .left)))
 
 returns-2 : tie.Need-returns-2 Inv-loop μ-loop
 returns-2 c =
     let l = c .before .loop in
     let e : l .k ≡ c .before .before .args .j = omega arith in
-    passing-all (l .inv .1) e
+    settled-all (l .inv .1) e
 
 pub keeps-commutators-of-spec : {M : Type 1} → statement M
 keeps-commutators-of-spec =
