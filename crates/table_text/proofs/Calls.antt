@@ -8,7 +8,7 @@
 --   starts-within             a text that starts with the names line is as long as that
 --   Short, Long, short, long  whether the words are room for the lines, by what `enough` answers
 --   read-room, read-short, read-unstarted, read-unformed, read-done     the answers of the reader
---   write-part, write-large, write-short, write-done     the answers of the writer
+--   write-room, write-part, write-large, write-short, write-done     room for the text; the answers of the writer
 --   written-read, write-then-read, read-then-write       there and back
 use mathlib.Core.Path.{_≡_, refl, sym, ap, ap₂, _∙_, subst}
 use mathlib.Core.Logic.{inl, inr}
@@ -20,7 +20,7 @@ use native.Mathlib.Omega.{arith}
 use lib.ListN.{length, take, drop, length-append}
 use lib.Seq.{take-append-seam}
 use lib.Dec.{eqb, ltb, leb}
-use borrow.Author.Tests.{eqb-true, eq-eqb, ltb-true, ltb-false, leb-false, not-true, not-false}
+use borrow.Author.Tests.{eqb-true, eq-eqb, ltb-true, ltb-false, leb-true, leb-false, not-true, not-false}
 use Rattle.definitions.specs.Text.{Bytes, small}
 use Rattle.definitions.specs.Presentation.{lineWords, Presentation, order, presentation}
 use Rattle.definitions.specs.Table.{lineCount, tableText, writable}
@@ -32,7 +32,7 @@ use Rattle.numbers.proofs.Bools.{and-left, and-right, and-intro}
 use Rattle.text.specs.Reading.{StartsAt}
 use Rattle.text.specs.Writing.{put, Wrote}
 use Rattle.text.proofs.Writing.{wrote-more, wrote-as}
-use Rattle.table_text.specs.Pieces.{pieces, FormLine, Filled}
+use Rattle.table_text.specs.Pieces.{pieces, FormLine, Room, Filled}
 use Rattle.table_text.proofs.Pieces.{names, tableText-pieces, newlines-table}
 
 -- ---- Buffers that were written over
@@ -102,22 +102,23 @@ pub record Short (t : Bytes) (have : ℕ) : Type 0 where
 pub record Long (t : Bytes) (have : ℕ) : Type 0 where
   pub least : lineWords * (newlines t - 1) ≤ have
 
-module _ (t : Bytes) (have lines : ℕ) (b : Bool) (n : lines ≡ newlines t) (r : b ≡ not (ltb have (8 * (lines - 1)))) where
-  test : b ≡ not (ltb have (8 * (newlines t - 1)))
-  test = r ∙ ap (λ (m : ℕ). not (ltb have (8 * (m - 1)))) n
-
+module _ {t : Bytes} {have lines : ℕ} {b : Bool} (n : lines ≡ newlines t) (r : b ≡ not (ltb have (8 * (lines - 1)))) where
   pub short : b ≡ false → Short t have
   unfolding lineWords
-  short q = record { less = ltb-true have (8 * (newlines t - 1)) (not-false (ltb have (8 * (newlines t - 1))) (sym test ∙ q)) }
+  short q = record { less = omega (arith, n, ltb-true have (8 * (lines - 1)) (not-false _ (sym r ∙ q))) }
 
   pub long : b ≡ true → Long t have
   unfolding lineWords
-  long q = record { least = ltb-false have (8 * (newlines t - 1)) (not-true (ltb have (8 * (newlines t - 1))) (sym test ∙ q)) }
+  long q = record { least = omega (arith, n, ltb-false have (8 * (lines - 1)) (not-true _ (sym r ∙ q))) }
 
-pub read-room : {t : Bytes} {have : ℕ} (T : List ℕ) → StartsAt t 0 names → FormLine t 34 T → Long t have → length T ≤ have
+pub read-room : {t : Bytes} {have : ℕ} → StartsAt t 0 names → (T : List ℕ) × FormLine t 34 T → Long t have → Room t 34 have
 unfolding lineWords
-read-room {t} {have} T s f l =
-    omega (arith, ap newlines (form-text s f), newlines-table T (f .whole), l .least, div-add-mod' (length T) 8, f .whole)
+read-room s (T, f) l = record {
+  table = T;
+  lines = f;
+  room = omega (arith, ap newlines (form-text s f), newlines-table T (f .whole), l .least, div-add-mod' (length T) 8, f .whole);
+  within = starts-within s;
+}
 
 -- ---- The answers of the reader
 
@@ -148,6 +149,9 @@ module _ (t : Bytes) (before : List ℕ) where
         }
 
 -- ---- The answers of the writer
+
+pub write-room : (T : List ℕ) (out : Bytes) {b : Bool} → b ≡ leb (34 + length (pieces 0 T)) (length out) → b ≡ true → 34 + length (pieces 0 T) ≤ length out
+write-room T out r q = leb-true (34 + length (pieces 0 T)) (length out) (sym r ∙ q)
 
 module _ (T : List ℕ) (before : Bytes) where
   refuse-21 : writable T ≡ false → WriteTable T before 21 0 before

@@ -18,8 +18,7 @@ enum-told : tie.Need-enum-told
 enum-told c = search needs
 
 returns : tie.Need-returns
-returns c =
-    word-none (c .before .before .before .before .args .k) (c .before .before .value .ensures .fails (c .enum-told .given .1))
+returns c = word-none _ (c .before .before .value .ensures .fails (c .enum-told .given .1))
 
 byte-at-requires : tie.Need-byte-at-requires
 byte-at-requires c κs = search needs
@@ -29,24 +28,22 @@ separator-requires c κs = search needs
 
 returns-2 : tie.Need-returns-2
 returns-2 c =
-    let args = c .before .before .before .before .before .before .before .before .args in
-    let value = c .before .before .before .before .before .before .value in
-    let v = c .before .before .before .before .v in
-    let byte-at = c .before .before .byte-at in
-    word-other (args .k) (value .ensures .stands _ _ (v .given .1)) (λ q. c .if1 .taken (byte-at .ensures ∙ q ∙ sym (c .before .separator .ensures)))
+    let v = c .before .before .before .before in
+    word-other _ (v .before .before .value .ensures .stands _ _ (v .v .given .1))
+    (λ q. c .if1 .taken (c .before .before .byte-at .ensures ∙ q ∙ sym (c .before .separator .ensures)))
 
 add-t10 : tie.Need-add-t10
 add-t10 c =
-    let args = c .before .before .before .before .before .before .before .before .args in
-    let v = c .before .before .before .before .v in
-    omega (arith, byte-within (args .text .now) (v .given .0 .1 .0) (omega (arith, separator-within (args .k) .0)))
+    let v = c .before .before .before .before in
+    let a = v .before .before .before .before .args in
+    omega (arith, byte-within (a .text .now) (v .v .given .0 .1 .0) (omega (arith, separator-within (a .k) .0)))
 
 returns-3 : tie.Need-returns-3
 returns-3 c =
-    let args = c .before .before .before .before .before .before .before .before .args in
-    let value = c .before .before .before .before .before .before .value in
-    let v = c .before .before .before .before .v in
-    word-some (args .k) (value .ensures .stands _ _ (v .given .1)) (omega arith) (byte-within (args .text .now) (v .given .0 .1 .0) (omega (arith, separator-within (args .k) .0)))
+    let v = c .before .before .before .before in
+    let a = v .before .before .before .before .args in
+    let within = byte-within (a .text .now) (v .v .given .0 .1 .0) (omega (arith, separator-within (a .k) .0)) in
+    word-some _ (v .before .before .value .ensures .stands _ _ (v .v .given .1)) (omega arith) within
 
 pub next-word-spec : {M : Type 1} → statement M
 next-word-spec =

@@ -30,8 +30,9 @@ separator-requires c κs = tt
 
 put-byte-requires : tie.Need-put-byte-requires Inv-loop μ-loop
 put-byte-requires c κs =
-    let v = c .before .before .before .before .put-value .ensures in
-    omega (arith, written-room (c .before .before .before .before .before .before .before .before .loop .inv) (omega arith), v .end, wrote-length v)
+    let v = c .before .before .before .before in
+    let w = v .put-value .ensures in
+    omega (arith, written-room (v .before .before .before .before .loop .inv) (omega arith), w .end, wrote-length w)
 
 add-k : tie.Need-add-k Inv-loop μ-loop
 add-k c = omega arith
@@ -41,11 +42,9 @@ loop-less c = omega arith
 
 loop-again : tie.Need-loop-again Inv-loop μ-loop
 loop-again c =
-    let loop = c .before .before .before .before .before .before .before .before .before .before .before .loop in
-    let put-value = c .before .before .before .before .before .before .before .put-value in
-    let separator = c .before .before .before .separator in
-    let put-byte = c .before .before .put-byte in
-    written-more (loop .inv) (omega arith) (separator .ensures) (put-value .ensures) (put-byte .ensures)
+    let v = c .before .before .before .before .before .before .before in
+    let l = v .before .before .before .before .loop in
+    written-more (l .inv) (omega arith) (c .before .before .before .separator .ensures) (v .put-value .ensures) (c .before .before .put-byte .ensures)
 
 same-length : tie.Need-same-length Inv-loop μ-loop
 same-length c = wrote-length (c .before .loop .inv .wrote)
