@@ -23,7 +23,7 @@ use Rattle.rows.proofs.Forms.{small-below, ready-below, prime-fits, small-set, 
 use Rattle.rows.proofs.Parts.{kept-all, kept-then, mixed-kept, kept-stacked, stored-kept}
 use Rattle.commuting.specs.Commuting.{KeepsFrom, Reach}
 use Rattle.commuting.proofs.Skips.{quiet-below, moved-reach}
-use Rattle.collector.specs.Products.{Prepared, Factors, Product, Image, Conjugate, Power, Turned, MultipliedInPlace, CarriedInPlace, TurnedInPlace}
+use Rattle.collector.specs.Products.{Prepared, Factors, Conjugand, Product, Image, Conjugate, Power, Turned, MultipliedInPlace, CarriedInPlace, TurnedInPlace}
 use Rattle.collector.proofs.Steps.{turned-fixed, turned-same, product-same, product-left, product-none, product-low-at, product-high-at}
 use Rattle.collector.proofs.Steps.{power-once, conjugate-none, conjugate-up, conjugate-moves, commutator-small}
 
@@ -163,26 +163,25 @@ module _ {j l : ℕ} {ps : List ℕ} {rows : List (List ℕ)} {reach w : List �
   }
 
 -- m is one more than the place of the highest exponent of x that moves
-module _ {k j m : ℕ} {ps : List ℕ} {rows : List (List ℕ)} {reach x : List ℕ} (P : Prepared (suc j) ps rows reach) (kj : k ≤ j) (sx : Small k ps x)
-    (over : KeepsFrom rows k j x m) where
+module _ {k j m : ℕ} {ps : List ℕ} {rows : List (List ℕ)} {reach x : List ℕ} (Q : Conjugand k j ps rows reach x) (over : KeepsFrom rows k j x m) where
   pub conjugate-still : m ≡ 0 → Conjugate k j ps rows x x
-  conjugate-still e = conjugate-none kj (subst (KeepsFrom rows k j x) e over) sx
+  conjugate-still e = conjugate-none (Q .level) (subst (KeepsFrom rows k j x) e over) (Q .small)
 
   module _ (some : m ≢ 0) where
     pub moved-level : m - 1 < k
     moved-level = omega (arith, over .less)
 
     pub moved-within : m - 1 < maxGenerators
-    moved-within = omega (arith, moved-level, P .ranged .few)
+    moved-within = omega (arith, moved-level, Q .level, Q .prepared .ranged .few)
 
     level : suc (m - 1) ≡ m
     level = omega arith
 
     below : Prepared m ps rows reach
-    below = prepared-below (omega (arith, over .less)) P
+    below = prepared-below (omega (arith, over .less, Q .level)) (Q .prepared)
 
-    pub lower-asks : Prepared (suc j) ps rows reach × (m - 1 ≤ j) × Small (m - 1) ps x
-    lower-asks = (P, omega (arith, moved-level), small-below (omega (arith, moved-level)) sx)
+    pub lower-asks : Conjugand (m - 1) j ps rows reach x
+    lower-asks = record { prepared = Q .prepared; level = omega (arith, moved-level, Q .level); small = small-below (omega (arith, moved-level)) (Q .small) }
 
     pub power-asks : {h : List ℕ} → Image j (m - 1) ps rows h → Prepared m ps rows reach × Small m ps h
     power-asks {h} q = (below, subst (λ n. Small n ps h) level (q .small))
@@ -199,6 +198,6 @@ module _ {k j m : ℕ} {ps : List ℕ} {rows : List (List ℕ)} {reach x : List 
 
       pub conjugate-top : {h r s t : List ℕ} → Image j (m - 1) ps rows h → Power m ps rows h r (getD x (m - 1) 0)
           → Product m ps rows r (set z (m - 1) 0) s → Stacked (m - 1) s x (getD s (m - 1) 0) t → Conjugate k j ps rows x t
-      conjugate-top {h} {r} {s} {t} qh qr qs st = conjugate-up j ps rows x t m k kj over (λ n a. st .above n (omega arith)) sx
-          (subst (λ n. Conjugate n j ps rows x t) level (conjugate-moves (omega (arith, moved-level)) (omega (arith, moved-within)) q qh
+      conjugate-top {h} {r} {s} {t} qh qr qs st = conjugate-up j ps rows x t m k (Q .level) over (λ n a. st .above n (omega arith)) (Q .small)
+          (subst (λ n. Conjugate n j ps rows x t) level (conjugate-moves (omega (arith, moved-level, Q .level)) (omega (arith, moved-within)) q qh
           (subst (λ n. Power n ps rows h r (getD x (m - 1) 0)) (sym level) qr) (subst (λ n. Product n ps rows r (set z (m - 1) 0) s) (sym level) qs) st))

@@ -6,10 +6,11 @@
 --   turned-same, product-same, product-left    rows that agree; a trivial left factor
 --   product-up, product-none                   the exponents above those of the right factor stay; where it has none
 --   product-low, product-high                  no carry; a carry
+--   product-low-at, product-high-at            the same on the level of the highest exponent of the right factor
 --   powering-start, powering-more, power-once  powers, one after another; the first
 --   power-single                               powers of a form of one generator
 --   conjugate-up, conjugate-none               exponents that stay; where all stay
---   image-low, image-high                      the conjugate of a generator: no carry; a carry
+--   commutator-small, image-low, image-high    the conjugate of a generator: its word is in range; no carry; a carry
 --   scaled-zero, scaled-more                   a power times a form: exponent 0; the general case
 --   conjugate-moves                            the general step
 use mathlib.Core.Path.{_≡_, refl, sym, _∙_, ap, ap₂, subst}

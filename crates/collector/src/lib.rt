@@ -13,7 +13,7 @@ ghost use Prim.Native.Nat.{suc, _*_, _%_, _≤_, _<_};
 ghost use lib.ListN.{length, getD};
 ghost use Rattle.definitions.specs.Presentation.{maxGenerators};
 ghost use Rattle.rows.specs.Rows.{Small, Single};
-ghost use Rattle.collector.specs.Products.{Prepared, Factors, Alone, Product, Image, Conjugate, Remaining, Power, Scaled, Turned};
+ghost use Rattle.collector.specs.Products.{Prepared, Factors, Conjugand, Alone, Product, Image, Conjugate, Remaining, Power, Scaled, Turned};
 ghost use Rattle.collector.specs.Products.{MultipliedInPlace, CarriedInPlace, TurnedInPlace};
 use commuting::Reaches;
 use commuting::moved;
@@ -125,7 +125,7 @@ fn image(primes: &Row, rows: &Words, reach: &Reaches, j: usize, l: usize) -> Row
 
 // The conjugate of x by generator j on level k, k ≤ j. It is a product on the level of the highest exponent that moves.
 pub fn conjugate(primes: &Row, rows: &Words, reach: &Reaches, k: usize, j: usize, x: Row) -> Row
-    requires { ⌜ Prepared (suc j) (now primes) (now rows) (now reach) × (k ≤ j) × Small k (now primes) x ⌝ }
+    requires { ⌜ Conjugand k j (now primes) (now rows) (now reach) x ⌝ }
     ensures { λ r. ⌜ Conjugate k j (now (primes .entry)) (now (rows .entry)) x r ⌝ }
 {
     let m = moved(rows, reach, k, j, x);

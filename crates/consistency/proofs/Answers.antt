@@ -4,6 +4,7 @@
 --   answer-none, answer-more, answer-fails     the test of every generator, one after another
 --   power-kept, commutator-kept, power-fixed, inner-at     the single tests
 --   commutator-low, commutator-high, inner-central    the same where a generator commutes with every one up to i
+--   powers-all, commutators-all, inner-all     the tests of all generators or pairs as the definitions name them
 --   level-first, level-second, level-third, level-last     the test of a generator, by its first part that fails
 use mathlib.Core.Path.{_≡_, refl, sym, _∙_, ap, ap₂, subst}
 use mathlib.Core.Bool.{Bool, true, false, _&&_}

@@ -186,13 +186,13 @@ carry-returns-2 t c =
     carried (z .pre .1 .0) (u .word .ensures) (z .pre .1 .1) (c .before .before .product .ensures) (c .copied .ensures)
 
 conjugate-moved-requires : (t : ℕ) → conjugate-lts.Need-moved-requires (conjugate-claims t) (conjugate-at t) conjugate.Post
-conjugate-moved-requires t c κs = (c .pre .1 .1, omega (arith, c .pre .1 .0 .ranged .few), c .pre .1 .0 .quiet .at (c .args .j) (omega arith))
+conjugate-moved-requires t c κs = let q = c .pre .1 in (q .level, omega (arith, q .prepared .ranged .few), q .prepared .quiet .at (c .args .j) (omega arith))
 
 conjugate-returns : (t : ℕ) → conjugate-lts.Need-returns (conjugate-claims t) (conjugate-at t) conjugate.Post
 conjugate-returns t c =
     let m = c .before in
     let z = m .before in
-    conjugate-still (z .pre .1 .0) (z .pre .1 .1) (z .pre .1 .2) (m .moved .ensures) (c .if1 .taken)
+    conjugate-still (z .pre .1) (m .moved .ensures) (c .if1 .taken)
 
 conjugate-sub-l : (t : ℕ) → conjugate-lts.Need-sub-l (conjugate-claims t) (conjugate-at t) conjugate.Post
 conjugate-sub-l t c = search needs
@@ -201,8 +201,8 @@ conjugate-conjugate-requires : (t : ℕ) → conjugate-lts.Need-conjugate-requir
 conjugate-conjugate-requires t c κs =
     let m = c .before in
     let z = m .before in
-    let asked = lower-asks (z .pre .1 .0) (z .pre .1 .1) (z .pre .1 .2) (m .moved .ensures) (c .if1 .left) in
-    (omega (arith, z .pre .0, asked .1, m .moved .ensures .less, c .if1 .left), asked)
+    let asked = lower-asks (z .pre .1) (m .moved .ensures) (c .if1 .left) in
+    (omega (arith, z .pre .0, asked .level, m .moved .ensures .less, c .if1 .left), asked)
 
 conjugate-mul-z : (t : ℕ) → conjugate-lts.Need-mul-z (conjugate-claims t) (conjugate-at t) conjugate.Post
 conjugate-mul-z t c = search needs
@@ -211,14 +211,14 @@ conjugate-array-write-z : (t : ℕ) → conjugate-lts.Need-array-write-z (conjug
 conjugate-array-write-z t c =
     let m = c .before .before in
     let z = m .before in
-    moved-within (z .pre .1 .0) (z .pre .1 .1) (z .pre .1 .2) (m .moved .ensures) (c .before .if1 .left)
+    moved-within (z .pre .1) (m .moved .ensures) (c .before .if1 .left)
 
 conjugate-image-requires : (t : ℕ) → conjugate-lts.Need-image-requires (conjugate-claims t) (conjugate-at t) conjugate.Post
 conjugate-image-requires t c κs =
     let m = c .before .before in
     let z = m .before in
-    let low = moved-level (z .pre .1 .0) (z .pre .1 .1) (z .pre .1 .2) (m .moved .ensures) (c .before .if1 .left) in
-    (omega (arith, z .pre .0), (z .pre .1 .0, omega (arith, z .pre .1 .1)))
+    let low = moved-level (z .pre .1) (m .moved .ensures) (c .before .if1 .left) in
+    (omega (arith, z .pre .0), (z .pre .1 .prepared, omega (arith, z .pre .1 .level)))
 
 conjugate-mul-power : (t : ℕ) → conjugate-lts.Need-mul-power (conjugate-claims t) (conjugate-at t) conjugate.Post
 conjugate-mul-power t c = search needs
@@ -227,14 +227,14 @@ conjugate-array-read-power : (t : ℕ) → conjugate-lts.Need-array-read-power (
 conjugate-array-read-power t c =
     let m = c .before .before .before in
     let z = m .before in
-    moved-within (z .pre .1 .0) (z .pre .1 .1) (z .pre .1 .2) (m .moved .ensures) (c .before .before .if1 .left)
+    moved-within (z .pre .1) (m .moved .ensures) (c .before .before .if1 .left)
 
 conjugate-power-requires : (t : ℕ) → conjugate-lts.Need-power-requires (conjugate-claims t) (conjugate-at t) conjugate.Post
 conjugate-power-requires t c κs =
     let m = c .before .before .before in
     let z = m .before in
     let few = m .moved .ensures .less in
-    (omega (arith, z .pre .0), power-asks (z .pre .1 .0) (z .pre .1 .1) (z .pre .1 .2) (m .moved .ensures) (c .before .before .if1 .left) (c .image .ensures))
+    (omega (arith, z .pre .0), power-asks (z .pre .1) (m .moved .ensures) (c .before .before .if1 .left) (c .image .ensures))
 
 conjugate-product-requires : (t : ℕ) → conjugate-lts.Need-product-requires (conjugate-claims t) (conjugate-at t) conjugate.Post
 conjugate-product-requires t c κs =
@@ -244,7 +244,7 @@ conjugate-product-requires t c κs =
     let few = m .moved .ensures .less in
     let long : length (q .conjugate .result) ≡ maxGenerators = search needs in (
       omega (arith, z .pre .0),
-      product-asks (z .pre .1 .0) (z .pre .1 .1) (z .pre .1 .2) (m .moved .ensures) (q .before .if1 .left) long (q .conjugate .ensures) (c .power .ensures),
+      product-asks (z .pre .1) (m .moved .ensures) (q .before .if1 .left) long (q .conjugate .ensures) (c .power .ensures),
     )
 
 conjugate-mul-stacked : (t : ℕ) → conjugate-lts.Need-mul-stacked (conjugate-claims t) (conjugate-at t) conjugate.Post
@@ -254,13 +254,13 @@ conjugate-array-read-stacked : (t : ℕ) → conjugate-lts.Need-array-read-stack
 conjugate-array-read-stacked t c =
     let m = c .before .before .before .before .before in
     let z = m .before in
-    moved-within (z .pre .1 .0) (z .pre .1 .1) (z .pre .1 .2) (m .moved .ensures) (c .before .before .before .before .if1 .left)
+    moved-within (z .pre .1) (m .moved .ensures) (c .before .before .before .before .if1 .left)
 
 conjugate-stacked-requires : (t : ℕ) → conjugate-lts.Need-stacked-requires (conjugate-claims t) (conjugate-at t) conjugate.Post
 conjugate-stacked-requires t c κs =
     let m = c .before .before .before .before .before in
     let z = m .before in
-    moved-within (z .pre .1 .0) (z .pre .1 .1) (z .pre .1 .2) (m .moved .ensures) (c .before .before .before .before .if1 .left)
+    moved-within (z .pre .1) (m .moved .ensures) (c .before .before .before .before .if1 .left)
 
 conjugate-returns-2 : (t : ℕ) → conjugate-lts.Need-returns-2 (conjugate-claims t) (conjugate-at t) conjugate.Post
 conjugate-returns-2 t c =
@@ -268,7 +268,7 @@ conjugate-returns-2 t c =
     let m = q .before .before in
     let z = m .before in
     let long : length (q .conjugate .result) ≡ maxGenerators = search needs in
-    conjugate-top (z .pre .1 .0) (z .pre .1 .1) (z .pre .1 .2) (m .moved .ensures) (q .before .if1 .left) long (q .conjugate .ensures)
+    conjugate-top (z .pre .1) (m .moved .ensures) (q .before .if1 .left) long (q .conjugate .ensures)
     (c .before .before .before .image .ensures) (c .before .before .power .ensures) (c .before .product .ensures) (c .stacked .ensures)
 
 image-word-requires : (t : ℕ) → image-lts.Need-word-requires (image-claims t) (image-at t) image.Post
@@ -519,7 +519,7 @@ turned-loop-holds t c = turning-start (c .before .before .pre .1 .1)
 turned-conjugate-requires : (t : ℕ) → turned-lts.Need-conjugate-requires (turned-claims t) (turned-at t) turned.Post turned-Inv-loop turned-μ-loop
 turned-conjugate-requires t c κs =
     let z = c .before .before .before .before in
-    (omega (arith, z .pre .0), (z .pre .1 .0, omega arith, c .before .loop .inv .small))
+    (omega (arith, z .pre .0), record { prepared = z .pre .1 .0; level = omega arith; small = c .before .loop .inv .small })
 
 turned-add-n : (t : ℕ) → turned-lts.Need-add-n (turned-claims t) (turned-at t) turned.Post turned-Inv-loop turned-μ-loop
 turned-add-n t c = omega (arith, c .before .before .loop .inv .total)

@@ -10,7 +10,7 @@ word-requires : tie.Need-word-requires
 word-requires c κs = search needs
 
 conjugate-requires : tie.Need-conjugate-requires
-conjugate-requires c κs = let z = c .before in (z .pre, omega arith, power-word-small (z .pre) (c .word .ensures))
+conjugate-requires c κs = let z = c .before in record { prepared = z .pre; level = omega arith; small = power-word-small (z .pre) (c .word .ensures) }
 
 same-requires : tie.Need-same-requires
 same-requires c κs = search needs

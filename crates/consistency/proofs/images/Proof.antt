@@ -24,7 +24,9 @@ generator-requires : tie.Need-generator-requires Inv-loop μ-loop
 generator-requires c κs = search needs
 
 conjugate-requires : tie.Need-conjugate-requires Inv-loop μ-loop
-conjugate-requires c κs = let z = c .before .before .before in (z .pre, omega arith, generator-small (z .pre) (c .generator .ensures))
+conjugate-requires c κs =
+    let z = c .before .before .before in
+    record { prepared = z .pre; level = omega arith; small = generator-small (z .pre) (c .generator .ensures) }
 
 mul-h : tie.Need-mul-h Inv-loop μ-loop
 mul-h c = search needs
