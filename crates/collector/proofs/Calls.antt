@@ -41,10 +41,10 @@ module _ {k b : ℕ} {ps : List ℕ} {rows : List (List ℕ)} {x : List ℕ} whe
       keeps = moved-reach (omega arith) (omega arith) (subst (Reach rows k) e (P .quiet .at k (omega arith)))
 
   pub conjugated-still : {reach : List ℕ} → Prepared (suc k) ps rows reach → getD reach k 0 ≡ 0 → Small k ps x → TurnedInPlace k b ps rows x x
-  conjugated-still P e s = record { turned = turned-still P e s; kept = kept-all k x }
+  conjugated-still P e s = record { turned = turned-still P e s; kept = kept-all }
 
   pub conjugated : {c r : List ℕ} → Turned k b ps rows x c → Mixed c x k r → TurnedInPlace k b ps rows x r
-  conjugated {c} {r} t m = record { turned = turned-same (m .below) t; kept = mixed-kept c x k r m }
+  conjugated t m = record { turned = turned-same (m .below) t; kept = mixed-kept m }
 
 -- ---- The power word, times a form
 
@@ -57,17 +57,17 @@ module _ {k : ℕ} {ps : List ℕ} {rows : List (List ℕ)} {reach u x : List �
   }
 
   pub carried-none : {t : ℕ} → Top k u t → t ≡ 0 → CarriedInPlace k ps rows x x
-  carried-none a e = record { product = subst (λ v. Product k ps rows v x x) ue (product-left (subst (Top k u) e a) sx); kept = kept-all k x }
+  carried-none a e = record { product = subst (λ v. Product k ps rows v x x) ue (product-left (subst (Top k u) e a) sx); kept = kept-all }
 
   pub carried : {v r : List ℕ} → Product k ps rows u x v → Mixed v x k r → CarriedInPlace k ps rows x r
-  carried {v} {r} q m = record { product = product-same (m .below) (subst (λ w. Product k ps rows w x v) ue q); kept = mixed-kept v x k r m }
+  carried {v} q m = record { product = product-same (m .below) (subst (λ w. Product k ps rows w x v) ue q); kept = mixed-kept m }
 
 -- ---- Product
 
 -- m is one more than the place of the highest exponent of y
 module _ {i m : ℕ} {ps : List ℕ} {rows : List (List ℕ)} {reach x y : List ℕ} (F : Factors i ps rows reach x y) (over : Top i y m) where
   pub multiply-none : m ≡ 0 → MultipliedInPlace i ps rows x y x
-  multiply-none e = record { product = product-none (subst (Top i y) e over) (F .left); kept = kept-all i x }
+  multiply-none e = record { product = product-none (subst (Top i y) e over) (F .left); kept = kept-all }
 
   module _ (some : m ≢ 0) where
     pub top-level : m - 1 < i
@@ -94,7 +94,7 @@ module _ {i m : ℕ} {ps : List ℕ} {rows : List (List ℕ)} {reach x y : List 
 
         module _ {x₂ : List ℕ} (q : MultipliedInPlace (m - 1) ps rows x₁ y x₂) where
           kept : Kept (m - 1) x x₂
-          kept = kept-then (m - 1) (m - 1) x x₁ x₂ (omega arith) (t .kept) (q .kept)
+          kept = kept-then (omega arith) (t .kept) (q .kept)
 
           top-is : getD x₂ (m - 1) 0 ≡ getD x (m - 1) 0
           top-is = kept .above (m - 1) (omega arith)
@@ -115,29 +115,29 @@ module _ {i m : ℕ} {ps : List ℕ} {rows : List (List ℕ)} {reach x y : List 
               → MultipliedInPlace i ps rows x y (set x₂ (m - 1) (getD x₂ (m - 1) 0 + getD y (m - 1) 0))
           multiply-low h = record {
             product = product-low-at i m ps rows x y x₁ x₂ (omega arith) over (F .left) (t .turned) (q .product) _ stacked (omega (arith, top-is));
-            kept = stored-kept (m - 1) i _ x x₂ top-level kept;
+            kept = stored-kept _ top-level kept;
           }
             where
               stacked : Stacked (m - 1) x₂ x (getD x (m - 1) 0 + getD y (m - 1) 0) (set x₂ (m - 1) (getD x₂ (m - 1) 0 + getD y (m - 1) 0))
               stacked = subst (λ a. Stacked (m - 1) x₂ x (a + getD y (m - 1) 0) (set x₂ (m - 1) (getD x₂ (m - 1) 0 + getD y (m - 1) 0))) top-is
-                  (kept-stacked (m - 1) _ x x₂ (omega (arith, top-within, kept .long)) kept)
+                  (kept-stacked (omega (arith, top-within, kept .long)) kept)
 
           pub multiply-high : {v : List ℕ} → CarriedInPlace (m - 1) ps rows x₂ v → getD ps (m - 1) 0 ≤ getD x₂ (m - 1) 0 + getD y (m - 1) 0
               → MultipliedInPlace i ps rows x y (set v (m - 1) (getD x₂ (m - 1) 0 + getD y (m - 1) 0 - getD ps (m - 1) 0))
           multiply-high {v} a h = record {
             product = product-high-at i m ps rows x y x₁ x₂ (omega arith) over (F .left) (t .turned) (q .product) _ v _ refl (a .product) stacked (omega (arith, top-is)) (F .right);
-            kept = stored-kept (m - 1) i _ x v top-level kept′;
+            kept = stored-kept _ top-level kept′;
           }
             where
               s : ℕ
               s = getD x₂ (m - 1) 0 + getD y (m - 1) 0 - getD ps (m - 1) 0
 
               kept′ : Kept (m - 1) x v
-              kept′ = kept-then (m - 1) (m - 1) x x₂ v (omega arith) kept (a .kept)
+              kept′ = kept-then (omega arith) kept (a .kept)
 
               stacked : Stacked (m - 1) v x (getD x (m - 1) 0 + getD y (m - 1) 0 - getD ps (m - 1) 0) (set v (m - 1) s)
               stacked = subst (λ a. Stacked (m - 1) v x (a + getD y (m - 1) 0 - getD ps (m - 1) 0) (set v (m - 1) s)) top-is
-                  (kept-stacked (m - 1) s x v (omega (arith, top-within, kept′ .long)) kept′)
+                  (kept-stacked (omega (arith, top-within, kept′ .long)) kept′)
 
 -- ---- Powers
 

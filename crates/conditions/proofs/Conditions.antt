@@ -1,7 +1,7 @@
 -- Laws of the conditions of refusals 13 and 14.
 --
 --   product-zero, product-suc, product-order, product-mono     the product of primes
---   product-turn, elements-turn   a turn of the product and of the elements
+--   product-turn, elements-turn, turn-fits     a turn of the product and of the elements; it stays below the ceiling
 --   words-fit, order-exceeds, order-within     the ceiling
 --   entry-high, entry-zero, entry-power, entry-commutator     an exponent, case by case
 --   p-power, p-commutator, pair-stray, pair-row     a line, by its p and its word
@@ -60,6 +60,9 @@ product-mono primes m (suc n) l h = pick (ℕ-discrete m (suc n)) (λ k. product
 pub product-turn : (primes : List ℕ) (j x y : ℕ) → x ≡ product primes j → y ≡ getD primes j 0 → x * y ≡ product primes (j + 1)
 product-turn primes j x y q r =
     mul-comm x y ∙ ap₂ (λ (a b : ℕ). a * b) r q ∙ sym (product-suc primes j) ∙ ap (product primes) (sym (add-one j))
+
+pub turn-fits : (primes : List ℕ) (n j x : ℕ) → ((k : ℕ) → k ≤ n → product primes k ≤ maxOrder) → j < n → x ≡ product primes j → x * getD primes j 0 ≤ maxOrder
+turn-fits primes n j x b l q = omega (arith, product-turn primes j x _ q refl, b (j + 1) (omega arith))
 
 -- one level more of elements
 pub elements-turn : (primes : List ℕ) (j x y : ℕ) → x ≡ sum j (λ i. product primes (suc i)) → y ≡ product primes (j + 1)

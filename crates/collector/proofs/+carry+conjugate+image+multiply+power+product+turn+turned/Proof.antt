@@ -367,9 +367,9 @@ multiply-element-copy-out-s t c =
 multiply-add-s : (t : ℕ) → multiply-lts.Need-add-s (multiply-claims t) (multiply-at t) multiply.Post
 multiply-add-s t c =
     let x = c .before .before .before in
-    let m = x .before .before .before .before in
-    let z = m .before .before in
-    omega (arith, sum-fits (z .pre .1 .0) (m .top .ensures) (x .before .before .before .if1 .left) (z .pre .1 .1) (x .turn .ensures) (c .before .multiply .ensures))
+    let e = x .before .before .before in
+    let z = e .before .before .before in
+    omega (arith, sum-fits (z .pre .1 .0) (e .before .top .ensures) (e .if1 .left) (z .pre .1 .1) (x .turn .ensures) (c .before .multiply .ensures))
 
 multiply-mul-p : (t : ℕ) → multiply-lts.Need-mul-p (multiply-claims t) (multiply-at t) multiply.Post
 multiply-mul-p t c = search needs
@@ -389,20 +389,20 @@ multiply-element-write-x t c =
 
 multiply-returns-2 : (t : ℕ) → multiply-lts.Need-returns-2 (multiply-claims t) (multiply-at t) multiply.Post
 multiply-returns-2 t c =
-    let x = c .before .before .before .before .before in
+    let q = c .before .before .before in
+    let x = q .before .before in
     let e = x .before .before .before in
     let z = e .before .before .before in
-    multiply-low (z .pre .1 .0) (e .before .top .ensures) (e .if1 .left) (z .pre .1 .1) (x .turn .ensures) (c .before .before .before .multiply .ensures) (c .if2 .taken)
+    multiply-low (z .pre .1 .0) (e .before .top .ensures) (e .if1 .left) (z .pre .1 .1) (x .turn .ensures) (q .multiply .ensures) (c .if2 .taken)
 
 multiply-carry-requires : (t : ℕ) → multiply-lts.Need-carry-requires (multiply-claims t) (multiply-at t) multiply.Post
 multiply-carry-requires t c κs =
-    let x = c .before .before .before .before .before .before in
+    let q = c .before .before .before .before in
+    let x = q .before .before in
     let e = x .before .before .before in
     let z = e .before .before .before in
-    let low = top-level (z .pre .1 .0) (e .before .top .ensures) (e .if1 .left) in (
-      omega (arith, z .pre .0),
-      carry-asks (z .pre .1 .0) (e .before .top .ensures) (e .if1 .left) (z .pre .1 .1) (x .turn .ensures) (c .before .before .before .before .multiply .ensures),
-    )
+    let low = top-level (z .pre .1 .0) (e .before .top .ensures) (e .if1 .left) in
+    (omega (arith, z .pre .0), carry-asks (z .pre .1 .0) (e .before .top .ensures) (e .if1 .left) (z .pre .1 .1) (x .turn .ensures) (q .multiply .ensures))
 
 multiply-mul-x-2 : (t : ℕ) → multiply-lts.Need-mul-x-2 (multiply-claims t) (multiply-at t) multiply.Post
 multiply-mul-x-2 t c = search needs

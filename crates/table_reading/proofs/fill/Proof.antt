@@ -54,7 +54,9 @@ loop-less c =
 
 loop-again : tie.Need-loop-again Inv-loop μ-loop
 loop-again c =
-    filling-more (c .before .before .before .before .before .loop .inv) (omega arith) (c .before .before .before .next-word .ensures .stands _ _ (c .before .v .given .1))
+    let v = c .before in
+    let w = v .before .before in
+    filling-more (w .before .before .loop .inv) (omega arith) (w .next-word .ensures .stands _ _ (v .v .given .1))
 
 same-length-2 : tie.Need-same-length-2 Inv-loop μ-loop
 same-length-2 c = filling-length (c .before .loop .inv)

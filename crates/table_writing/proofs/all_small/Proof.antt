@@ -25,8 +25,7 @@ shared-slice-read-if1 : tie.Need-shared-slice-read-if1 Inv-loop μ-loop
 shared-slice-read-if1 c = omega arith
 
 returns : tie.Need-returns Inv-loop μ-loop
-returns c =
-    small-fails (c .before .before .before .before .args .words .now) (c .before .before .before .loop .k) (omega arith) (omega arith)
+returns c = let l = c .before .before .before in small-fails (l .before .args .words .now) (l .loop .k) (omega arith) (omega arith)
 
 add-k : tie.Need-add-k Inv-loop μ-loop
 add-k c = omega arith
@@ -35,11 +34,10 @@ loop-less : tie.Need-loop-less Inv-loop μ-loop
 loop-less c = omega arith
 
 loop-again : tie.Need-loop-again Inv-loop μ-loop
-loop-again c =
-    small-more (c .before .before .before .before .args .words .now) (c .before .before .before .loop .k) (omega arith) (c .before .before .before .loop .inv) (omega arith)
+loop-again c = let l = c .before .before .before in small-more (l .before .args .words .now) (l .loop .k) (omega arith) (l .loop .inv) (omega arith)
 
 returns-2 : tie.Need-returns-2 Inv-loop μ-loop
-returns-2 c = small-all (c .before .before .args .words .now) (c .before .loop .k) (omega arith) (c .before .loop .inv)
+returns-2 c = let l = c .before in small-all (l .before .args .words .now) (l .loop .k) (omega arith) (l .loop .inv)
 
 pub all-small-spec : {M : Type 1} → statement M
 all-small-spec =
