@@ -114,7 +114,7 @@ module _ {i m : ℕ} {ps : List ℕ} {rows : List (List ℕ)} {reach x y : List 
           pub multiply-low : getD x₂ (m - 1) 0 + getD y (m - 1) 0 < getD ps (m - 1) 0
               → MultipliedInPlace i ps rows x y (set x₂ (m - 1) (getD x₂ (m - 1) 0 + getD y (m - 1) 0))
           multiply-low h = record {
-            product = product-low-at i m ps rows x y x₁ x₂ (omega arith) over (F .left) (t .turned) (q .product) _ stacked (omega (arith, top-is));
+            product = product-low-at (omega arith) over (F .left) (t .turned) (q .product) stacked (omega (arith, top-is));
             kept = stored-kept _ top-level kept;
           }
             where
@@ -125,7 +125,7 @@ module _ {i m : ℕ} {ps : List ℕ} {rows : List (List ℕ)} {reach x y : List 
           pub multiply-high : {v : List ℕ} → CarriedInPlace (m - 1) ps rows x₂ v → getD ps (m - 1) 0 ≤ getD x₂ (m - 1) 0 + getD y (m - 1) 0
               → MultipliedInPlace i ps rows x y (set v (m - 1) (getD x₂ (m - 1) 0 + getD y (m - 1) 0 - getD ps (m - 1) 0))
           multiply-high {v} a h = record {
-            product = product-high-at i m ps rows x y x₁ x₂ (omega arith) over (F .left) (t .turned) (q .product) _ v _ refl (a .product) stacked (omega (arith, top-is)) (F .right);
+            product = product-high-at (omega arith) over (F .left) (t .turned) (q .product) refl (a .product) stacked (omega (arith, top-is)) (F .right);
             kept = stored-kept _ top-level kept′;
           }
             where
@@ -198,6 +198,6 @@ module _ {k j m : ℕ} {ps : List ℕ} {rows : List (List ℕ)} {reach x : List 
 
       pub conjugate-top : {h r s t : List ℕ} → Image j (m - 1) ps rows h → Power m ps rows h r (getD x (m - 1) 0)
           → Product m ps rows r (set z (m - 1) 0) s → Stacked (m - 1) s x (getD s (m - 1) 0) t → Conjugate k j ps rows x t
-      conjugate-top {h} {r} {s} {t} qh qr qs st = conjugate-up j ps rows x t m k (Q .level) over (λ n a. st .above n (omega arith)) (Q .small)
+      conjugate-top {h} {r} {s} {t} qh qr qs st = conjugate-up (Q .level) over (λ n a. st .above n (omega arith)) (Q .small)
           (subst (λ n. Conjugate n j ps rows x t) level (conjugate-moves (omega (arith, moved-level, Q .level)) (omega (arith, moved-within)) q qh
           (subst (λ n. Power n ps rows h r (getD x (m - 1) 0)) (sym level) qr) (subst (λ n. Product n ps rows r (set z (m - 1) 0) s) (sym level) qs) st))

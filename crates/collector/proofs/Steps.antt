@@ -28,7 +28,7 @@ use Rattle.definitions.specs.Lists.{iter}
 use Rattle.definitions.specs.Presentation.{maxGenerators, toNF, trivial, Valid, power, pairNumber}
 use Rattle.definitions.specs.Consistency.{mul, conj, forms, sameForm}
 use Rattle.numbers.proofs.Bools.{or-cases, OneOf, first, second}
-use Rattle.numbers.proofs.Lists.{below-suc, iter-zero, iter-suc, iter-add, iter-fix, iter-period}
+use Rattle.numbers.proofs.Lists.{iter-zero, iter-suc, iter-add, iter-fix, iter-period}
 use Rattle.group.specs.Context.{Context}
 use Rattle.group.proofs.Values.{power-zero, power-suc}
 use Rattle.group.proofs.Clauses.{mulStep-below, mulStep-over, mul-suc, conj-suc, sameForm-eq}
@@ -36,9 +36,9 @@ use Rattle.group.proofs.Units.{mul-trivial-left, mul-trivial-right, mul-top-bel
 use Rattle.group.proofs.Level.{trivial-valid}
 use Rattle.group.proofs.Rows.{toNF-suc, toNF-ext, toNF-set-top, toNF-trivial}
 use Rattle.rows.specs.Rows.{Small, Ranged, Reads, Single, Top, Stacked}
-use Rattle.rows.proofs.Forms.{zeros, single-row, small-below, reads-below, small-valid, small-set, small-zeros, word-small}
+use Rattle.rows.proofs.Forms.{zeros, single-row, small-below, reads-below, small-valid, small-set, small-top, small-zeros, word-small}
 use Rattle.rows.proofs.Parts.{climb}
-use Rattle.commuting.specs.Commuting.{keeps, KeepsFrom}
+use Rattle.commuting.specs.Commuting.{emptyAt, keeps, KeepsFrom}
 use Rattle.collector.specs.Products.{Product, Image, Conjugate, Remaining, Power, Scaled, Turned}
 
 -- ---- Turns of a map
@@ -76,7 +76,8 @@ module _ {k b : ℕ} {ps : List ℕ} {rows : List (List ℕ)} {x : List ℕ} whe
 
       more : (C : Context) → Reads (C .P) (suc k) ps rows → iter (conj (C .P) k k) (left - 1) (toNF k d) ≡ iter (conj (C .P) k k) b (toNF k x)
       more C R = let e : suc (left - 1) ≡ left = omega arith in
-          ap (iter (conj (C .P) k k) (left - 1)) (q .is C R) ∙ sym (iter-suc (conj (C .P) k k) (left - 1) (toNF k c)) ∙ ap (λ m. iter (conj (C .P) k k) m (toNF k c)) e ∙ t .is C R .1
+          ap (iter (conj (C .P) k k) (left - 1)) (q .is C R) ∙ sym (iter-suc (conj (C .P) k k) (left - 1) (toNF k c))
+          ∙ ap (λ m. iter (conj (C .P) k k) m (toNF k c)) e ∙ t .is C R .1
 
   pub turned-done : {c : List ℕ} {n left : ℕ} → left ≡ 0 → Turning k b ps rows x c n left → Turned k b ps rows x c
   turned-done {c} e t = record {
@@ -90,14 +91,14 @@ module _ {k b : ℕ} {ps : List ℕ} {rows : List (List ℕ)} {x : List ℕ} whe
 
 -- ---- Rows that agree
 
-small-same : (k : ℕ) (ps x r : List ℕ) → ((m : ℕ) → m < k → getD r m 0 ≡ getD x m 0) → Small k ps x → Small k ps r
-small-same k ps x r e s = record { below = λ m l. subst (λ v. v < getD ps m 0) (sym (e m l)) (s .below m l) }
+small-same : {k : ℕ} {ps x r : List ℕ} → ((m : ℕ) → m < k → getD r m 0 ≡ getD x m 0) → Small k ps x → Small k ps r
+small-same {ps = ps} e s = record { below = λ m l. subst (λ v. v < getD ps m 0) (sym (e m l)) (s .below m l) }
 
 pub turned-same : {k b : ℕ} {ps : List ℕ} {rows : List (List ℕ)} {x c r : List ℕ} → ((m : ℕ) → m < k → getD r m 0 ≡ getD c m 0) → Turned k b ps rows x c → Turned k b ps rows x r
-turned-same {k} {b} {ps} {rows} {x} {c} {r} e t = record { small = small-same k ps c r e (t .small); is = λ C R. toNF-ext k r c e ∙ t .is C R }
+turned-same {k} {c = c} {r = r} e t = record { small = small-same e (t .small); is = λ C R. toNF-ext k r c e ∙ t .is C R }
 
 pub product-same : {k : ℕ} {ps : List ℕ} {rows : List (List ℕ)} {x y z r : List ℕ} → ((m : ℕ) → m < k → getD r m 0 ≡ getD z m 0) → Product k ps rows x y z → Product k ps rows x y r
-product-same {k} {ps} {rows} {x} {y} {z} {r} e t = record { small = small-same k ps z r e (t .small); is = λ C R. toNF-ext k r z e ∙ t .is C R }
+product-same {k} {z = z} {r = r} e t = record { small = small-same e (t .small); is = λ C R. toNF-ext k r z e ∙ t .is C R }
 
 -- no exponent in x
 pub product-left : {i : ℕ} {ps : List ℕ} {rows : List (List ℕ)} {x y : List ℕ} → Top i x 0 → Small i ps y → Product i ps rows x y y
@@ -108,47 +109,45 @@ product-left {i} {ps} {rows} {x} {y} t s = record {
 }
 
 -- the form of a row of two
-stacked-is : (k : ℕ) (low high : List ℕ) (s : ℕ) (r : List ℕ) → Stacked k low high s r → toNF (suc k) r ≡ (s, toNF k low)
-stacked-is k low high s r t = toNF-suc k r ∙ ap₂ (λ a b. (a, b)) (t .at) (toNF-ext k r low (t .below))
+stacked-is : {k : ℕ} {low high : List ℕ} {s : ℕ} {r : List ℕ} → Stacked k low high s r → toNF (suc k) r ≡ (s, toNF k low)
+stacked-is {k} {low} {r = r} t = toNF-suc k r ∙ ap₂ (λ a b. (a, b)) (t .at) (toNF-ext k r low (t .below))
 
-stacked-small : (k : ℕ) (ps low high : List ℕ) (s : ℕ) (r : List ℕ) → Stacked k low high s r → Small k ps low → s < getD ps k 0 → Small (suc k) ps r
-stacked-small k ps low high s r t q l = record {
-  below = below-suc k (λ m. getD r m 0 < getD ps m 0) (λ m a. subst (λ v. v < getD ps m 0) (sym (t .below m a)) (q .below m a)) (subst (λ v. v < getD ps k 0) (sym (t .at)) l);
-}
+stacked-small : {k : ℕ} {ps low high : List ℕ} {s : ℕ} {r : List ℕ} → Stacked k low high s r → Small k ps low → s < getD ps k 0 → Small (suc k) ps r
+stacked-small t q l = small-top (small-same (t .below) q) (omega (arith, t .at))
 
-module _ (k b : ℕ) (ps : List ℕ) (rows : List (List ℕ)) (x y c z : List ℕ) (e : b ≡ getD y k 0) (t : Turned k b ps rows x c) (q : Product k ps rows c y z) where
+module _ {k b : ℕ} {ps : List ℕ} {rows : List (List ℕ)} {x y c z : List ℕ} (e : b ≡ getD y k 0) (t : Turned k b ps rows x c) (q : Product k ps rows c y z) where
   rest-is : (C : Context) → Reads (C .P) (suc k) ps rows → toNF k z ≡ mul (C .P) k (iter (conj (C .P) k k) (getD y k 0) (toNF k x)) (toNF k y)
   rest-is C R = q .is C (reads-below (omega arith) R)
       ∙ ap (λ s. mul (C .P) k s (toNF k y)) (t .is C R ∙ ap (λ m. iter (conj (C .P) k k) m (toNF k x)) e)
 
-  pub product-low : (r : List ℕ) → Stacked k z x (getD x k 0 + b) r → getD x k 0 + b < getD ps k 0 → Product (suc k) ps rows x y r
-  product-low r st h = record { small = stacked-small k ps z x _ r st (q .small) h; is = equal }
+  pub product-low : {r : List ℕ} → Stacked k z x (getD x k 0 + b) r → getD x k 0 + b < getD ps k 0 → Product (suc k) ps rows x y r
+  product-low {r} st h = record { small = stacked-small st (q .small) h; is = equal }
     where
       equal : (C : Context) → Reads (C .P) (suc k) ps rows → toNF (suc k) r ≡ mul (C .P) (suc k) (toNF (suc k) x) (toNF (suc k) y)
       equal C R =
           let w : getD x k 0 + getD y k 0 < C .P .p k = omega (arith, R .p-is k (omega arith)) in
-          stacked-is k z x _ r st ∙ ap₂ (λ s t. (s, t)) (ap (λ s. getD x k 0 + s) e) (rest-is C R)
+          stacked-is st ∙ ap₂ (λ s t. (s, t)) (ap (λ s. getD x k 0 + s) e) (rest-is C R)
           ∙ sym (mulStep-below (C .P .p k) (mul (C .P) k) (conj (C .P) k k) (C .P .u k) (getD x k 0, toNF k x) (getD y k 0, toNF k y) w)
           ∙ sym (mul-suc (C .P) k _ _) ∙ ap₂ (mul (C .P) (suc k)) (sym (toNF-suc k x)) (sym (toNF-suc k y))
 
-  pub product-high : (u v r : List ℕ) → u ≡ getD rows (pairNumber k k) [] → Product k ps rows u z v → Stacked k v x (getD x k 0 + b - getD ps k 0) r → getD ps k 0 ≤ getD x k 0 + b
-      → getD x k 0 + b - getD ps k 0 < getD ps k 0 → Product (suc k) ps rows x y r
-  product-high u v r ue qv st h s = record { small = stacked-small k ps v x _ r st (qv .small) s; is = equal }
+  pub product-high : {u v r : List ℕ} → u ≡ getD rows (pairNumber k k) [] → Product k ps rows u z v → Stacked k v x (getD x k 0 + b - getD ps k 0) r
+      → getD ps k 0 ≤ getD x k 0 + b → getD x k 0 + b - getD ps k 0 < getD ps k 0 → Product (suc k) ps rows x y r
+  product-high {u} {v} {r} ue qv st h s = record { small = stacked-small st (qv .small) s; is = equal }
     where
       equal : (C : Context) → Reads (C .P) (suc k) ps rows → toNF (suc k) r ≡ mul (C .P) (suc k) (toNF (suc k) x) (toNF (suc k) y)
       equal C R =
           let w : C .P .p k ≤ getD x k 0 + getD y k 0 = omega (arith, R .p-is k (omega arith)) in
           let a : getD x k 0 + b - getD ps k 0 ≡ getD x k 0 + getD y k 0 - C .P .p k = omega (arith, R .p-is k (omega arith)) in
-          stacked-is k v x _ r st ∙ ap₂ (λ s t. (s, t)) a (qv .is C (reads-below (omega arith) R)
+          stacked-is st ∙ ap₂ (λ s t. (s, t)) a (qv .is C (reads-below (omega arith) R)
           ∙ ap₂ (mul (C .P) k) (ap (toNF k) ue ∙ R .u-is k (omega arith)) (rest-is C R))
           ∙ sym (mulStep-over (C .P .p k) (mul (C .P) k) (conj (C .P) k k) (C .P .u k) (getD x k 0, toNF k x) (getD y k 0, toNF k y) w)
           ∙ sym (mul-suc (C .P) k _ _) ∙ ap₂ (mul (C .P) (suc k)) (sym (toNF-suc k x)) (sym (toNF-suc k y))
 
 -- above the exponents of y, those of x stay
-module _ (ps : List ℕ) (rows : List (List ℕ)) (x y r : List ℕ) where
-  product-step : (i : ℕ) → getD y i 0 ≡ 0 → getD r i 0 ≡ getD x i 0 → getD x i 0 < getD ps i 0 → Product i ps rows x y r → Product (suc i) ps rows x y r
-  product-step i ye re l q = record {
-    small = record { below = below-suc i (λ m. getD r m 0 < getD ps m 0) (q .small .below) (subst (λ v. v < getD ps i 0) (sym re) l) };
+module _ {ps : List ℕ} {rows : List (List ℕ)} {x y r : List ℕ} where
+  product-step : {i : ℕ} → getD y i 0 ≡ 0 → getD r i 0 ≡ getD x i 0 → getD x i 0 < getD ps i 0 → Product i ps rows x y r → Product (suc i) ps rows x y r
+  product-step {i} ye re l q = record {
+    small = small-top (q .small) (omega (arith, re));
     is = λ C R.
         let w : getD x i 0 + 0 < C .P .p i = omega (arith, R .p-is i (omega arith)) in
         let z : getD x i 0 + 0 ≡ getD x i 0 = omega arith in
@@ -158,27 +157,32 @@ module _ (ps : List ℕ) (rows : List (List ℕ)) (x y r : List ℕ) where
         ∙ sym (mul-suc (C .P) i _ _) ∙ ap₂ (mul (C .P) (suc i)) (sym (toNF-suc i x)) (sym (toNF-suc i y ∙ ap (λ s. (s, toNF i y)) ye));
   }
 
-  pub product-up : (m i : ℕ) → Top i y m → ((k : ℕ) → m ≤ k → k < i → getD r k 0 ≡ getD x k 0) → Small i ps x → Product m ps rows x y r → Product i ps rows x y r
-  product-up m i t re sx = climb (λ k. Product k ps rows x y r) m i (t .less) (λ k a b. product-step k (t .rest k a b) (re k a b) (sx .below k b))
+  pub product-up : {m i : ℕ} → Top i y m → ((k : ℕ) → m ≤ k → k < i → getD r k 0 ≡ getD x k 0) → Small i ps x → Product m ps rows x y r
+      → Product i ps rows x y r
+  product-up {m} {i} t re sx = climb (λ k. Product k ps rows x y r) m i (t .less) (λ k a b. product-step (t .rest k a b) (re k a b) (sx .below k b))
 
 -- no exponent in y
 pub product-none : {i : ℕ} {ps : List ℕ} {rows : List (List ℕ)} {x y : List ℕ} → Top i y 0 → Small i ps x → Product i ps rows x y x
-product-none {i} {ps} {rows} {x} {y} t sx = product-up ps rows x y x 0 i t (λ k a b. refl) sx (record { small = record { below = λ k l. absurd (omega arith) }; is = λ C R. refl })
+product-none t sx = product-up t (λ k a b. refl) sx (record { small = record { below = λ k l. absurd (omega arith) }; is = λ C R. refl })
 
 -- the highest exponent of y is below m
-module _ (i m : ℕ) (ps : List ℕ) (rows : List (List ℕ)) (x y c z : List ℕ) (pos : 0 < m) (over : Top i y m) (sx : Small i ps x)
+module _ {i m : ℕ} {ps : List ℕ} {rows : List (List ℕ)} {x y c z : List ℕ} (pos : 0 < m) (over : Top i y m) (sx : Small i ps x)
     (t : Turned (m - 1) (getD y (m - 1) 0) ps rows x c) (q : Product (m - 1) ps rows c y z) where
-  raised : (low r : List ℕ) (s : ℕ) → Stacked (m - 1) low x s r → Product (suc (m - 1)) ps rows x y r → Product i ps rows x y r
-  raised low r s st a = let level : suc (m - 1) ≡ m = omega arith in
-      product-up ps rows x y r m i over (λ k b l. st .above k (omega arith)) sx (subst (λ n. Product n ps rows x y r) level a)
+  raised : {low r : List ℕ} {s : ℕ} → Stacked (m - 1) low x s r → Product (suc (m - 1)) ps rows x y r → Product i ps rows x y r
+  raised {r = r} st a =
+      let level : suc (m - 1) ≡ m = omega arith in
+      product-up over (λ k b l. st .above k (omega arith)) sx (subst (λ n. Product n ps rows x y r) level a)
 
-  pub product-low-at : (r : List ℕ) → Stacked (m - 1) z x (getD x (m - 1) 0 + getD y (m - 1) 0) r → getD x (m - 1) 0 + getD y (m - 1) 0 < getD ps (m - 1) 0 → Product i ps rows x y r
-  product-low-at r st h = raised z r _ st (product-low (m - 1) _ ps rows x y c z refl t q r st h)
+  pub product-low-at : {r : List ℕ} → Stacked (m - 1) z x (getD x (m - 1) 0 + getD y (m - 1) 0) r
+      → getD x (m - 1) 0 + getD y (m - 1) 0 < getD ps (m - 1) 0 → Product i ps rows x y r
+  product-low-at st h = raised st (product-low refl t q st h)
 
-  pub product-high-at : (u v r : List ℕ) → u ≡ getD rows (pairNumber (m - 1) (m - 1)) [] → Product (m - 1) ps rows u z v
-      → Stacked (m - 1) v x (getD x (m - 1) 0 + getD y (m - 1) 0 - getD ps (m - 1) 0) r → getD ps (m - 1) 0 ≤ getD x (m - 1) 0 + getD y (m - 1) 0 → Small i ps y → Product i ps rows x y r
-  product-high-at u v r ue qv st h sy = raised v r _ st (product-high (m - 1) _ ps rows x y c z refl t q u v r ue qv st h
-      (omega (arith, over .less, sx .below (m - 1) (omega (arith, over .less)), sy .below (m - 1) (omega (arith, over .less)))))
+  pub product-high-at : {u v r : List ℕ} → u ≡ getD rows (pairNumber (m - 1) (m - 1)) [] → Product (m - 1) ps rows u z v
+      → Stacked (m - 1) v x (getD x (m - 1) 0 + getD y (m - 1) 0 - getD ps (m - 1) 0) r
+      → getD ps (m - 1) 0 ≤ getD x (m - 1) 0 + getD y (m - 1) 0 → Small i ps y → Product i ps rows x y r
+  product-high-at ue qv st h sy =
+      let low : m - 1 < i = omega (arith, over .less) in
+      raised st (product-high refl t q ue qv st h (omega (arith, sx .below (m - 1) low, sy .below (m - 1) low)))
 
 -- ---- Powers
 
@@ -192,7 +196,8 @@ module _ {k : ℕ} {ps : List ℕ} {rows : List (List ℕ)} {h : List ℕ} where
   pub powering-more : {r s : List ℕ} {n : ℕ} → Power k ps rows h r n → Product k ps rows h r s → Power k ps rows h s (n + 1)
   powering-more {n = n} t q = record {
     small = q .small;
-    is = λ C R. q .is C R ∙ ap (mul (C .P) k (toNF k h)) (t .is C R) ∙ sym (power-suc (forms (C .P) k) (toNF k h) n) ∙ ap (power (forms (C .P) k) (toNF k h)) (sym (add-one n));
+    is = λ C R. q .is C R ∙ ap (mul (C .P) k (toNF k h)) (t .is C R)
+        ∙ sym (power-suc (forms (C .P) k) (toNF k h) n) ∙ ap (power (forms (C .P) k) (toNF k h)) (sym (add-one n));
   }
 
   pub power-once : Small k ps h → Power k ps rows h h 1
@@ -211,9 +216,7 @@ module _ (k : ℕ) (ps : List ℕ) (rows : List (List ℕ)) (x y s : List ℕ) (
   single-is : (a : ℕ) → a < getD ps k 0 → getD s k 0 ≡ a
       → ((C : Context) → Reads (C .P) (suc k) ps rows → (a, trivial k) ≡ mul (C .P) (suc k) (getD x k 0, trivial k) (getD y k 0, trivial k)) → Product (suc k) ps rows x y s
   single-is a l q h = record {
-    small = record {
-      below = below-suc k (λ m. getD s m 0 < getD ps m 0) (λ m b. subst (λ v. v < getD ps m 0) (sym (ns .rest m (omega arith) b)) (pos m b)) (subst (λ v. v < getD ps k 0) (sym q) l);
-    };
+    small = small-top (record { below = λ m b. omega (arith, ns .rest m (omega arith) b, pos m b) }) (omega (arith, q));
     is = λ C R. trivial-of s ns ∙ ap (λ v. (v, trivial k)) q ∙ h C R ∙ ap₂ (mul (C .P) (suc k)) (sym (trivial-of x nx)) (sym (trivial-of y ny));
   }
 
@@ -283,40 +286,43 @@ module _ {i m : ℕ} {ps : List ℕ} {rows : List (List ℕ)} {x : List ℕ} (re
           (q .at ∙ next ∙ ap (λ v. (getD x (m - 1) 0 + v) % getD ps (m - 1) 0) (sym (single′ .at)))
 
       raised : Product i ps rows x r′ r
-      raised = product-up ps rows x r′ r m i top′ above sx (subst (λ n. Product n ps rows x r′ r) level step)
+      raised = product-up top′ above sx (subst (λ n. Product n ps rows x r′ r) level step)
 
 -- ---- Conjugation
 
 -- conjugation keeps an exponent
-module _ (j : ℕ) (ps : List ℕ) (rows : List (List ℕ)) (x r : List ℕ) where
-  conjugate-step : (l : ℕ) → l < j → keeps rows j l (getD x l 0) ≡ true → getD r l 0 ≡ getD x l 0 → Small (suc l) ps x → Conjugate l j ps rows x r → Conjugate (suc l) j ps rows x r
-  conjugate-step l lj h re sx q = record {
-    small = record { below = below-suc l (λ m. getD r m 0 < getD ps m 0) (q .small .below) (subst (λ v. v < getD ps l 0) (sym re) (sx .below l (omega arith))) };
+module _ {j : ℕ} {ps : List ℕ} {rows : List (List ℕ)} {x r : List ℕ} where
+  conjugate-step : {l : ℕ} → l < j → keeps rows j l (getD x l 0) ≡ true → getD r l 0 ≡ getD x l 0 → Small (suc l) ps x → Conjugate l j ps rows x r
+      → Conjugate (suc l) j ps rows x r
+  conjugate-step {l} lj h re sx q = record {
+    small = small-top (q .small) (omega (arith, re, sx .below l (omega arith)));
     is = λ C R. equal C R (or-cases _ _ h);
   }
     where
       word : List ℕ
       word = getD rows (pairNumber j l) []
 
-      equal : (C : Context) → Reads (C .P) (suc j) ps rows → OneOf (eqb (getD x l 0) 0) (sameForm (suc l) (toNF (suc l) word) (trivial (suc l)))
+      equal : (C : Context) → Reads (C .P) (suc j) ps rows → OneOf (eqb (getD x l 0) 0) (emptyAt (suc l) word)
           → toNF (suc l) r ≡ conj (C .P) (suc l) j (toNF (suc l) x)
       equal C R d = toNF-suc l r ∙ ap₂ (λ s t. (s, t)) re (q .is C R) ∙ sym (go d) ∙ ap (conj (C .P) (suc l) j) (sym (toNF-suc l x))
         where
           valid : Valid (C .P) (suc l) (getD x l 0, toNF l x)
           valid = subst (Valid (C .P) (suc l)) (toNF-suc l x) (small-valid R (omega arith) sx)
 
-          go : OneOf (eqb (getD x l 0) 0) (sameForm (suc l) (toNF (suc l) word) (trivial (suc l))) → conj (C .P) (suc l) j (getD x l 0, toNF l x) ≡ (getD x l 0, conj (C .P) l j (toNF l x))
-          go (first a) = let e = eqb-true (getD x l 0) 0 a in subst (λ t. conj (C .P) (suc l) j (t, toNF l x) ≡ (t, conj (C .P) l j (toNF l x))) (sym e) (conj-zero C l j (toNF l x) (valid .1))
+          go : OneOf (eqb (getD x l 0) 0) (emptyAt (suc l) word) → conj (C .P) (suc l) j (getD x l 0, toNF l x) ≡ (getD x l 0, conj (C .P) l j (toNF l x))
+          go (first a) =
+              subst (λ t. conj (C .P) (suc l) j (t, toNF l x) ≡ (t, conj (C .P) l j (toNF l x))) (sym (eqb-true (getD x l 0) 0 a)) (conj-zero C l j (toNF l x) (valid .1))
           go (second a) = conj-empty C l j (getD x l 0, toNF l x) valid (sym (R .w-is l j lj (omega arith)) ∙ sameForm-eq (suc l) _ _ a)
 
-  pub conjugate-up : (m k : ℕ) → k ≤ j → KeepsFrom rows k j x m → ((q : ℕ) → m ≤ q → getD r q 0 ≡ getD x q 0) → Small k ps x → Conjugate m j ps rows x r → Conjugate k j ps rows x r
-  conjugate-up m k kj t re sx = climb (λ k. Conjugate k j ps rows x r) m k (t .less)
-      (λ q a b. conjugate-step q (omega arith) (t .rest q a b) (re q a) (small-below (omega arith) sx))
+  pub conjugate-up : {m k : ℕ} → k ≤ j → KeepsFrom rows k j x m → ((q : ℕ) → m ≤ q → getD r q 0 ≡ getD x q 0) → Small k ps x → Conjugate m j ps rows x r
+      → Conjugate k j ps rows x r
+  conjugate-up {m} {k} kj t re sx = climb (λ k. Conjugate k j ps rows x r) m k (t .less)
+      (λ q a b. conjugate-step (omega arith) (t .rest q a b) (re q a) (small-below (omega arith) sx))
 
 -- nothing moves
 pub conjugate-none : {k j : ℕ} {ps : List ℕ} {rows : List (List ℕ)} {x : List ℕ} → k ≤ j → KeepsFrom rows k j x 0 → Small k ps x → Conjugate k j ps rows x x
-conjugate-none {k} {j} {ps} {rows} {x} kj t sx =
-    conjugate-up j ps rows x x 0 k kj t (λ q a. refl) sx (record { small = record { below = λ k l. absurd (omega arith) }; is = λ C R. refl })
+conjugate-none kj t sx =
+    conjugate-up kj t (λ q a. refl) sx (record { small = record { below = λ k l. absurd (omega arith) }; is = λ C R. refl })
 
 -- the conjugate of a generator, without a carry and with one
 module _ {j l : ℕ} {ps : List ℕ} {rows : List (List ℕ)} {w : List ℕ} (ready : Ranged (suc j) ps rows) (lj : l < j) (we : w ≡ getD rows (pairNumber j l) []) where
@@ -355,14 +361,14 @@ module _ {l j : ℕ} {ps : List ℕ} {rows : List (List ℕ)} {x z : List ℕ} (
   pub conjugate-moves : {h r s t : List ℕ} → Image j l ps rows h → Power (suc l) ps rows h r (getD x l 0) → Product (suc l) ps rows r (set z l 0) s
       → Stacked l s x (getD s l 0) t → Conjugate (suc l) j ps rows x t
   conjugate-moves {h} {r} {s} {t} qh qr qs st = record {
-    small = stacked-small l ps s x _ t st (small-below (omega arith) (qs .small)) (qs .small .below l (omega arith));
+    small = stacked-small st (small-below (omega arith) (qs .small)) (qs .small .below l (omega arith));
     is = equal;
   }
     where
       equal : (C : Context) → Reads (C .P) (suc j) ps rows → toNF (suc l) t ≡ conj (C .P) (suc l) j (toNF (suc l) x)
       equal C R =
           let R′ = reads-below {m = suc l} (omega arith) R in
-          stacked-is l s x _ t st ∙ sym (toNF-suc l s) ∙ qs .is C R′ ∙ ap₂ (mul (C .P) (suc l))
+          stacked-is st ∙ sym (toNF-suc l s) ∙ qs .is C R′ ∙ ap₂ (mul (C .P) (suc l))
           (qr .is C R′ ∙ ap (λ m. power (forms (C .P) (suc l)) m (getD x l 0)) (qh .is C R))
           (toNF-set-top l z 0 long ∙ ap (λ m. (0, m)) (q .is C R))
           ∙ sym (conj-suc (C .P) l j (getD x l 0, toNF l x)) ∙ ap (conj (C .P) (suc l) j) (sym (toNF-suc l x))

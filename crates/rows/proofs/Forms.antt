@@ -7,7 +7,8 @@
 --   small-below, ready-below, reads-below holds of fewer
 --   prime-fits exponents fit 32 bits
 --   small-valid valid form
---   small-set, small-zeros, small-generator, word-small  rows in range: a store on top, zeros, a generator, the word of a pair
+--   small-top, small-set, small-zeros  rows in range: one exponent more, a store on top, zeros
+--   small-generator, word-small    rows in range: a generator, the word of a pair
 --   reads-small                    rows that a presentation has are in range
 use mathlib.Core.Path.{_≡_, refl, sym, _∙_, ap, ap₂, subst}
 use mathlib.Core.Logic.{_≢_}
@@ -123,12 +124,13 @@ pub small-valid : {P : Presentation} {m i : ℕ} {ps : List ℕ} {rows : List (L
 small-valid {P} {i = i} {ps = ps} {x = x} r l s = toNF-valid P i x (λ k h. subst (λ p. getD x k 0 < p) (r .p-is k (omega arith)) (s .below k h))
 
 -- a store on top of a row that is small below
+-- an exponent on top
+pub small-top : {k : ℕ} {ps x : List ℕ} → Small k ps x → getD x k 0 < getD ps k 0 → Small (suc k) ps x
+small-top {k} {ps} {x} s l = record { below = below-suc k (λ m. getD x m 0 < getD ps m 0) (s .below) l }
+
 pub small-set : (k : ℕ) (ps z : List ℕ) (a : ℕ) → k < length z → Small k ps z → a < getD ps k 0 → Small (suc k) ps (set z k a)
-small-set k ps z a l s h = record {
-  below = below-suc k (λ m. getD (set z k a) m 0 < getD ps m 0)
-      (λ m b. subst (λ t. t < getD ps m 0) (sym (getD-set-other z k m a 0 (omega arith))) (s .below m b))
-      (subst (λ t. t < getD ps k 0) (sym (getD-set-same z k a 0 l)) h);
-}
+small-set k ps z a l s h =
+    small-top (record { below = λ m b. omega (arith, getD-set-other z k m a 0 (omega arith), s .below m b) }) (omega (arith, getD-set-same z k a 0 l))
 
 pub small-zeros : {m : ℕ} {ps : List ℕ} {rows : List (List ℕ)} → Ranged m ps rows → Small m ps (replicate maxGenerators 0)
 small-zeros {ps = ps} r = record { below = λ k l. subst (λ t. t < getD ps k 0) (sym (zeros k)) (omega (arith, r .two k l)) }
