@@ -1,8 +1,8 @@
 -- What the functions of the cycle of calls ask of one another, and what they make of the answers.
 --
 --   prepared-below                          the same of fewer generators
---   turned-still, conjugated-still, conjugated    no turn where a generator commutes with those below it; turned exponents copied
---   word-factors, carried-none, carried     the power word times a form: what the product asks; none; the product copied
+--   turned-still, turn-still, turn-copied   no turn where a generator commutes with those below it; turned exponents copied
+--   word-factors, carry-none, carry-copied  the power word times a form: what the product asks; none; the product copied
 --   top-level, top-within                   the level of the highest exponent of the right factor
 --   turn-asks, multiply-asks, carry-asks    what a product asks of its parts
 --   sum-fits, multiply-none, multiply-low, multiply-high    the sum of two exponents; no exponent, no carry, a carry
@@ -28,8 +28,7 @@ use Rattle.collector.proofs.Steps.{turned-fixed, turned-same, product-s
 use Rattle.collector.proofs.Steps.{power-once, conjugate-none, conjugate-up, conjugate-moves, commutator-small}
 
 pub prepared-below : {m n : ℕ} {ps : List ℕ} {rows : List (List ℕ)} {reach : List ℕ} → m ≤ n → Prepared n ps rows reach → Prepared m ps rows reach
-prepared-below {m} {n} {ps} {rows} {reach} l P =
-    record { ranged = ready-below l (P .ranged); quiet = quiet-below l (P .quiet) }
+prepared-below l P = record { ranged = ready-below l (P .ranged); quiet = quiet-below l (P .quiet) }
 
 -- ---- Turns
 
@@ -40,15 +39,16 @@ module _ {k b : ℕ} {ps : List ℕ} {rows : List (List ℕ)} {x : List ℕ} whe
       keeps : KeepsFrom rows k k x 0
       keeps = moved-reach (omega arith) (omega arith) (subst (Reach rows k) e (P .quiet .at k (omega arith)))
 
-  pub conjugated-still : {reach : List ℕ} → Prepared (suc k) ps rows reach → getD reach k 0 ≡ 0 → Small k ps x → TurnedInPlace k b ps rows x x
-  conjugated-still P e s = record { turned = turned-still P e s; kept = kept-all }
+  pub turn-still : {reach : List ℕ} → Prepared (suc k) ps rows reach → getD reach k 0 ≡ 0 → Small k ps x → TurnedInPlace k b ps rows x x
+  turn-still P e s = record { turned = turned-still P e s; kept = kept-all }
 
-  pub conjugated : {c r : List ℕ} → Turned k b ps rows x c → Mixed c x k r → TurnedInPlace k b ps rows x r
-  conjugated t m = record { turned = turned-same (m .below) t; kept = mixed-kept m }
+  pub turn-copied : {c r : List ℕ} → Turned k b ps rows x c → Mixed c x k r → TurnedInPlace k b ps rows x r
+  turn-copied t m = record { turned = turned-same (m .below) t; kept = mixed-kept m }
 
 -- ---- The power word, times a form
 
-module _ {k : ℕ} {ps : List ℕ} {rows : List (List ℕ)} {reach u x : List ℕ} (P : Prepared (suc k) ps rows reach) (ue : u ≡ getD rows (pairNumber k k) []) (sx : Small k ps x) where
+module _ {k : ℕ} {ps : List ℕ} {rows : List (List ℕ)} {reach u x : List ℕ} (P : Prepared (suc k) ps rows reach)
+    (ue : u ≡ getD rows (pairNumber k k) []) (sx : Small k ps x) where
   pub word-factors : Factors k ps rows reach u x
   word-factors = record {
     prepared = prepared-below (omega arith) P;
@@ -56,11 +56,11 @@ module _ {k : ℕ} {ps : List ℕ} {rows : List (List ℕ)} {reach u x : List �
     right = sx;
   }
 
-  pub carried-none : {t : ℕ} → Top k u t → t ≡ 0 → CarriedInPlace k ps rows x x
-  carried-none a e = record { product = subst (λ v. Product k ps rows v x x) ue (product-left (subst (Top k u) e a) sx); kept = kept-all }
+  pub carry-none : {t : ℕ} → Top k u t → t ≡ 0 → CarriedInPlace k ps rows x x
+  carry-none a e = record { product = subst (λ v. Product k ps rows v x x) ue (product-left (subst (Top k u) e a) sx); kept = kept-all }
 
-  pub carried : {v r : List ℕ} → Product k ps rows u x v → Mixed v x k r → CarriedInPlace k ps rows x r
-  carried {v} q m = record { product = product-same (m .below) (subst (λ w. Product k ps rows w x v) ue q); kept = mixed-kept m }
+  pub carry-copied : {v r : List ℕ} → Product k ps rows u x v → Mixed v x k r → CarriedInPlace k ps rows x r
+  carry-copied {v} q m = record { product = product-same (m .below) (subst (λ w. Product k ps rows w x v) ue q); kept = mixed-kept m }
 
 -- ---- Product
 
@@ -151,7 +151,8 @@ multiple-asks {m = m} P t pos = (omega (arith, t .less, P .ranged .few), omega (
 -- ---- Conjugation
 
 -- w is the word of generators l and j
-module _ {j l : ℕ} {ps : List ℕ} {rows : List (List ℕ)} {reach w : List ℕ} (P : Prepared (suc j) ps rows reach) (lj : l < j) (we : w ≡ getD rows (pairNumber j l) []) where
+module _ {j l : ℕ} {ps : List ℕ} {rows : List (List ℕ)} {reach w : List ℕ} (P : Prepared (suc j) ps rows reach) (lj : l < j)
+    (we : w ≡ getD rows (pairNumber j l) []) where
   pub image-fits : getD w l 0 + 1 < 4294967296
   image-fits = omega (arith, commutator-small (P .ranged) lj we .below l (omega arith), prime-fits (P .ranged) l (omega arith))
 

@@ -12,7 +12,7 @@ use Rattle.definitions.specs.Presentation.{maxGenerators}
 use Rattle.collector.specs.Products.{Power}
 use Rattle.collector.proofs.Steps.{Turning, turning-start, turning-more, turned-done, powering-start, powering-more, power-single}
 use Rattle.collector.proofs.Steps.{image-low, image-high}
-use Rattle.collector.proofs.Calls.{turned-still, conjugated-still, conjugated, word-factors, carried-none, carried}
+use Rattle.collector.proofs.Calls.{turned-still, turn-still, turn-copied, word-factors, carry-none, carry-copied}
 use Rattle.collector.proofs.Calls.{top-level, top-within, turn-asks, multiply-asks, carry-asks, sum-fits, multiply-none, multiply-low, multiply-high}
 use Rattle.collector.proofs.Calls.{multiple-asks, power-first, image-fits, image-asks, moved-level, moved-within, lower-asks, power-asks, product-asks}
 use Rattle.collector.proofs.Calls.{conjugate-still, conjugate-top}
@@ -166,7 +166,7 @@ carry-returns : (t : ℕ) → carry-lts.Need-returns (carry-claims t) (carry-at 
 carry-returns t c =
     let u = c .before .before in
     let z = u .before in
-    carried-none (z .pre .1 .0) (u .word .ensures) (z .pre .1 .1) (c .before .top .ensures) (c .if1 .taken)
+    carry-none (z .pre .1 .0) (u .word .ensures) (z .pre .1 .1) (c .before .top .ensures) (c .if1 .taken)
 
 carry-product-requires : (t : ℕ) → carry-lts.Need-product-requires (carry-claims t) (carry-at t) carry.Post
 carry-product-requires t c κs =
@@ -183,7 +183,7 @@ carry-returns-2 : (t : ℕ) → carry-lts.Need-returns-2 (carry-claims t) (carry
 carry-returns-2 t c =
     let u = c .before .before .before .before .before .before in
     let z = u .before in
-    carried (z .pre .1 .0) (u .word .ensures) (z .pre .1 .1) (c .before .before .product .ensures) (c .copied .ensures)
+    carry-copied (z .pre .1 .0) (u .word .ensures) (z .pre .1 .1) (c .before .before .product .ensures) (c .copied .ensures)
 
 conjugate-moved-requires : (t : ℕ) → conjugate-lts.Need-moved-requires (conjugate-claims t) (conjugate-at t) conjugate.Post
 conjugate-moved-requires t c κs = let q = c .pre .1 in (q .level, omega (arith, q .prepared .ranged .few), q .prepared .quiet .at (c .args .j) (omega arith))
@@ -487,7 +487,7 @@ turn-element-copy-out-if1 : (t : ℕ) → turn-lts.Need-element-copy-out-if1 (tu
 turn-element-copy-out-if1 t c = omega (arith, c .pre .1 .0 .ranged .few)
 
 turn-returns : (t : ℕ) → turn-lts.Need-returns (turn-claims t) (turn-at t) turn.Post
-turn-returns t c = let z = c .before .before in conjugated-still (z .pre .1 .0) (c .if1 .taken) (z .pre .1 .1)
+turn-returns t c = let z = c .before .before in turn-still (z .pre .1 .0) (c .if1 .taken) (z .pre .1 .1)
 
 turn-turned-requires : (t : ℕ) → turn-lts.Need-turned-requires (turn-claims t) (turn-at t) turn.Post
 turn-turned-requires t c κs = let z = c .before .before .before in (omega (arith, z .pre .0), (z .pre .1 .0, z .pre .1 .1))
@@ -496,7 +496,7 @@ turn-copied-requires : (t : ℕ) → turn-lts.Need-copied-requires (turn-claims 
 turn-copied-requires t c κs = let z = c .before .before .before .before .before in (omega (arith, z .pre .1 .0 .ranged .few), z .pre .1 .2)
 
 turn-returns-2 : (t : ℕ) → turn-lts.Need-returns-2 (turn-claims t) (turn-at t) turn.Post
-turn-returns-2 t c = conjugated (c .before .before .turned .ensures) (c .copied .ensures)
+turn-returns-2 t c = turn-copied (c .before .before .turned .ensures) (c .copied .ensures)
 
 abbrev turned-Inv-loop : turned-lts.InvT-loop
 turned-Inv-loop primes rows reach i x b c₀ n₀ left₀ c n left = Turning i b primes rows x c n left
