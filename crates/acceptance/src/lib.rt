@@ -16,8 +16,8 @@ pub fn accepted(text: &[u8]) -> Outcome
     let p = o.presentation;
     let n = p.n;
     let primes = p.primes;
-    let words = presentation::words_of(p);
-    if consistency::consistent(&primes, &words, n) {
+    let rows = presentation::words_of(p);
+    if consistency::consistent(&primes, &rows, n) {
         return Outcome {
             status: 0,
             presentation: p,

@@ -9,7 +9,7 @@ ghost use Rattle.definitions.specs.Answers.{ReadTable};
 pub fn read_table(text: &[u8], words: &mut [u32]) -> Counted
     ensures { λ r. ⌜ ReadTable (now (text .entry)) (now (words .entry)) (r .answer) (r .count) (now (words .exit)) ⌝ }
 {
-    let a = table_text::reading::read_table(text, words);
+    let a = table_reading::read_table(text, words);
     Counted {
         answer: a.status,
         count: a.count,

@@ -9,7 +9,7 @@ ghost use Rattle.definitions.specs.Answers.{WriteTable};
 pub fn write_table(words: &[u32], out: &mut [u8]) -> Counted
     ensures { λ r. ⌜ WriteTable (now (words .entry)) (now (out .entry)) (r .answer) (r .count) (now (out .exit)) ⌝ }
 {
-    let a = table_text::writing::write_table(words, out);
+    let a = table_writing::write_table(words, out);
     Counted {
         answer: a.status,
         count: a.count,

@@ -9,13 +9,12 @@
 //   image, conjugate, turned     conjugates: of a generator, of a form, again and again
 //   power, scaled                a power; a power times a form
 ghost use mathlib.Core.Path.{_≡_};
-ghost use mathlib.Core.List.{[]};
 ghost use Prim.Native.Nat.{suc, _*_, _%_, _≤_, _<_};
 ghost use lib.ListN.{length, getD};
-ghost use Rattle.definitions.specs.Presentation.{maxGenerators, pairNumber};
-ghost use Rattle.rows.specs.Rows.{Small, Ranged, Kept, Single};
-ghost use Rattle.commuting.specs.Commuting.{Quiet};
-ghost use Rattle.collector.specs.Products.{Alone, Product, Image, Conjugate, Remaining, Power, Scaled, Turned};
+ghost use Rattle.definitions.specs.Presentation.{maxGenerators};
+ghost use Rattle.rows.specs.Rows.{Small, Single};
+ghost use Rattle.collector.specs.Products.{Prepared, Factors, Conjugand, Alone, Product, Image, Conjugate, Remaining, Power, Scaled, Turned};
+ghost use Rattle.collector.specs.Products.{MultipliedInPlace, CarriedInPlace, TurnedInPlace};
 use commuting::Reaches;
 use commuting::moved;
 use rows::GENERATORS;
@@ -49,34 +48,34 @@ fn remaining(k: usize, x: Row, c: Row, n: u32, left: u32) -> u32
 }
 
 // The first k exponents of x after b conjugations by generator k.
-fn turn(primes: &Row, words: &Words, reach: &Reaches, k: usize, x: &mut Row, b: u32)
-    requires { ⌜ Ranged (suc k) (now primes) (now words) × Quiet (suc k) (now words) (now reach) × Small k (now primes) (now x) × (length (now x) ≡ maxGenerators) ⌝ }
-    ensures { λ r. ⌜ Turned k b (now (primes .entry)) (now (words .entry)) (now (x .entry)) (now (x .exit)) × Kept k (now (x .entry)) (now (x .exit)) ⌝ }
+fn turn(primes: &Row, rows: &Words, reach: &Reaches, k: usize, x: &mut Row, b: u32)
+    requires { ⌜ Prepared (suc k) (now primes) (now rows) (now reach) × Small k (now primes) (now x) × (length (now x) ≡ maxGenerators) ⌝ }
+    ensures { λ r. ⌜ TurnedInPlace k b (now (primes .entry)) (now (rows .entry)) (now (x .entry)) (now (x .exit)) ⌝ }
 {
     if reach[k] == 0 {
         return;
     }
-    let c = turned(primes, words, reach, k, *x, b);
+    let c = turned(primes, rows, reach, k, *x, b);
     copied(k, c, x);
 }
 
 // The power word of generator k, times the first k exponents of x.
-fn carry(primes: &Row, words: &Words, reach: &Reaches, k: usize, x: &mut Row)
-    requires { ⌜ Ranged (suc k) (now primes) (now words) × Quiet k (now words) (now reach) × Small k (now primes) (now x) × (length (now x) ≡ maxGenerators) ⌝ }
-    ensures { λ r. ⌜ Product k (now (primes .entry)) (now (words .entry)) (getD (now (words .entry)) (pairNumber k k) []) (now (x .entry)) (now (x .exit)) × Kept k (now (x .entry)) (now (x .exit)) ⌝ }
+fn carry(primes: &Row, rows: &Words, reach: &Reaches, k: usize, x: &mut Row)
+    requires { ⌜ Prepared (suc k) (now primes) (now rows) (now reach) × Small k (now primes) (now x) × (length (now x) ≡ maxGenerators) ⌝ }
+    ensures { λ r. ⌜ CarriedInPlace k (now (primes .entry)) (now (rows .entry)) (now (x .entry)) (now (x .exit)) ⌝ }
 {
-    let u = word(words, k, k);
+    let u = word(rows, k, k);
     if top(k, u) == 0 {
         return;
     }
-    let v = product(primes, words, reach, k, u, *x);
+    let v = product(primes, rows, reach, k, u, *x);
     copied(k, v, x);
 }
 
 // x times y on level i. The conjugates that this needs are of the level below the highest exponent of y.
-fn multiply(primes: &Row, words: &Words, reach: &Reaches, i: usize, x: &mut Row, y: &Row)
-    requires { ⌜ Ranged i (now primes) (now words) × Quiet i (now words) (now reach) × Small i (now primes) (now x) × Small i (now primes) (now y) × (length (now x) ≡ maxGenerators) ⌝ }
-    ensures { λ r. ⌜ Product i (now (primes .entry)) (now (words .entry)) (now (x .entry)) (now (y .entry)) (now (x .exit)) × Kept i (now (x .entry)) (now (x .exit)) ⌝ }
+fn multiply(primes: &Row, rows: &Words, reach: &Reaches, i: usize, x: &mut Row, y: &Row)
+    requires { ⌜ Factors i (now primes) (now rows) (now reach) (now x) (now y) × (length (now x) ≡ maxGenerators) ⌝ }
+    ensures { λ r. ⌜ MultipliedInPlace i (now (primes .entry)) (now (rows .entry)) (now (x .entry)) (now (y .entry)) (now (x .exit)) ⌝ }
 {
     let m = top(i, *y);
     if m == 0 {
@@ -84,68 +83,68 @@ fn multiply(primes: &Row, words: &Words, reach: &Reaches, i: usize, x: &mut Row,
     }
     let k = m - 1;
     let b = y[k];
-    turn(primes, words, reach, k, x, b);
-    multiply(primes, words, reach, k, x, y);
+    turn(primes, rows, reach, k, x, b);
+    multiply(primes, rows, reach, k, x, y);
     let s = x[k] + b;
     let p = primes[k];
     if s < p {
         x[k] = s;
         return;
     }
-    carry(primes, words, reach, k, x);
+    carry(primes, rows, reach, k, x);
     x[k] = s - p;
 }
 
 // The product of x and y on level i.
-pub fn product(primes: &Row, words: &Words, reach: &Reaches, i: usize, x: Row, y: Row) -> Row
-    requires { ⌜ Ranged i (now primes) (now words) × Quiet i (now words) (now reach) × Small i (now primes) x × Small i (now primes) y ⌝ }
-    ensures { λ r. ⌜ Product i (now (primes .entry)) (now (words .entry)) x y r ⌝ }
+pub fn product(primes: &Row, rows: &Words, reach: &Reaches, i: usize, x: Row, y: Row) -> Row
+    requires { ⌜ Factors i (now primes) (now rows) (now reach) x y ⌝ }
+    ensures { λ r. ⌜ Product i (now (primes .entry)) (now (rows .entry)) x y r ⌝ }
 {
     let mut r = x;
-    multiply(primes, words, reach, i, &mut r, &y);
+    multiply(primes, rows, reach, i, &mut r, &y);
     r
 }
 
 // The conjugate of generator l by generator j.
-fn image(primes: &Row, words: &Words, reach: &Reaches, j: usize, l: usize) -> Row
-    requires { ⌜ Ranged (suc j) (now primes) (now words) × Quiet (suc j) (now words) (now reach) × (l < j) ⌝ }
-    ensures { λ r. ⌜ Image j l (now (primes .entry)) (now (words .entry)) r ⌝ }
+fn image(primes: &Row, rows: &Words, reach: &Reaches, j: usize, l: usize) -> Row
+    requires { ⌜ Prepared (suc j) (now primes) (now rows) (now reach) × (l < j) ⌝ }
+    ensures { λ r. ⌜ Image j l (now (primes .entry)) (now (rows .entry)) r ⌝ }
 {
-    let mut h = word(words, j, l);
+    let mut h = word(rows, j, l);
     let s = h[l] + 1;
     let p = primes[l];
     if s < p {
         h[l] = s;
         return h;
     }
-    let u = word(words, l, l);
-    let mut v = product(primes, words, reach, l, u, h);
+    let u = word(rows, l, l);
+    let mut v = product(primes, rows, reach, l, u, h);
     v[l] = 0;
     v
 }
 
 // The conjugate of x by generator j on level k, k ≤ j. It is a product on the level of the highest exponent that moves.
-pub fn conjugate(primes: &Row, words: &Words, reach: &Reaches, k: usize, j: usize, x: Row) -> Row
-    requires { ⌜ Ranged (suc j) (now primes) (now words) × Quiet (suc j) (now words) (now reach) × (k ≤ j) × Small k (now primes) x ⌝ }
-    ensures { λ r. ⌜ Conjugate k j (now (primes .entry)) (now (words .entry)) x r ⌝ }
+pub fn conjugate(primes: &Row, rows: &Words, reach: &Reaches, k: usize, j: usize, x: Row) -> Row
+    requires { ⌜ Conjugand k j (now primes) (now rows) (now reach) x ⌝ }
+    ensures { λ r. ⌜ Conjugate k j (now (primes .entry)) (now (rows .entry)) x r ⌝ }
 {
-    let m = moved(words, reach, k, j, x);
+    let m = moved(rows, reach, k, j, x);
     if m == 0 {
         return x;
     }
     let l = m - 1;
-    let mut z = conjugate(primes, words, reach, l, j, x);
+    let mut z = conjugate(primes, rows, reach, l, j, x);
     z[l] = 0;
-    let h = image(primes, words, reach, j, l);
-    let r = power(primes, words, reach, m, h, x[l]);
-    let s = product(primes, words, reach, m, r, z);
+    let h = image(primes, rows, reach, j, l);
+    let r = power(primes, rows, reach, m, h, x[l]);
+    let s = product(primes, rows, reach, m, r, z);
     stacked(l, s, x, s[l])
 }
 
 // Whether x has an exponent of generator m - 1 and none below, and the power word of that generator is empty.
-fn alone(words: &Words, m: usize, x: Row) -> bool
+fn alone(rows: &Words, m: usize, x: Row) -> bool
     requires { ⌜ m ≤ maxGenerators ⌝ }
-    ensures { λ r. ⌜ Alone (now (words .entry)) m x r ⌝ }
+    ensures { λ r. ⌜ Alone (now (rows .entry)) m x r ⌝ }
 {
     if m == 0 {
         return false;
@@ -153,7 +152,7 @@ fn alone(words: &Words, m: usize, x: Row) -> bool
     if top(m - 1, x) != 0 {
         return false;
     }
-    let u = word(words, m - 1, m - 1);
+    let u = word(rows, m - 1, m - 1);
     top(m - 1, u) == 0
 }
 
@@ -168,21 +167,21 @@ fn multiple(primes: &Row, k: usize, x: Row, e: u32) -> Row
 }
 
 // x to the power e on level i.
-pub fn power(primes: &Row, words: &Words, reach: &Reaches, i: usize, x: Row, e: u32) -> Row
-    requires { ⌜ Ranged i (now primes) (now words) × Quiet i (now words) (now reach) × Small i (now primes) x ⌝ }
-    ensures { λ r. ⌜ Power i (now (primes .entry)) (now (words .entry)) x r e ⌝ }
+pub fn power(primes: &Row, rows: &Words, reach: &Reaches, i: usize, x: Row, e: u32) -> Row
+    requires { ⌜ Prepared i (now primes) (now rows) (now reach) × Small i (now primes) x ⌝ }
+    ensures { λ r. ⌜ Power i (now (primes .entry)) (now (rows .entry)) x r e ⌝ }
 {
     if e == 1 {
         return x;
     }
     let m = top(i, x);
-    if alone(words, m, x) {
+    if alone(rows, m, x) {
         return multiple(primes, m - 1, x, e);
     }
     let mut r = [0u32; GENERATORS];
     let mut n: u32 = 0;
     while n < e {
-        let s = product(primes, words, reach, i, x, r);
+        let s = product(primes, rows, reach, i, x, r);
         r = s;
         n += 1;
     }
@@ -190,9 +189,9 @@ pub fn power(primes: &Row, words: &Words, reach: &Reaches, i: usize, x: Row, e: 
 }
 
 // x after b conjugations by generator i, on level i.
-pub fn turned(primes: &Row, words: &Words, reach: &Reaches, i: usize, x: Row, b: u32) -> Row
-    requires { ⌜ Ranged (suc i) (now primes) (now words) × Quiet (suc i) (now words) (now reach) × Small i (now primes) x ⌝ }
-    ensures { λ r. ⌜ Turned i b (now (primes .entry)) (now (words .entry)) x r ⌝ }
+pub fn turned(primes: &Row, rows: &Words, reach: &Reaches, i: usize, x: Row, b: u32) -> Row
+    requires { ⌜ Prepared (suc i) (now primes) (now rows) (now reach) × Small i (now primes) x ⌝ }
+    ensures { λ r. ⌜ Turned i b (now (primes .entry)) (now (rows .entry)) x r ⌝ }
 {
     if reach[i] == 0 {
         return x;
@@ -201,7 +200,7 @@ pub fn turned(primes: &Row, words: &Words, reach: &Reaches, i: usize, x: Row, b:
     let mut n: u32 = 0;
     let mut left = b;
     while left > 0 {
-        let d = conjugate(primes, words, reach, i, i, c);
+        let d = conjugate(primes, rows, reach, i, i, c);
         n += 1;
         left = remaining(i, x, d, n, left - 1);
         c = d;
@@ -210,13 +209,13 @@ pub fn turned(primes: &Row, words: &Words, reach: &Reaches, i: usize, x: Row, b:
 }
 
 // x to the power e, times v, on level i.
-pub fn scaled(primes: &Row, words: &Words, reach: &Reaches, i: usize, x: Row, e: u32, v: Row) -> Row
-    requires { ⌜ Ranged i (now primes) (now words) × Quiet i (now words) (now reach) × Small i (now primes) x × Small i (now primes) v ⌝ }
-    ensures { λ r. ⌜ Scaled i (now (primes .entry)) (now (words .entry)) x e v r ⌝ }
+pub fn scaled(primes: &Row, rows: &Words, reach: &Reaches, i: usize, x: Row, e: u32, v: Row) -> Row
+    requires { ⌜ Factors i (now primes) (now rows) (now reach) x v ⌝ }
+    ensures { λ r. ⌜ Scaled i (now (primes .entry)) (now (rows .entry)) x e v r ⌝ }
 {
     if e == 0 {
         return v;
     }
-    let q = power(primes, words, reach, i, x, e);
-    product(primes, words, reach, i, q, v)
+    let q = power(primes, rows, reach, i, x, e);
+    product(primes, rows, reach, i, q, v)
 }

@@ -1,4 +1,4 @@
-// Which generators commute, as the words of a presentation tell: what product and conjugation may pass over.
+// Which generators commute, as the rows of a presentation tell: what product and conjugation may pass over.
 //
 //   Reaches                      a number of generators, for each generator
 //   stays                        whether conjugation keeps an exponent
@@ -20,25 +20,25 @@ use rows::word;
 pub type Reaches = [usize; GENERATORS];
 
 // Conjugation by generator j keeps an exponent e of generator l where e is 0 or the word of the two generators is empty.
-fn stays(words: &Words, j: usize, l: usize, e: u32) -> bool
+fn stays(rows: &Words, j: usize, l: usize, e: u32) -> bool
     requires { ⌜ (l < j) × (j < maxGenerators) ⌝ }
-    ensures { λ r. ⌜ r ≡ keeps (now (words .entry)) j l e ⌝ }
+    ensures { λ r. ⌜ r ≡ keeps (now (rows .entry)) j l e ⌝ }
 {
     if e == 0 {
         return true;
     }
-    let w = word(words, j, l);
+    let w = word(rows, j, l);
     empty(l + 1, w)
 }
 
 // Generator j commutes with the generators from the answer up to j: their words with it are empty.
-fn reached(words: &Words, j: usize) -> usize
+fn reached(rows: &Words, j: usize) -> usize
     requires { ⌜ j < maxGenerators ⌝ }
-    ensures { λ r. ⌜ Reach (now (words .entry)) j r ⌝ }
+    ensures { λ r. ⌜ Reach (now (rows .entry)) j r ⌝ }
 {
     let mut m = j;
     while m > 0 {
-        let w = word(words, j, m - 1);
+        let w = word(rows, j, m - 1);
         if !empty(m, w) {
             return m;
         }
@@ -48,29 +48,29 @@ fn reached(words: &Words, j: usize) -> usize
 }
 
 // For each of the first n generators, down to which it commutes with all below it.
-pub fn reaches(words: &Words, n: usize) -> Reaches
+pub fn reaches(rows: &Words, n: usize) -> Reaches
     requires { ⌜ n ≤ maxGenerators ⌝ }
-    ensures { λ r. ⌜ Quiet n (now (words .entry)) r ⌝ }
+    ensures { λ r. ⌜ Quiet n (now (rows .entry)) r ⌝ }
 {
     let mut r = [0usize; GENERATORS];
     for j in 0..n {
-        let m = reached(words, j);
+        let m = reached(rows, j);
         r[j] = m;
     }
     r
 }
 
 // Generator c commutes with every generator below the answer.
-fn risen(words: &Words, reach: &Reaches, n: usize, c: usize) -> usize
-    requires { ⌜ (c < n) × (n ≤ maxGenerators) × Reach (now words) c (getD (now reach) c 0) ⌝ }
-    ensures { λ r. ⌜ Rise (now (words .entry)) c r ⌝ }
+fn risen(rows: &Words, reach: &Reaches, n: usize, c: usize) -> usize
+    requires { ⌜ (c < n) × (n ≤ maxGenerators) × Reach (now rows) c (getD (now reach) c 0) ⌝ }
+    ensures { λ r. ⌜ Rise (now (rows .entry)) c r ⌝ }
 {
     if reach[c] != 0 {
         return 0;
     }
     let mut j = c + 1;
     while j < n {
-        let w = word(words, j, c);
+        let w = word(rows, j, c);
         if !empty(c + 1, w) {
             return j;
         }
@@ -80,27 +80,27 @@ fn risen(words: &Words, reach: &Reaches, n: usize, c: usize) -> usize
 }
 
 // For each of the first n generators, up to which it commutes with every generator.
-pub fn rises(words: &Words, reach: &Reaches, n: usize) -> Reaches
-    requires { ⌜ (n ≤ maxGenerators) × Quiet n (now words) (now reach) ⌝ }
-    ensures { λ r. ⌜ Central n (now (words .entry)) r ⌝ }
+pub fn rises(rows: &Words, reach: &Reaches, n: usize) -> Reaches
+    requires { ⌜ (n ≤ maxGenerators) × Quiet n (now rows) (now reach) ⌝ }
+    ensures { λ r. ⌜ Central n (now (rows .entry)) r ⌝ }
 {
     let mut r = [0usize; GENERATORS];
     for c in 0..n {
-        let m = risen(words, reach, n, c);
+        let m = risen(rows, reach, n, c);
         r[c] = m;
     }
     r
 }
 
 // One more than the highest of the first k exponents of x that conjugation by generator j may change; 0 where it keeps all.
-pub fn moved(words: &Words, reach: &Reaches, k: usize, j: usize, x: Row) -> usize
-    requires { ⌜ (k ≤ j) × (j < maxGenerators) × Reach (now words) j (getD (now reach) j 0) ⌝ }
-    ensures { λ r. ⌜ KeepsFrom (now (words .entry)) k j x r ⌝ }
+pub fn moved(rows: &Words, reach: &Reaches, k: usize, j: usize, x: Row) -> usize
+    requires { ⌜ (k ≤ j) × (j < maxGenerators) × Reach (now rows) j (getD (now reach) j 0) ⌝ }
+    ensures { λ r. ⌜ KeepsFrom (now (rows .entry)) k j x r ⌝ }
 {
     let first = reach[j];
     let mut m = if first < k { first } else { k };
     while m > 0 {
-        if !stays(words, j, m - 1, x[m - 1]) {
+        if !stays(rows, j, m - 1, x[m - 1]) {
             return m;
         }
         m -= 1;

@@ -1,7 +1,7 @@
 -- Laws of the conditions of refusals 13 and 14.
 --
 --   product-zero, product-suc, product-order, product-mono     the product of primes
---   product-turn, elements-turn   a turn of the product and of the elements
+--   product-turn, elements-turn, turn-fits     a turn of the product and of the elements; it stays below the ceiling
 --   words-fit, order-exceeds, order-within     the ceiling
 --   entry-high, entry-zero, entry-power, entry-commutator     an exponent, case by case
 --   p-power, p-commutator, pair-stray, pair-row     a line, by its p and its word
@@ -60,6 +60,9 @@ product-mono primes m (suc n) l h = pick (ℕ-discrete m (suc n)) (λ k. product
 pub product-turn : (primes : List ℕ) (j x y : ℕ) → x ≡ product primes j → y ≡ getD primes j 0 → x * y ≡ product primes (j + 1)
 product-turn primes j x y q r =
     mul-comm x y ∙ ap₂ (λ (a b : ℕ). a * b) r q ∙ sym (product-suc primes j) ∙ ap (product primes) (sym (add-one j))
+
+pub turn-fits : (primes : List ℕ) (n j x : ℕ) → ((k : ℕ) → k ≤ n → product primes k ≤ maxOrder) → j < n → x ≡ product primes j → x * getD primes j 0 ≤ maxOrder
+turn-fits primes n j x b l q = omega (arith, product-turn primes j x _ q refl, b (j + 1) (omega arith))
 
 -- one level more of elements
 pub elements-turn : (primes : List ℕ) (j x y : ℕ) → x ≡ sum j (λ i. product primes (suc i)) → y ≡ product primes (j + 1)
@@ -123,16 +126,16 @@ p-power p j i q = ap (λ (b : Bool). b || eqb p 0) (eq-eqb i j q)
 pub p-commutator : (p j i : ℕ) → i ≢ j → (eqb i j || eqb p 0) ≡ eqb p 0
 p-commutator p j i q = ap (λ (b : Bool). b || eqb p 0) (ne-eqb i j q)
 
-module _ (words : List (List ℕ)) (ps primes : List ℕ) (n j i r : ℕ) (is : r ≡ pairNumber j i) where
-  tests : pairWell words ps primes n j i ≡ ((eqb i j || eqb (getD ps r 0) 0) && rowWells (getD words r []) primes n j i)
+module _ (rows : List (List ℕ)) (ps primes : List ℕ) (n j i r : ℕ) (is : r ≡ pairNumber j i) where
+  tests : pairWell rows ps primes n j i ≡ ((eqb i j || eqb (getD ps r 0) 0) && rowWells (getD rows r []) primes n j i)
   unfolding pairWell
-  tests = ap (λ (k : ℕ). (eqb i j || eqb (getD ps k 0) 0) && rowWells (getD words k []) primes n j i) (sym is)
+  tests = ap (λ (k : ℕ). (eqb i j || eqb (getD ps k 0) 0) && rowWells (getD rows k []) primes n j i) (sym is)
 
-  pub pair-stray : (eqb i j || eqb (getD ps r 0) 0) ≡ false → pairWell words ps primes n j i ≡ false
-  pair-stray h = tests ∙ ap (λ (b : Bool). b && rowWells (getD words r []) primes n j i) h
+  pub pair-stray : (eqb i j || eqb (getD ps r 0) 0) ≡ false → pairWell rows ps primes n j i ≡ false
+  pair-stray h = tests ∙ ap (λ (b : Bool). b && rowWells (getD rows r []) primes n j i) h
 
-  pub pair-row : (eqb i j || eqb (getD ps r 0) 0) ≡ true → pairWell words ps primes n j i ≡ rowWells (getD words r []) primes n j i
-  pair-row h = tests ∙ ap (λ (b : Bool). b && rowWells (getD words r []) primes n j i) h
+  pub pair-row : (eqb i j || eqb (getD ps r 0) 0) ≡ true → pairWell rows ps primes n j i ≡ rowWells (getD rows r []) primes n j i
+  pair-row h = tests ∙ ap (λ (b : Bool). b && rowWells (getD rows r []) primes n j i) h
 
 -- ---- The primes of the first j generators
 

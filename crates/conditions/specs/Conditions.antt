@@ -1,4 +1,4 @@
--- The conditions of refusals 13 and 14 over kept words and primes.
+-- The conditions of refusals 13 and 14 over kept rows and primes.
 --
 --   product                   the product of the first n primes
 --   entryWell, rowWells, pairWell, allWell     an exponent, a word, a line and all lines as 14 wants them
@@ -23,12 +23,12 @@ unfoldable pub rowWells : (row primes : List ℕ) (n j i : ℕ) → Bool
 rowWells row primes n j i = allBelow n (λ k. entryWell (getD row k 0) (getD primes k 0) j i k)
 
 -- the line of (j, i), whose p is 0 where i < j
-unfoldable pub pairWell : (words : List (List ℕ)) (ps primes : List ℕ) (n j i : ℕ) → Bool
-pairWell words ps primes n j i =
-    (eqb i j || eqb (getD ps (pairNumber j i) 0) 0) && rowWells (getD words (pairNumber j i) []) primes n j i
+unfoldable pub pairWell : (rows : List (List ℕ)) (ps primes : List ℕ) (n j i : ℕ) → Bool
+pairWell rows ps primes n j i =
+    (eqb i j || eqb (getD ps (pairNumber j i) 0) 0) && rowWells (getD rows (pairNumber j i) []) primes n j i
 
-abbrev pub allWell : (words : List (List ℕ)) (ps primes : List ℕ) (n : ℕ) → Bool
-allWell words ps primes n = allBelow n (λ j. allBelow (suc j) (λ i. pairWell words ps primes n j i))
+abbrev pub allWell : (rows : List (List ℕ)) (ps primes : List ℕ) (n : ℕ) → Bool
+allWell rows ps primes n = allBelow n (λ j. allBelow (suc j) (λ i. pairWell rows ps primes n j i))
 
 pub record Primes (ps : List ℕ) (n : ℕ) (primes : List ℕ) : Type 0 where
   pub each : (j : ℕ) → j < n → getD primes j 0 ≡ getD ps (pairNumber j j) 0

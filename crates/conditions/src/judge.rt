@@ -94,25 +94,25 @@ fn p_well(p: u32, j: usize, i: usize) -> bool
 }
 
 // Whether the line of (j, i) is as it should be.
-fn pair_well(words: &Words, ps: &[u32; PAIRS], primes: &Row, n: usize, j: usize, i: usize) -> bool
+fn pair_well(rows: &Words, ps: &[u32; PAIRS], primes: &Row, n: usize, j: usize, i: usize) -> bool
     requires { ⌜ (n ≤ maxGenerators) × (j < n) × (i ≤ j) ⌝ }
-    ensures { λ r. ⌜ r ≡ pairWell (now (words .entry)) (now (ps .entry)) (now (primes .entry)) n j i ⌝ }
+    ensures { λ r. ⌜ r ≡ pairWell (now (rows .entry)) (now (ps .entry)) (now (primes .entry)) n j i ⌝ }
 {
     let k = pair(j, i);
     if !p_well(ps[k], j, i) {
         return false;
     }
-    row_well(&words[k], primes, n, j, i)
+    row_well(&rows[k], primes, n, j, i)
 }
 
 // Whether the lines of generator j are as they should be.
-fn generator_well(words: &Words, ps: &[u32; PAIRS], primes: &Row, n: usize, j: usize) -> bool
+fn generator_well(rows: &Words, ps: &[u32; PAIRS], primes: &Row, n: usize, j: usize) -> bool
     requires { ⌜ (n ≤ maxGenerators) × (j < n) ⌝ }
-    ensures { λ r. ⌜ r ≡ allBelow (suc j) (λ i. pairWell (now (words .entry)) (now (ps .entry)) (now (primes .entry)) n j i) ⌝ }
+    ensures { λ r. ⌜ r ≡ allBelow (suc j) (λ i. pairWell (now (rows .entry)) (now (ps .entry)) (now (primes .entry)) n j i) ⌝ }
 {
     let mut i: usize = 0;
     while i <= j {
-        if !pair_well(words, ps, primes, n, j, i) {
+        if !pair_well(rows, ps, primes, n, j, i) {
             return false;
         }
         i += 1;
@@ -121,13 +121,13 @@ fn generator_well(words: &Words, ps: &[u32; PAIRS], primes: &Row, n: usize, j: u
 }
 
 // Whether all lines are as they should be.
-pub fn well(words: &Words, ps: &[u32; PAIRS], primes: &Row, n: usize) -> bool
+pub fn well(rows: &Words, ps: &[u32; PAIRS], primes: &Row, n: usize) -> bool
     requires { ⌜ n ≤ maxGenerators ⌝ }
-    ensures { λ r. ⌜ r ≡ allWell (now (words .entry)) (now (ps .entry)) (now (primes .entry)) n ⌝ }
+    ensures { λ r. ⌜ r ≡ allWell (now (rows .entry)) (now (ps .entry)) (now (primes .entry)) n ⌝ }
 {
     let mut j: usize = 0;
     while j < n {
-        if !generator_well(words, ps, primes, n, j) {
+        if !generator_well(rows, ps, primes, n, j) {
             return false;
         }
         j += 1;

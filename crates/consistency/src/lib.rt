@@ -10,8 +10,9 @@ ghost use Prim.Native.Nat.{suc, _≤_, _<_};
 ghost use Rattle.definitions.specs.Lists.{allBelow};
 ghost use Rattle.definitions.specs.Consistency.{keepsPowers, keepsCommutators, fixesPower, powerIsInner, levelTest};
 ghost use Rattle.rows.specs.Rows.{Ranged};
-ghost use Rattle.commuting.specs.Commuting.{Quiet, Central};
-ghost use Rattle.consistency.specs.Images.{Images, Value};
+ghost use Rattle.commuting.specs.Commuting.{Central};
+ghost use Rattle.collector.specs.Products.{Prepared};
+ghost use Rattle.consistency.specs.Images.{Images, Imaged, Value};
 ghost use Rattle.consistency.specs.Answers.{Settles, DecidesTest, powerKept, commutatorKept, innerAt};
 use collector::conjugate;
 use collector::power;
@@ -32,54 +33,54 @@ use rows::word;
 pub type Forms = [[u32; GENERATORS]; GENERATORS];
 
 // The images of the generators below i under conjugation by generator i.
-fn images(primes: &Row, words: &Words, reach: &Reaches, i: usize) -> Forms
-    requires { ⌜ Ranged (suc i) (now primes) (now words) × Quiet (suc i) (now words) (now reach) ⌝ }
-    ensures { λ r. ⌜ Images i (now (primes .entry)) (now (words .entry)) r i ⌝ }
+fn images(primes: &Row, rows: &Words, reach: &Reaches, i: usize) -> Forms
+    requires { ⌜ Prepared (suc i) (now primes) (now rows) (now reach) ⌝ }
+    ensures { λ r. ⌜ Images i (now (primes .entry)) (now (rows .entry)) r i ⌝ }
 {
     let mut h = [[0u32; GENERATORS]; GENERATORS];
     for k in 0..i {
         let g = generator(k);
-        let c = conjugate(primes, words, reach, i, i, g);
+        let c = conjugate(primes, rows, reach, i, i, g);
         h[k] = c;
     }
     h
 }
 
 // The value over the images h of the first k exponents of x, on level i.
-fn value(primes: &Row, words: &Words, reach: &Reaches, h: &Forms, i: usize, k: usize, x: Row) -> Row
-    requires { ⌜ Ranged (suc i) (now primes) (now words) × Quiet (suc i) (now words) (now reach) × Images i (now primes) (now words) (now h) i × (k ≤ i) ⌝ }
-    ensures { λ r. ⌜ Value i (now (primes .entry)) (now (words .entry)) k x r ⌝ }
+fn value(primes: &Row, rows: &Words, reach: &Reaches, h: &Forms, i: usize, k: usize, x: Row) -> Row
+    requires { ⌜ Imaged i (now primes) (now rows) (now reach) (now h) × (k ≤ i) ⌝ }
+    ensures { λ r. ⌜ Value i (now (primes .entry)) (now (rows .entry)) k x r ⌝ }
 {
     let mut v = [0u32; GENERATORS];
     for m in 0..k {
         let g = h[m];
         let e = x[m];
-        let s = scaled(primes, words, reach, i, g, e, v);
+        let s = scaled(primes, rows, reach, i, g, e, v);
         v = s;
     }
     v
 }
 
 // The images h keep the power relation of generator k.
-fn keeps_power(primes: &Row, words: &Words, reach: &Reaches, h: &Forms, i: usize, k: usize) -> bool
-    requires { ⌜ Ranged (suc i) (now primes) (now words) × Quiet (suc i) (now words) (now reach) × Images i (now primes) (now words) (now h) i × (k < i) ⌝ }
-    ensures { λ r. ⌜ Settles i (now (primes .entry)) (now (words .entry)) (λ P. powerKept P i k) r ⌝ }
+fn keeps_power(primes: &Row, rows: &Words, reach: &Reaches, h: &Forms, i: usize, k: usize) -> bool
+    requires { ⌜ Imaged i (now primes) (now rows) (now reach) (now h) × (k < i) ⌝ }
+    ensures { λ r. ⌜ Settles i (now (primes .entry)) (now (rows .entry)) (λ P. powerKept P i k) r ⌝ }
 {
     let g = h[k];
     let p = primes[k];
-    let l = power(primes, words, reach, i, g, p);
-    let u = word(words, k, k);
-    let v = value(primes, words, reach, h, i, k, u);
+    let l = power(primes, rows, reach, i, g, p);
+    let u = word(rows, k, k);
+    let v = value(primes, rows, reach, h, i, k, u);
     same(i, l, v)
 }
 
 // The images h keep the power relations of the generators below i.
-fn keeps_powers(primes: &Row, words: &Words, reach: &Reaches, h: &Forms, i: usize) -> bool
-    requires { ⌜ Ranged (suc i) (now primes) (now words) × Quiet (suc i) (now words) (now reach) × Images i (now primes) (now words) (now h) i ⌝ }
-    ensures { λ r. ⌜ Settles i (now (primes .entry)) (now (words .entry)) (λ P. keepsPowers P i) r ⌝ }
+fn keeps_powers(primes: &Row, rows: &Words, reach: &Reaches, h: &Forms, i: usize) -> bool
+    requires { ⌜ Imaged i (now primes) (now rows) (now reach) (now h) ⌝ }
+    ensures { λ r. ⌜ Settles i (now (primes .entry)) (now (rows .entry)) (λ P. keepsPowers P i) r ⌝ }
 {
     for k in 0..i {
-        if !keeps_power(primes, words, reach, h, i, k) {
+        if !keeps_power(primes, rows, reach, h, i, k) {
             return false;
         }
     }
@@ -89,23 +90,23 @@ fn keeps_powers(primes: &Row, words: &Words, reach: &Reaches, h: &Forms, i: usiz
 // The images h keep the commutator relation of generators k < j.
 fn keeps_commutator(
     primes: &Row,
-    words: &Words,
+    rows: &Words,
     reach: &Reaches,
     h: &Forms,
     i: usize,
     j: usize,
     k: usize,
 ) -> bool
-    requires { ⌜ Ranged (suc i) (now primes) (now words) × Quiet (suc i) (now words) (now reach) × Images i (now primes) (now words) (now h) i × (k < j) × (j < i) ⌝ }
-    ensures { λ r. ⌜ Settles i (now (primes .entry)) (now (words .entry)) (λ P. commutatorKept P i j k) r ⌝ }
+    requires { ⌜ Imaged i (now primes) (now rows) (now reach) (now h) × (k < j) × (j < i) ⌝ }
+    ensures { λ r. ⌜ Settles i (now (primes .entry)) (now (rows .entry)) (λ P. commutatorKept P i j k) r ⌝ }
 {
     let a = h[k];
     let b = h[j];
-    let l = product(primes, words, reach, i, a, b);
-    let w = word(words, j, k);
-    let v = value(primes, words, reach, h, i, k + 1, w);
-    let s = product(primes, words, reach, i, a, v);
-    let r = product(primes, words, reach, i, b, s);
+    let l = product(primes, rows, reach, i, a, b);
+    let w = word(rows, j, k);
+    let v = value(primes, rows, reach, h, i, k + 1, w);
+    let s = product(primes, rows, reach, i, a, v);
+    let r = product(primes, rows, reach, i, b, s);
     same(i, l, r)
 }
 
@@ -113,7 +114,7 @@ fn keeps_commutator(
 // is nothing to test.
 fn keeps_pair(
     primes: &Row,
-    words: &Words,
+    rows: &Words,
     reach: &Reaches,
     rise: &Reaches,
     h: &Forms,
@@ -121,9 +122,8 @@ fn keeps_pair(
     j: usize,
     k: usize,
 ) -> bool
-    requires { ⌜ Ranged (suc i) (now primes) (now words) × Quiet (suc i) (now words) (now reach) × Central (suc i) (now words) (now rise) ⌝ }
-    requires { ⌜ Images i (now primes) (now words) (now h) i × (k < j) × (j < i) ⌝ }
-    ensures { λ r. ⌜ Settles i (now (primes .entry)) (now (words .entry)) (λ P. commutatorKept P i j k) r ⌝ }
+    requires { ⌜ Imaged i (now primes) (now rows) (now reach) (now h) × Central (suc i) (now rows) (now rise) × (k < j) × (j < i) ⌝ }
+    ensures { λ r. ⌜ Settles i (now (primes .entry)) (now (rows .entry)) (λ P. commutatorKept P i j k) r ⌝ }
 {
     if i < rise[k] {
         return true;
@@ -131,24 +131,24 @@ fn keeps_pair(
     if i < rise[j] {
         return true;
     }
-    keeps_commutator(primes, words, reach, h, i, j, k)
+    keeps_commutator(primes, rows, reach, h, i, j, k)
 }
 
 // The images h keep the commutator relations of generator j with those below it.
 fn keeps_commutators_of(
     primes: &Row,
-    words: &Words,
+    rows: &Words,
     reach: &Reaches,
     rise: &Reaches,
     h: &Forms,
     i: usize,
     j: usize,
 ) -> bool
-    requires { ⌜ Ranged (suc i) (now primes) (now words) × Quiet (suc i) (now words) (now reach) × Central (suc i) (now words) (now rise) × Images i (now primes) (now words) (now h) i × (j < i) ⌝ }
-    ensures { λ r. ⌜ Settles i (now (primes .entry)) (now (words .entry)) (λ P. allBelow j (commutatorKept P i j)) r ⌝ }
+    requires { ⌜ Imaged i (now primes) (now rows) (now reach) (now h) × Central (suc i) (now rows) (now rise) × (j < i) ⌝ }
+    ensures { λ r. ⌜ Settles i (now (primes .entry)) (now (rows .entry)) (λ P. allBelow j (commutatorKept P i j)) r ⌝ }
 {
     for k in 0..j {
-        if !keeps_pair(primes, words, reach, rise, h, i, j, k) {
+        if !keeps_pair(primes, rows, reach, rise, h, i, j, k) {
             return false;
         }
     }
@@ -158,17 +158,17 @@ fn keeps_commutators_of(
 // The images h keep the commutator relations below i.
 fn keeps_commutators(
     primes: &Row,
-    words: &Words,
+    rows: &Words,
     reach: &Reaches,
     rise: &Reaches,
     h: &Forms,
     i: usize,
 ) -> bool
-    requires { ⌜ Ranged (suc i) (now primes) (now words) × Quiet (suc i) (now words) (now reach) × Central (suc i) (now words) (now rise) × Images i (now primes) (now words) (now h) i ⌝ }
-    ensures { λ r. ⌜ Settles i (now (primes .entry)) (now (words .entry)) (λ P. keepsCommutators P i) r ⌝ }
+    requires { ⌜ Imaged i (now primes) (now rows) (now reach) (now h) × Central (suc i) (now rows) (now rise) ⌝ }
+    ensures { λ r. ⌜ Settles i (now (primes .entry)) (now (rows .entry)) (λ P. keepsCommutators P i) r ⌝ }
 {
     for j in 0..i {
-        if !keeps_commutators_of(primes, words, reach, rise, h, i, j) {
+        if !keeps_commutators_of(primes, rows, reach, rise, h, i, j) {
             return false;
         }
     }
@@ -176,26 +176,26 @@ fn keeps_commutators(
 }
 
 // Conjugation by generator i fixes its power word.
-fn fixes_power(primes: &Row, words: &Words, reach: &Reaches, i: usize) -> bool
-    requires { ⌜ Ranged (suc i) (now primes) (now words) × Quiet (suc i) (now words) (now reach) ⌝ }
-    ensures { λ r. ⌜ Settles i (now (primes .entry)) (now (words .entry)) (λ P. fixesPower P i) r ⌝ }
+fn fixes_power(primes: &Row, rows: &Words, reach: &Reaches, i: usize) -> bool
+    requires { ⌜ Prepared (suc i) (now primes) (now rows) (now reach) ⌝ }
+    ensures { λ r. ⌜ Settles i (now (primes .entry)) (now (rows .entry)) (λ P. fixesPower P i) r ⌝ }
 {
-    let u = word(words, i, i);
-    let c = conjugate(primes, words, reach, i, i, u);
+    let u = word(rows, i, i);
+    let c = conjugate(primes, rows, reach, i, i, u);
     same(i, c, u)
 }
 
 // As many conjugations by generator i as its prime are conjugation by its power word, at generator k.
-fn is_inner_at(primes: &Row, words: &Words, reach: &Reaches, i: usize, k: usize) -> bool
-    requires { ⌜ Ranged (suc i) (now primes) (now words) × Quiet (suc i) (now words) (now reach) × (k < i) ⌝ }
-    ensures { λ r. ⌜ Settles i (now (primes .entry)) (now (words .entry)) (λ P. innerAt P i k) r ⌝ }
+fn is_inner_at(primes: &Row, rows: &Words, reach: &Reaches, i: usize, k: usize) -> bool
+    requires { ⌜ Prepared (suc i) (now primes) (now rows) (now reach) × (k < i) ⌝ }
+    ensures { λ r. ⌜ Settles i (now (primes .entry)) (now (rows .entry)) (λ P. innerAt P i k) r ⌝ }
 {
-    let u = word(words, i, i);
+    let u = word(rows, i, i);
     let g = generator(k);
     let p = primes[i];
-    let t = turned(primes, words, reach, i, g, p);
-    let left = product(primes, words, reach, i, u, t);
-    let right = product(primes, words, reach, i, g, u);
+    let t = turned(primes, rows, reach, i, g, p);
+    let left = product(primes, rows, reach, i, u, t);
+    let right = product(primes, rows, reach, i, g, u);
     same(i, left, right)
 }
 
@@ -203,28 +203,28 @@ fn is_inner_at(primes: &Row, words: &Words, reach: &Reaches, i: usize, k: usize)
 // with every generator up to i there is nothing to test.
 fn is_inner_on(
     primes: &Row,
-    words: &Words,
+    rows: &Words,
     reach: &Reaches,
     rise: &Reaches,
     i: usize,
     k: usize,
 ) -> bool
-    requires { ⌜ Ranged (suc i) (now primes) (now words) × Quiet (suc i) (now words) (now reach) × Central (suc i) (now words) (now rise) × (k < i) ⌝ }
-    ensures { λ r. ⌜ Settles i (now (primes .entry)) (now (words .entry)) (λ P. innerAt P i k) r ⌝ }
+    requires { ⌜ Prepared (suc i) (now primes) (now rows) (now reach) × Central (suc i) (now rows) (now rise) × (k < i) ⌝ }
+    ensures { λ r. ⌜ Settles i (now (primes .entry)) (now (rows .entry)) (λ P. innerAt P i k) r ⌝ }
 {
     if i < rise[k] {
         return true;
     }
-    is_inner_at(primes, words, reach, i, k)
+    is_inner_at(primes, rows, reach, i, k)
 }
 
 // As many conjugations by generator i as its prime are conjugation by its power word, at every generator below i.
-fn is_inner(primes: &Row, words: &Words, reach: &Reaches, rise: &Reaches, i: usize) -> bool
-    requires { ⌜ Ranged (suc i) (now primes) (now words) × Quiet (suc i) (now words) (now reach) × Central (suc i) (now words) (now rise) ⌝ }
-    ensures { λ r. ⌜ Settles i (now (primes .entry)) (now (words .entry)) (λ P. powerIsInner P i) r ⌝ }
+fn is_inner(primes: &Row, rows: &Words, reach: &Reaches, rise: &Reaches, i: usize) -> bool
+    requires { ⌜ Prepared (suc i) (now primes) (now rows) (now reach) × Central (suc i) (now rows) (now rise) ⌝ }
+    ensures { λ r. ⌜ Settles i (now (primes .entry)) (now (rows .entry)) (λ P. powerIsInner P i) r ⌝ }
 {
     for k in 0..i {
-        if !is_inner_on(primes, words, reach, rise, i, k) {
+        if !is_inner_on(primes, rows, reach, rise, i, k) {
             return false;
         }
     }
@@ -232,32 +232,32 @@ fn is_inner(primes: &Row, words: &Words, reach: &Reaches, rise: &Reaches, i: usi
 }
 
 // The known test for generator i.
-fn level_passes(primes: &Row, words: &Words, reach: &Reaches, rise: &Reaches, i: usize) -> bool
-    requires { ⌜ Ranged (suc i) (now primes) (now words) × Quiet (suc i) (now words) (now reach) × Central (suc i) (now words) (now rise) ⌝ }
-    ensures { λ r. ⌜ Settles i (now (primes .entry)) (now (words .entry)) (λ P. levelTest P i) r ⌝ }
+fn level_passes(primes: &Row, rows: &Words, reach: &Reaches, rise: &Reaches, i: usize) -> bool
+    requires { ⌜ Prepared (suc i) (now primes) (now rows) (now reach) × Central (suc i) (now rows) (now rise) ⌝ }
+    ensures { λ r. ⌜ Settles i (now (primes .entry)) (now (rows .entry)) (λ P. levelTest P i) r ⌝ }
 {
-    let h = images(primes, words, reach, i);
-    if !keeps_powers(primes, words, reach, &h, i) {
+    let h = images(primes, rows, reach, i);
+    if !keeps_powers(primes, rows, reach, &h, i) {
         return false;
     }
-    if !keeps_commutators(primes, words, reach, rise, &h, i) {
+    if !keeps_commutators(primes, rows, reach, rise, &h, i) {
         return false;
     }
-    if !fixes_power(primes, words, reach, i) {
+    if !fixes_power(primes, rows, reach, i) {
         return false;
     }
-    is_inner(primes, words, reach, rise, i)
+    is_inner(primes, rows, reach, rise, i)
 }
 
 // Whether the presentation of n generators is consistent (15): the known test for each generator.
-pub fn consistent(primes: &Row, words: &Words, n: usize) -> bool
-    requires { ⌜ Ranged n (now primes) (now words) ⌝ }
-    ensures { λ r. ⌜ DecidesTest n (now (primes .entry)) (now (words .entry)) r ⌝ }
+pub fn consistent(primes: &Row, rows: &Words, n: usize) -> bool
+    requires { ⌜ Ranged n (now primes) (now rows) ⌝ }
+    ensures { λ r. ⌜ DecidesTest n (now (primes .entry)) (now (rows .entry)) r ⌝ }
 {
-    let reach = reaches(words, n);
-    let rise = rises(words, &reach, n);
+    let reach = reaches(rows, n);
+    let rise = rises(rows, &reach, n);
     for i in 0..n {
-        if !level_passes(primes, words, &reach, &rise, i) {
+        if !level_passes(primes, rows, &reach, &rise, i) {
             return false;
         }
     }

@@ -12,7 +12,7 @@
 --   wide-S3 .. shifted     tables that are refused, or representations that make them so
 use Prim.Native.Nat.{ℕ, suc, _+_, _*_, _-_}
 use Prim.Native.Char.{code}
-use Prim.Native.String.{String, [] as ε, _∷_ as _▹_}
+use Prim.Native.String.{String}
 use mathlib.Core.Bool.{Bool, true, false, _&&_, cond}
 use mathlib.Core.List.{List, [], _∷_, _++_, map, flatMap}
 use lib.ListN.{length, getD, set}
@@ -31,13 +31,13 @@ equal (x ∷ xs) [] = false
 equal (x ∷ xs) (y ∷ ys) = cond (eqb x y) (equal xs ys) false
 
 unfoldable pub bytes : String → Bytes
-bytes ε = []
-bytes (x ▹ t) = code x ∷ bytes t
+bytes String.[] = []
+bytes (String._∷_ x t) = code x ∷ bytes t
 
 -- the value of the digits so far is a
 unfoldable pub numbersFrom : ℕ → String → List ℕ
-numbersFrom a ε = a ∷ []
-numbersFrom a (x ▹ t) = let digit = leb 48 (code x) in cond digit [] (a ∷ []) ++ numbersFrom (cond digit (10 * a + (code x - 48)) 0) t
+numbersFrom a String.[] = a ∷ []
+numbersFrom a (String._∷_ x t) = let digit = leb 48 (code x) in cond digit [] (a ∷ []) ++ numbersFrom (cond digit (10 * a + (code x - 48)) 0) t
 
 unfoldable pub words : List String → List ℕ
 words texts = flatMap (numbersFrom 0) texts

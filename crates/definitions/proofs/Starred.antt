@@ -16,15 +16,27 @@ use lib.Dec.{eqb}
 use native.Mathlib.Omega.{arith}
 use Rattle.definitions.specs.Lists.{upto, blocks, sum, allBelow, anyBelow, all, any, least, leastFrom, iter, same}
 use Rattle.definitions.specs.Text.{largest, digits, decimal, spaced, line, valueLine, render, small}
-use Rattle.definitions.specs.Presentation.{maxGenerators, maxOrder, lineWords, toNF, trivial, Presentation, order, buildWords, power, value, Relations, pairsOf, pairs, pairNumber, presentationNames, textOf, wellFormed, rowOf, presentation, isPrime, someNotPrime, tooLarge, allowed, rowWell, misused}
-use Rattle.definitions.specs.Consistency.{gen, inv, word, forth, back, power-relation, commutator-relation, gen-inv, Chain, done, link, Consistent, carry, mulStep, conjStep, arithmeticStep, arithmetic, generator, sameForm, keepsPowers, keepsCommutators, fixesPower, powerIsInner, levelTest, test}
+use Rattle.definitions.specs.Presentation.{maxGenerators, maxOrder, lineWords, toNF, trivial, Presentation, order, buildWords, power, value, Relations}
+use Rattle.definitions.specs.Presentation.{pairsOf, pairs, pairNumber, presentationNames, textOf, wellFormed, rowOf, presentation, isPrime, someNotPrime}
+use Rattle.definitions.specs.Presentation.{tooLarge, allowed, rowWell, misused}
+use Rattle.definitions.specs.Consistency.{gen, inv, word, forth, back, power-relation, commutator-relation, gen-inv, Chain, done, link, Consistent, carry}
+use Rattle.definitions.specs.Consistency.{mulStep, conjStep, arithmeticStep, arithmetic, generator, sameForm, keepsPowers, keepsCommutators, fixesPower}
+use Rattle.definitions.specs.Consistency.{powerIsInner, levelTest, test}
 use Rattle.definitions.specs.Monomial.{Matrix, col, identity, less, act, product, scale, inverse, valid, sameEntry, sameMatrix, Rep, repOf, image, conjugate}
-use Rattle.definitions.specs.Table.{lineOf, repWords, levelWords, wordAt, lineCount, begins, degrees, columns, firstLine, repAt, levelZero, levelAt, complete, tableNames, rowsOf, tableText, writable}
-use Rattle.definitions.specs.Steps.{lift, fixed, orbit, leader, position, made, start, s, extended, l, a, extension, along, lastBlock, blockDiagonal, blockCycle, blockIntertwiner, leftSide, rightSide, nextBlock, blockAfter, scalarAfter, c, induction, givenBy, nextLevel, levels, tableWith, tableOf}
-use Rattle.definitions.specs.Judgement.{allForms, cutsFrom, cuts, wholeBlock, everywhere, everyLevel, matricesValid, blocksWhole, targetsListed, malformed, powerHolds, commutatorHolds, relationsHold, relationFails, blockRestricts, restricts, restrictionFails, intertwines, intertwinersHold, intertwinerFails, reaches, tells, separates, notSeparated, squares, squaresFail}
+use Rattle.definitions.specs.Table.{lineOf, repWords, levelWords, wordAt, lineCount, begins, degrees, columns, firstLine, repAt, levelZero, levelAt}
+use Rattle.definitions.specs.Table.{complete, tableNames, rowsOf, tableText, writable}
+use Rattle.definitions.specs.Steps.{lift, fixed, orbit, leader, position, made, start, s, extended, l, a, extension, along, lastBlock, blockDiagonal}
+use Rattle.definitions.specs.Steps.{blockCycle, blockIntertwiner, leftSide, rightSide, nextBlock, blockAfter, scalarAfter, c, induction, givenBy}
+use Rattle.definitions.specs.Steps.{nextLevel, levels, tableWith, tableOf}
+use Rattle.definitions.specs.Judgement.{allForms, cutsFrom, cuts, wholeBlock, everywhere, everyLevel, matricesValid, blocksWhole, targetsListed}
+use Rattle.definitions.specs.Judgement.{malformed, powerHolds, commutatorHolds, relationsHold, relationFails, blockRestricts, restricts, restrictionFails}
+use Rattle.definitions.specs.Judgement.{intertwines, intertwinersHold, intertwinerFails, reaches, tells, separates, notSeparated, squares, squaresFail}
 use Rattle.definitions.specs.Answers.{firstOf, relationTests, judgement}
 use Rattle.definitions.specs.Programs.{answerNames, answerText}
-use Rattle.definitions.proofs.Groups.{equal, bytes, numbersFrom, words, row, wordIn, relations, table, change, S3-line, S3-with, S3, V4, C4, Q8, C2-cubed, S3-C2, dense12, dense20, dense54, long-carry, twisted, twisted-table, rooted, rooted-table, affine, affine-table, linked, linked-table, wide-S3, swapped-C4, unequal-C2-cubed, diagonal-V4, exchanging-V4, doubled-V4, cut-V4, short-block, mixed-block, shifted}
+use Rattle.definitions.proofs.Groups.{equal, bytes, numbersFrom, words, row, wordIn, relations, table, change, S3-line, S3-with, S3, V4, C4, Q8}
+use Rattle.definitions.proofs.Groups.{C2-cubed, S3-C2, dense12, dense20, dense54, long-carry, twisted, twisted-table, rooted, rooted-table, affine}
+use Rattle.definitions.proofs.Groups.{affine-table, linked, linked-table, wide-S3, swapped-C4, unequal-C2-cubed, diagonal-V4, exchanging-V4, doubled-V4}
+use Rattle.definitions.proofs.Groups.{cut-V4, short-block, mixed-block, shifted}
 
 -- ---- Rows
 

@@ -22,7 +22,8 @@ use Rattle.definitions.specs.Text.{Bytes, small}
 use Rattle.definitions.specs.Presentation.{lineWords, order, buildWords, presentation}
 use Rattle.definitions.specs.Table.{lineCount, tableNames, rowsOf, tableText, writable}
 use Rattle.definitions.specs.Steps.{tableOf}
-use Rattle.definitions.specs.Answers.{First, says, presentationRefusals, buildRefusals, checkRefusals, readRefusals, writeRefusals, TableSays, over, Leaves, Accept, Measure, Build, Check, ReadTable, WriteTable}
+use Rattle.definitions.specs.Answers.{First, says, presentationRefusals, buildRefusals, checkRefusals, readRefusals, writeRefusals, TableSays, over}
+use Rattle.definitions.specs.Answers.{Leaves, Accept, Measure, Build, Check, ReadTable, WriteTable}
 use Rattle.definitions.specs.Programs.{repcheckRefusals, Repcheck}
 use Rattle.definitions.proofs.Refusals.{first-unique}
 use Rattle.definitions.proofs.Rendering.{Plain, Fields, and-left, render-injective, says-unique}

@@ -15,7 +15,8 @@ use native.Mathlib.Decide.{decLt, map-dec}
 use lib.ListN.{replicate}
 use Rattle.definitions.specs.Lists.{iter}
 use Rattle.definitions.specs.Presentation.{NF, Presentation, Mul, power, value}
-use Rattle.definitions.specs.Consistency.{gen, inv, Word, word, Sides, power-relation, commutator-relation, gen-inv, inv-gen, Step, forth, back, Chain, done, link, Consistent, sameForm, levelTest, test}
+use Rattle.definitions.specs.Consistency.{gen, inv, Word, word, Sides, power-relation, commutator-relation, gen-inv, inv-gen, Step, forth, back, Chain, done}
+use Rattle.definitions.specs.Consistency.{link, Consistent, sameForm, levelTest, test}
 use Rattle.numbers.proofs.Lists.{below-suc, allBelow-elim, allBelow-intro}
 use Rattle.group.specs.Models.{Laws, Hom, Satisfies}
 use Rattle.group.specs.Context.{Context, Nf}

@@ -49,8 +49,12 @@ module _ (C : Context) (i c : ℕ) (l : c < i) (G : Group C i)
       q-mul y z a b = sym (G .laws .assoc g y z) ∙ ap (λ t. t * z) a ∙ G .laws .assoc y g z ∙ ap (λ t. y * t) b ∙ sym (G .laws .assoc y z g)
 
       at : (k : ℕ) → k < i → Dec (k < c) → Dec (c < k) → Q (genNf C i k)
-      at k a (yes b) d = sym (G .satisfies .commutators k c b l ∙ ap (λ t. g * (genNf C i k * t)) (empty-value (genNf C i) (suc k) _ (below k b)) ∙ ap (λ t. g * t) (G .laws .idr _))
-      at k a (no b) (yes d) = G .satisfies .commutators c k d a ∙ ap (λ t. genNf C i k * (g * t)) (empty-value (genNf C i) (suc c) _ (above k d (omega arith))) ∙ ap (λ t. genNf C i k * t) (G .laws .idr _)
+      at k a (yes b) d =
+          let e = empty-value (genNf C i) (suc k) _ (below k b) in
+          sym (G .satisfies .commutators k c b l ∙ ap (λ t. g * (genNf C i k * t)) e ∙ ap (λ t. g * t) (G .laws .idr _))
+      at k a (no b) (yes d) =
+          let e = empty-value (genNf C i) (suc c) _ (above k d (omega arith)) in
+          G .satisfies .commutators c k d a ∙ ap (λ t. genNf C i k * (g * t)) e ∙ ap (λ t. genNf C i k * t) (G .laws .idr _)
       at k a (no b) (no d) = let e : c ≡ k = omega arith in subst (λ m. Q (genNf C i m)) e refl
 
   pub fixed : imageNf C i i c ≡ genNf C i c

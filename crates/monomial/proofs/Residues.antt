@@ -12,7 +12,10 @@
 use mathlib.Core.Path.{_≡_, refl, sym, _∙_, ap, subst}
 use mathlib.Core.HLevel.{Σ-prop-path}
 use Prim.Native.Nat.{ℕ, zero, suc, _+_, _*_, _-_, _%_, _/_, _<_, _∣_}
-use native.Mathlib.Nat.{zero-mul, zero-mod, zero-add, suc-mul, add-comm, add-assoc, add-mod-mod, mod-add-mod, mod-lt, mod-eq-of-lt, mod-self, mod-add-div', add-mul-mod-self-right, mul-lt-mul-of-pos-right, mul-div-cancel, mul-div-cancel', div-mul-cancel, div-le-self, div-lt-iff-lt-mul, dvd-mul-right, dvd-trans, dvd-sub, dvd-mod-iff, dvd-add-iff-left, dvd-of-mod-eq-zero, mod-eq-zero-of-dvd, mod-mod-of-dvd, dvd-of-mul-dvd-mul-left}
+use native.Mathlib.Nat.{zero-mul, zero-mod, zero-add, suc-mul, add-comm, add-assoc, add-mod-mod, mod-add-mod, mod-lt, mod-eq-of-lt, mod-self, mod-add-div'}
+use native.Mathlib.Nat.{add-mul-mod-self-right, mul-lt-mul-of-pos-right, mul-div-cancel, mul-div-cancel', div-mul-cancel, div-le-self, div-lt-iff-lt-mul}
+use native.Mathlib.Nat.{dvd-mul-right, dvd-trans, dvd-sub, dvd-mod-iff, dvd-add-iff-left, dvd-of-mod-eq-zero, mod-eq-zero-of-dvd, mod-mod-of-dvd}
+use native.Mathlib.Nat.{dvd-of-mul-dvd-mul-left}
 use native.Mathlib.Bridge.{le-prop}
 use native.Mathlib.Omega.{arith}
 use Rattle.definitions.specs.Monomial.{less}
@@ -89,7 +92,9 @@ module _ (m : ℕ) (pos : 0 < m) where
         px = dvd-trans p (dvd-mul-right p spare) (dvd-of-mul-dvd-mul-left (p * spare) hN (subst (λ s. s ∣ N * x .0) (split ∙ ap (λ s. p * s) e ∙ omega arith) nx))
 
         ps : p ∣ c .0 + x .0
-        ps = dvd-of-mod-eq-zero p (sym (mod-mod-of-dvd p (c .0 + x .0) p∣m) ∙ ap (λ s. s .0 % p) q₁ ∙ ap (λ s. s % p) (times-value p z) ∙ mod-mod-of-dvd p (p * z .0) p∣m ∙ mod-eq-zero-of-dvd p (dvd-mul-right p (z .0)))
+        ps =
+            let killed = ap (λ s. s % p) (times-value p z) ∙ mod-mod-of-dvd p (p * z .0) p∣m ∙ mod-eq-zero-of-dvd p (dvd-mul-right p (z .0)) in
+            dvd-of-mod-eq-zero p (sym (mod-mod-of-dvd p (c .0 + x .0) p∣m) ∙ ap (λ s. s .0 % p) q₁ ∙ killed)
 
     unfoldable pub part : Residue m → Residue m
     part s = (s .0 / p, omega (arith, div-le-self (s .0) p, s .1))

@@ -4,7 +4,7 @@
 --                                          constant on each representation
 --   commuting-inverse, intertwiner-inverse it has an inverse, and so has an intertwiner of finite order
 --   ratio, ratio-eq, ratio-const           two maps that move past the family alike differ by such a scalar
---   rep-power, rep-iterates                how powers of a map move the representations
+--   rep-power, power-commutes              how powers of a map move the representations; they move past the family as the map does
 --   scalar-commutes                        a scalar on each representation commutes with the family
 use mathlib.Core.Path.{_≡_, refl, sym, _∙_, ap, subst, fun-ext}
 use Prim.Native.Nat.{ℕ, zero, suc, _<_}
@@ -37,7 +37,9 @@ module _ {G : Type 0} {𝓖 : Mul G} {conj : ℕ → G → G} {i n : ℕ} {E : T
     commuting-fixes a = go (F .decide a ((Z a) .0))
       where
         together : Separated 𝓔 Ω d a ((Z a) .0) → ⊥
-        together q = q .differ (cancel 𝓔 ((Z a) .1) _ _ (ap (λ s. s .1) (sym (ap (λ s. ((Z (s .0)) .0, add ((Z (s .0)) .1) (s .1))) (q .fixes)) ∙ line (q .by) a ∙ ap (λ s. (s .0, add (s .1) ((Z a) .1))) (q .fixes′)) ∙ 𝓔 .comm _ _))
+        together q = q .differ (cancel 𝓔 ((Z a) .1) _ _
+            (ap (λ s. s .1) (sym (ap (λ s. ((Z (s .0)) .0, add ((Z (s .0)) .1) (s .1))) (q .fixes)) ∙ line (q .by) a
+            ∙ ap (λ s. (s .0, add (s .1) ((Z a) .1))) (q .fixes′)) ∙ 𝓔 .comm _ _))
 
         go : Dec (a ≡ (Z a) .0) → (Z a) .0 ≡ a
         go (yes h) = sym h

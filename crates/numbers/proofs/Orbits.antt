@@ -143,7 +143,7 @@ module _ (O : Orbits) where
       sym (iter-fix τ (leader r) g k) ∙ b
 
   pub leader-moved : (r : ℕ) → r < N → Moved r → Moved (leader r)
-  leader-moved r h mv q = let (k, a, b) = leader-reaches r h in mv (subst (λ s. τ s ≡ s) (iter-fix τ (leader r) q k ∙ sym (iter-fix τ (leader r) q k) ∙ b) (ap τ (iter-fix τ (leader r) q k) ∙ q ∙ sym (iter-fix τ (leader r) q k)))
+  leader-moved r h mv q = let (k, a, b) = leader-reaches r h in mv (subst (λ s. τ s ≡ s) (sym (iter-fix τ (leader r) q k) ∙ b) q)
 
   -- ---- The position
 

@@ -65,7 +65,7 @@ injects-onto a f F b l = go (hit f b a)
 
     go : Dec ((k : ℕ) × (k < a) × (f k ≡ b)) → (k : ℕ) × (k < a) × (f k ≡ b)
     go (yes h) = h
-    go (no h) = let z = injects-le (suc a) a more (record { below = λ k s. below k s (ℕ-discrete k a); injective = λ j k s t q. injective j k s t (ℕ-discrete j a) (ℕ-discrete k a) q }) in absurd (omega arith)
+    go (no h) = absurd (omega (arith, injects-le (suc a) a more injects))
       where
         below : (k : ℕ) → k < suc a → Dec (k ≡ a) → more k < a
         below k s (yes e) = subst (λ z. z < a) (sym (cond-eq k a _ _ e)) l
@@ -76,6 +76,9 @@ injects-onto a f F b l = go (hit f b a)
         injective j k s t (yes p) (no q) e = absurd (h (k, omega arith, sym (cond-ne k a _ _ q) ∙ sym e ∙ cond-eq j a _ _ p))
         injective j k s t (no p) (yes q) e = absurd (h (j, omega arith, sym (cond-ne j a _ _ p) ∙ e ∙ cond-eq k a _ _ q))
         injective j k s t (no p) (no q) e = F .injective j k (omega arith) (omega arith) (sym (cond-ne j a _ _ p) ∙ e ∙ cond-ne k a _ _ q)
+
+        injects : Injects (suc a) a more
+        injects = record { below = λ k s. below k s (ℕ-discrete k a); injective = λ j k s t q. injective j k s t (ℕ-discrete j a) (ℕ-discrete k a) q }
 
 pub onto-injects : (a : ℕ) (f : ℕ → ℕ) → ((b : ℕ) → b < a → (k : ℕ) × (k < a) × (f k ≡ b)) → (j k : ℕ) → j < a → k < a → f j ≡ f k → j ≡ k
 onto-injects a f onto j k s t e = hits (injects-onto a back injects j s) (injects-onto a back injects k t)

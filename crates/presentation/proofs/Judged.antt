@@ -60,9 +60,9 @@ unlined {t} {n} {next} nm h (R, s) =
 unsaid : {t : Bytes} {R : Relations} (f : Relations → Bool) → Says t R → f R ≡ false → ¬ says t (λ (Q : Relations). f Q ≡ true)
 unsaid {t} {R} f s q (Q, h, w) = false≢true (sym q ∙ ap f (says-unique t R Q s h) ∙ w)
 
-module _ {t : Bytes} {n next : ℕ} (nm : NamesLine t n next) {words : List (List ℕ)} {ps : List ℕ} {flag : Bool} (al : AllLines t next n words ps flag) where
+module _ {t : Bytes} {n next : ℕ} (nm : NamesLine t n next) {rows : List (List ℕ)} {ps : List ℕ} {flag : Bool} (al : AllLines t next n rows ps flag) where
   abbrev pub relationsOf : Relations
-  relationsOf = record { n = n; rows = al .rows }
+  relationsOf = record { n = n; rows = al .lines }
 
   pub says-them : Says t relationsOf
   says-them =
@@ -78,21 +78,21 @@ module _ {t : Bytes} {n next : ℕ} (nm : NamesLine t n next) {words : List (Lis
 
   all-prime : flag ≡ true → someNotPrime relationsOf ≡ false
   unfolding someNotPrime presentation rowOf
-  all-prime q = ap not (allBelow-intro n (λ j. isPrime (getD (al .rows) (pairNumber j j) noRow .p)) (al .prime q))
+  all-prime q = ap not (allBelow-intro n (λ j. isPrime (getD (al .lines) (pairNumber j j) noRow .p)) (al .prime q))
 
   pub not-prime : flag ≡ false → {o : Outcome} → o .status ≡ 12 → ReadText t o
   unfolding someNotPrime presentation rowOf
   not-prime q e =
       let c = al .composite q in
-      let w : someNotPrime relationsOf ≡ true = ap not (allBelow-fails n (λ j. isPrime (getD (al .rows) (pairNumber j j) noRow .p)) (c .0) (c .1) (c .2)) in
+      let w : someNotPrime relationsOf ≡ true = ap not (allBelow-fails n (λ j. isPrime (getD (al .lines) (pairNumber j j) noRow .p)) (c .0) (c .1) (c .2)) in
       record { answered = inr (in-form, inl ((relationsOf, says-them, w), e)); held = λ z. absurd (omega arith) }
 
   pub primes-positive : flag ≡ true → n ≤ maxGenerators → (j : ℕ) → j < n → 0 < getD ps (pairNumber j j) 0
   primes-positive q few j l =
-      let r : getD ps (pairNumber j j) 0 ≡ getD (al .rows) (pairNumber j j) noRow .p =
+      let r : getD ps (pairNumber j j) 0 ≡ getD (al .lines) (pairNumber j j) noRow .p =
       al .stored .p-kept (pairNumber j j) (omega (arith, al .count, length-pairs n, pairNumber-below n j j (omega arith) l))
       (pair-below j j (omega arith) (omega arith)) in
-      pick (getD (al .rows) (pairNumber j j) noRow .p) (al .prime q j l) r
+      pick (getD (al .lines) (pairNumber j j) noRow .p) (al .prime q j l) r
     where
       pick : (p : ℕ) → isPrime p ≡ true → getD ps (pairNumber j j) 0 ≡ p → 0 < getD ps (pairNumber j j) 0
       pick zero h r = absurd (false≢true (sym (not-prime-small 0 (omega arith)) ∙ h))
@@ -112,7 +112,7 @@ module _ {t : Bytes} {n next : ℕ} (nm : NamesLine t n next) {words : List (Lis
   -- ---- At most as many
 
   module _ (few : n ≤ maxGenerators) {primes : List ℕ} (are : Primes ps n primes) where
-    row-within : (j i : ℕ) → j < n → i ≤ j → pairNumber j i < length (al .rows)
+    row-within : (j i : ℕ) → j < n → i ≤ j → pairNumber j i < length (al .lines)
     row-within j i l m = omega (arith, al .count, length-pairs n, pairNumber-below n j i m l)
 
     row-kept : (j i : ℕ) → j < n → i ≤ j → pairNumber j i < pairCount
@@ -125,7 +125,7 @@ module _ {t : Bytes} {n next : ℕ} (nm : NamesLine t n next) {words : List (Lis
     prime-is : (j : ℕ) → j < n → getD primes j 0 ≡ rowOf relationsOf j j .p
     prime-is j l = are .each j l ∙ p-is j j l (omega arith)
 
-    word-is : (j i : ℕ) → j < n → i ≤ j → (k : ℕ) → k < maxGenerators → getD (getD words (pairNumber j i) []) k 0 ≡ getD (rowOf relationsOf j i .word) k 0
+    word-is : (j i : ℕ) → j < n → i ≤ j → (k : ℕ) → k < maxGenerators → getD (getD rows (pairNumber j i) []) k 0 ≡ getD (rowOf relationsOf j i .word) k 0
     unfolding rowOf
     word-is j i l m k b = al .stored .word-kept (pairNumber j i) (row-within j i l m) (row-kept j i l m) k b
 
@@ -139,17 +139,17 @@ module _ {t : Bytes} {n next : ℕ} (nm : NamesLine t n next) {words : List (Lis
         ap (λ (b : Bool). b || ltb maxOrder (order (presentation relationsOf) n)) (le-ltb maxGenerators n few)
         ∙ ap (ltb maxOrder) order-is
 
-    pair-is : (j i : ℕ) → j < n → i ≤ j → pairWell words ps primes n j i ≡ rowWell relationsOf j i
+    pair-is : (j i : ℕ) → j < n → i ≤ j → pairWell rows ps primes n j i ≡ rowWell relationsOf j i
     unfolding pairWell rowWells rowWell presentation
     pair-is j i l m =
         ap₂ (λ (a b : Bool). a && b) (ap (λ (p : ℕ). eqb i j || eqb p 0) (p-is j i l m))
         (allBelow-below n _ _ (λ k b. ap₂ (λ (e p : ℕ). entryWell e p j i k) (word-is j i l m k (omega arith)) (prime-is k b)))
 
-    misused-is : misused relationsOf ≡ not (allWell words ps primes n)
+    misused-is : misused relationsOf ≡ not (allWell rows ps primes n)
     unfolding misused
     misused-is = ap not (sym (allBelow-below n _ _ (λ j l. allBelow-below (suc j) _ _ (λ i b. pair-is j i l (omega arith)))))
 
-    rows-read : misused relationsOf ≡ false → Reads (presentation relationsOf) n primes words
+    rows-read : misused relationsOf ≡ false → Reads (presentation relationsOf) n primes rows
     unfolding presentation
     rows-read h =
         record {
@@ -160,12 +160,12 @@ module _ {t : Bytes} {n next : ℕ} (nm : NamesLine t n next) {words : List (Lis
         }
 
     held-by : misused relationsOf ≡ false → (o : Outcome)
-        → (o .presentation .n ≡ n) × (o .presentation .primes ≡ primes) × (o .presentation .words ≡ words) → Held relationsOf (o .presentation)
+        → (o .presentation .n ≡ n) × (o .presentation .primes ≡ primes) × (o .presentation .words ≡ rows) → Held relationsOf (o .presentation)
     held-by h o k =
         record { count = k .0; few = few; reads = subst₂ (Reads (presentation relationsOf) n) (sym (k .1)) (sym (k .2)) (rows-read h) }
 
-  pub concluded : flag ≡ true → n ≤ maxGenerators → {o : Outcome} → Concluded n words ps o → ReadText t o
-  concluded q few {o} h = pick (leb (product (h .primes) n) maxOrder) (allWell words ps (h .primes) n) refl refl (h .number)
+  pub concluded : flag ≡ true → n ≤ maxGenerators → {o : Outcome} → Concluded n rows ps o → ReadText t o
+  concluded q few {o} h = pick (leb (product (h .primes) n) maxOrder) (allWell rows ps (h .primes) n) refl refl (h .number)
     where
       not12 : ¬ says t (λ (R : Relations). someNotPrime R ≡ true)
       not12 = unsaid someNotPrime says-them (all-prime q)
@@ -177,7 +177,7 @@ module _ {t : Bytes} {n next : ℕ} (nm : NamesLine t n next) {words : List (Lis
       not13 : leb (product (h .primes) n) maxOrder ≡ true → ¬ says t (λ (R : Relations). tooLarge R ≡ true)
       not13 w = unsaid tooLarge says-them (large true w)
 
-      pick : (a b : Bool) → leb (product (h .primes) n) maxOrder ≡ a → allWell words ps (h .primes) n ≡ b
+      pick : (a b : Bool) → leb (product (h .primes) n) maxOrder ≡ a → allWell rows ps (h .primes) n ≡ b
           → o .status ≡ cond a (cond b 0 14) 13 → ReadText t o
       pick false b x y e =
           record { answered = inr (in-form, inr (not12, inl ((relationsOf, says-them, large false x), e))); held = λ z. absurd (omega arith) }
@@ -200,13 +200,13 @@ refused-form h e = record { answered = inl (h, e); held = λ z. absurd (omega ar
 
 -- ---- What was kept
 
-module _ {n : ℕ} {words : List (List ℕ)} {ps primes : List ℕ} (are : Primes ps n primes) {o : Outcome} where
-  pub concluded-large : leb (product primes n) maxOrder ≡ false → o .status ≡ 13 → Concluded n words ps o
+module _ {n : ℕ} {rows : List (List ℕ)} {ps primes : List ℕ} (are : Primes ps n primes) {o : Outcome} where
+  pub concluded-large : leb (product primes n) maxOrder ≡ false → o .status ≡ 13 → Concluded n rows ps o
   concluded-large h e =
-      record { primes = primes; are = are; number = e ∙ sym (ap (λ (b : Bool). cond b (cond (allWell words ps primes n) 0 14) 13) h); kept = λ z. absurd (omega arith) }
+      record { primes = primes; are = are; number = e ∙ sym (ap (λ (b : Bool). cond b (cond (allWell rows ps primes n) 0 14) 13) h); kept = λ z. absurd (omega arith) }
 
   module _ (fits : leb (product primes n) maxOrder ≡ true) where
-    pub concluded-misused : allWell words ps primes n ≡ false → o .status ≡ 14 → Concluded n words ps o
+    pub concluded-misused : allWell rows ps primes n ≡ false → o .status ≡ 14 → Concluded n rows ps o
     concluded-misused h e = record {
       primes = primes;
       are = are;
@@ -214,8 +214,8 @@ module _ {n : ℕ} {words : List (List ℕ)} {ps primes : List ℕ} (are : Prime
       kept = λ z. absurd (omega arith);
     }
 
-    pub concluded-well : allWell words ps primes n ≡ true → o .status ≡ 0
-        → (o .presentation .n ≡ n) × (o .presentation .primes ≡ primes) × (o .presentation .words ≡ words) → Concluded n words ps o
+    pub concluded-well : allWell rows ps primes n ≡ true → o .status ≡ 0
+        → (o .presentation .n ≡ n) × (o .presentation .primes ≡ primes) × (o .presentation .words ≡ rows) → Concluded n rows ps o
     concluded-well h e k = record {
       primes = primes;
       are = are;

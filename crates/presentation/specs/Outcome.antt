@@ -26,8 +26,8 @@ pub record ReadText (t : Bytes) (o : Outcome) : Type 0 where
   pub answered : First (textRefusals t) (o .status)
   pub held : o .status ≡ 0 → says t (λ R. Held R (o .presentation))
 
-pub record Concluded (n : ℕ) (words : List (List ℕ)) (ps : List ℕ) (o : Outcome) : Type 0 where
+pub record Concluded (n : ℕ) (rows : List (List ℕ)) (ps : List ℕ) (o : Outcome) : Type 0 where
   pub primes : List ℕ
   pub are : Primes ps n primes
-  pub number : o .status ≡ cond (leb (product primes n) maxOrder) (cond (allWell words ps primes n) 0 14) 13
-  pub kept : o .status ≡ 0 → (o .presentation .n ≡ n) × (o .presentation .primes ≡ primes) × (o .presentation .words ≡ words)
+  pub number : o .status ≡ cond (leb (product primes n) maxOrder) (cond (allWell rows ps primes n) 0 14) 13
+  pub kept : o .status ≡ 0 → (o .presentation .n ≡ n) × (o .presentation .primes ≡ primes) × (o .presentation .words ≡ rows)

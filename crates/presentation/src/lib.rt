@@ -1,6 +1,6 @@
 // The read presentation, and the answer to its text (refusals 11 to 14).
 //
-//   ReadPresentation          n, the primes, and the words in rows
+//   ReadPresentation          n, the primes, and the rows
 //   make, words_of        the two functions that touch the rows as a field
 //   Outcome, refused      what reading leaves: a refusal, or 0 and the presentation
 //   conclude              refusals 13 and 14 on what was kept of a text whose generators have room
@@ -24,10 +24,14 @@ pub struct ReadPresentation {
     pub words: Words,
 }
 
-pub fn make(n: usize, primes: Row, words: Words) -> ReadPresentation
-    ensures { λ r. ⌜ (r .n ≡ n) × (r .primes ≡ primes) × (r .words ≡ words) ⌝ }
+pub fn make(n: usize, primes: Row, rows: Words) -> ReadPresentation
+    ensures { λ r. ⌜ (r .n ≡ n) × (r .primes ≡ primes) × (r .words ≡ rows) ⌝ }
 {
-    ReadPresentation { n, primes, words }
+    ReadPresentation {
+        n,
+        primes,
+        words: rows,
+    }
 }
 
 pub fn words_of(p: ReadPresentation) -> Words
@@ -54,19 +58,19 @@ fn refused(status: u32) -> Outcome
 }
 
 // Refusals 13 and 14 on what was kept of a text with n generators.
-fn conclude(n: usize, words: Words, ps: [u32; PAIRS]) -> Outcome
+fn conclude(n: usize, rows: Words, ps: [u32; PAIRS]) -> Outcome
     requires { ⌜ n ≤ maxGenerators ⌝ }
     requires { ⌜ ((j : ℕ) → j < n → 0 < getD ps (pairNumber j j) 0) ⌝ }
-    ensures { λ r. ⌜ Concluded n words ps r ⌝ }
+    ensures { λ r. ⌜ Concluded n rows ps r ⌝ }
 {
     let primes = judge::primes_of(&ps, n);
     if !judge::order_fits(&primes, n) {
         return refused(13);
     }
-    if !judge::well(&words, &ps, &primes, n) {
+    if !judge::well(&rows, &ps, &primes, n) {
         return refused(14);
     }
-    let presentation = make(n, primes, words);
+    let presentation = make(n, primes, rows);
     Outcome {
         status: 0,
         presentation,
@@ -80,9 +84,9 @@ pub fn read(text: &[u8]) -> Outcome
     let Read::Value(n, at) = reader::names(text) else {
         return refused(11);
     };
-    let mut words = [[0u32; GENERATORS]; PAIRS];
+    let mut rows = [[0u32; GENERATORS]; PAIRS];
     let mut ps = [0u32; PAIRS];
-    let l = reader::read_lines(text, at, n, &mut words, &mut ps);
+    let l = reader::read_lines(text, at, n, &mut rows, &mut ps);
     let ok = l.ok;
     if !ok {
         return refused(11);
@@ -95,5 +99,5 @@ pub fn read(text: &[u8]) -> Outcome
     if GENERATORS < count {
         return refused(13);
     }
-    conclude(count, words, ps)
+    conclude(count, rows, ps)
 }

@@ -1,6 +1,6 @@
 -- Laws of reading all lines of values.
 --
---   kept-words-length, kept-ps-length, stored-one     what is kept of one line more
+--   kept-rows-length, kept-ps-length, stored-one     what is kept of one line more
 --   passes-prime, passes-composite     what the test of a p says
 --   Reading                     k lines have been read, and the next is that of (j, i)
 --   reading-none, reading-more  none; one more
@@ -29,16 +29,16 @@ use Rattle.text.proofs.Trail.{all-one}
 use Rattle.reader.specs.Lines.{HeadLine, WordLine}
 use Rattle.reader.specs.Rows.{noRow, rowText, passes, RowKept, RowsStored, AllLines, NoLines, LinesAt}
 use Rattle.reader.proofs.Words.{getD-snoc, getD-snoc-other}
-use Rattle.reader.proofs.Rows.{pairs-at, NoLine, line-some, rowText-nil, rowText-one, rows-ahead, rows-whole, formed-row}
+use Rattle.reader.proofs.Rows.{pairs-at, NoLine, line-some, rowText-nil, rowText-one, lines-ahead, lines-whole, formed-row}
 
 -- ---- What is kept of a line
 
-module _ {words : List (List ℕ)} {ps : List ℕ} {k p : ℕ} {e : List ℕ} {words′ : List (List ℕ)} {ps′ : List ℕ} (h : RowKept words ps k p e words′ ps′) where
-  pub kept-words-length : length words′ ≡ length words
-  kept-words-length = pick (decLt k pairCount)
+module _ {rows : List (List ℕ)} {ps : List ℕ} {k p : ℕ} {e : List ℕ} {rows′ : List (List ℕ)} {ps′ : List ℕ} (h : RowKept rows ps k p e rows′ ps′) where
+  pub kept-rows-length : length rows′ ≡ length rows
+  kept-rows-length = pick (decLt k pairCount)
     where
-      pick : Dec (k < pairCount) → length words′ ≡ length words
-      pick (yes l) = ap length (h .kept-word l) ∙ length-set words k e
+      pick : Dec (k < pairCount) → length rows′ ≡ length rows
+      pick (yes l) = ap length (h .kept-word l) ∙ length-set rows k e
       pick (no l) = ap length (h .past-word (omega arith))
 
   pub kept-ps-length : length ps′ ≡ length ps
@@ -48,11 +48,11 @@ module _ {words : List (List ℕ)} {ps : List ℕ} {k p : ℕ} {e : List ℕ} {w
       pick (yes l) = ap length (h .kept-p l) ∙ length-set ps k p
       pick (no l) = ap length (h .past-p (omega arith))
 
-  word-other : (m : ℕ) → m ≢ k → getD words′ m [] ≡ getD words m []
+  word-other : (m : ℕ) → m ≢ k → getD rows′ m [] ≡ getD rows m []
   word-other m n = pick (decLt k pairCount)
     where
-      pick : Dec (k < pairCount) → getD words′ m [] ≡ getD words m []
-      pick (yes l) = ap (λ (w : List (List ℕ)). getD w m []) (h .kept-word l) ∙ getD-set-other words k m e [] n
+      pick : Dec (k < pairCount) → getD rows′ m [] ≡ getD rows m []
+      pick (yes l) = ap (λ (w : List (List ℕ)). getD w m []) (h .kept-word l) ∙ getD-set-other rows k m e [] n
       pick (no l) = ap (λ (w : List (List ℕ)). getD w m []) (h .past-word (omega arith))
 
   p-other : (m : ℕ) → m ≢ k → getD ps′ m 0 ≡ getD ps m 0
@@ -62,35 +62,35 @@ module _ {words : List (List ℕ)} {ps : List ℕ} {k p : ℕ} {e : List ℕ} {w
       pick (yes l) = ap (λ (w : List ℕ). getD w m 0) (h .kept-p l) ∙ getD-set-other ps k m p 0 n
       pick (no l) = ap (λ (w : List ℕ). getD w m 0) (h .past-p (omega arith))
 
-  pub stored-one : (rows : List Row) (row : Row) → length rows ≡ k → length words ≡ pairCount → length ps ≡ pairCount → p ≡ row .p
-      → ((c : ℕ) → c < maxGenerators → getD e c 0 ≡ getD (row .word) c 0) → RowsStored rows words ps → RowsStored (rows ++ (row ∷ [])) words′ ps′
-  stored-one rows row count a b same keeps s =
+  pub stored-one : (lines : List Row) (row : Row) → length lines ≡ k → length rows ≡ pairCount → length ps ≡ pairCount → p ≡ row .p
+      → ((c : ℕ) → c < maxGenerators → getD e c 0 ≡ getD (row .word) c 0) → RowsStored lines rows ps → RowsStored (lines ++ (row ∷ [])) rows′ ps′
+  stored-one lines row count a b same keeps s =
       record {
         word-kept = λ m l d c g. word m l d c g (ℕ-discrete m k);
         p-kept = λ m l d. value m l d (ℕ-discrete m k);
       }
     where
-      below : (m : ℕ) → m < length (rows ++ (row ∷ [])) → m ≢ k → m < length rows
-      below m l n = omega (arith, length-append rows (row ∷ []))
+      below : (m : ℕ) → m < length (lines ++ (row ∷ [])) → m ≢ k → m < length lines
+      below m l n = omega (arith, length-append lines (row ∷ []))
 
-      word : (m : ℕ) → m < length (rows ++ (row ∷ [])) → m < pairCount → (c : ℕ) → c < maxGenerators → Dec (m ≡ k)
-          → getD (getD words′ m []) c 0 ≡ getD (getD (rows ++ (row ∷ [])) m noRow .word) c 0
+      word : (m : ℕ) → m < length (lines ++ (row ∷ [])) → m < pairCount → (c : ℕ) → c < maxGenerators → Dec (m ≡ k)
+          → getD (getD rows′ m []) c 0 ≡ getD (getD (lines ++ (row ∷ [])) m noRow .word) c 0
       word m l d c g (yes q) =
-          let u : getD words′ m [] ≡ e =
-          ap (λ (w : List (List ℕ)). getD w m []) (h .kept-word (omega arith)) ∙ ap (λ (j : ℕ). getD (set words k e) j []) q ∙ getD-set-same words k e [] (omega arith) in
-          ap (λ (xs : List ℕ). getD xs c 0) u ∙ keeps c g ∙ ap (λ (r : Row). getD (r .word) c 0) (sym (getD-snoc rows row noRow m (count ∙ sym q)))
+          let u : getD rows′ m [] ≡ e =
+          ap (λ (w : List (List ℕ)). getD w m []) (h .kept-word (omega arith)) ∙ ap (λ (j : ℕ). getD (set rows k e) j []) q ∙ getD-set-same rows k e [] (omega arith) in
+          ap (λ (xs : List ℕ). getD xs c 0) u ∙ keeps c g ∙ ap (λ (r : Row). getD (r .word) c 0) (sym (getD-snoc lines row noRow m (count ∙ sym q)))
       word m l d c g (no q) =
           ap (λ (xs : List ℕ). getD xs c 0) (word-other m q)
           ∙ s .word-kept m (below m l q) d c g
-          ∙ ap (λ (r : Row). getD (r .word) c 0) (sym (getD-snoc-other rows row noRow m (λ w. q (w ∙ count))))
+          ∙ ap (λ (r : Row). getD (r .word) c 0) (sym (getD-snoc-other lines row noRow m (λ w. q (w ∙ count))))
 
-      value : (m : ℕ) → m < length (rows ++ (row ∷ [])) → m < pairCount → Dec (m ≡ k) → getD ps′ m 0 ≡ getD (rows ++ (row ∷ [])) m noRow .p
+      value : (m : ℕ) → m < length (lines ++ (row ∷ [])) → m < pairCount → Dec (m ≡ k) → getD ps′ m 0 ≡ getD (lines ++ (row ∷ [])) m noRow .p
       value m l d (yes q) =
           let u : getD ps′ m 0 ≡ p =
           ap (λ (w : List ℕ). getD w m 0) (h .kept-p (omega arith)) ∙ ap (λ (j : ℕ). getD (set ps k p) j 0) q ∙ getD-set-same ps k p 0 (omega arith) in
-          u ∙ same ∙ ap (λ (r : Row). r .p) (sym (getD-snoc rows row noRow m (count ∙ sym q)))
+          u ∙ same ∙ ap (λ (r : Row). r .p) (sym (getD-snoc lines row noRow m (count ∙ sym q)))
       value m l d (no q) =
-          p-other m q ∙ s .p-kept m (below m l q) d ∙ ap (λ (r : Row). r .p) (sym (getD-snoc-other rows row noRow m (λ w. q (w ∙ count))))
+          p-other m q ∙ s .p-kept m (below m l q) d ∙ ap (λ (r : Row). r .p) (sym (getD-snoc-other lines row noRow m (λ w. q (w ∙ count))))
 
 -- ---- The p of a line
 
@@ -106,22 +106,22 @@ passes-composite j i p h = pick (ℕ-discrete i j)
 
 -- ---- Reading
 
-pub record Reading (t : Bytes) (start n at j i k : ℕ) (words : List (List ℕ)) (ps : List ℕ) (primes : Bool) : Type 0 where
-  pub rows : List Row
-  pub count : length rows ≡ k
-  pub formed : all (rowFormed n) rows ≡ true
-  pub text : drop start t ≡ rowText n rows ++ drop at t
+pub record Reading (t : Bytes) (start n at j i k : ℕ) (rows : List (List ℕ)) (ps : List ℕ) (primes : Bool) : Type 0 where
+  pub lines : List Row
+  pub count : length lines ≡ k
+  pub formed : all (rowFormed n) lines ≡ true
+  pub text : drop start t ≡ rowText n lines ++ drop at t
   pub number : pairNumber j i ≡ k
   pub below : i ≤ j
   pub top : j ≤ n
   pub few : k ≤ sum n suc
   pub turns : k ≤ at
   pub within : at ≤ length t
-  pub words-length : length words ≡ pairCount
+  pub rows-length : length rows ≡ pairCount
   pub ps-length : length ps ≡ pairCount
-  pub stored : RowsStored rows words ps
-  pub prime : primes ≡ true → (g : ℕ) → g < n → pairNumber g g < k → isPrime (getD rows (pairNumber g g) noRow .p) ≡ true
-  pub composite : primes ≡ false → (g : ℕ) × (g < n) × (pairNumber g g < k) × (isPrime (getD rows (pairNumber g g) noRow .p) ≡ false)
+  pub stored : RowsStored lines rows ps
+  pub prime : primes ≡ true → (g : ℕ) → g < n → pairNumber g g < k → isPrime (getD lines (pairNumber g g) noRow .p) ≡ true
+  pub composite : primes ≡ false → (g : ℕ) × (g < n) × (pairNumber g g < k) × (isPrime (getD lines (pairNumber g g) noRow .p) ≡ false)
 
 all-nil : {A : Type 0} (q : A → Bool) → all q [] ≡ true
 unfolding all
@@ -135,11 +135,11 @@ number-least j i l = pick (ℕ-discrete i j)
     pick (no q) = omega (arith, pairNumber-commutator j i (omega arith))
 
 module _ {t : Bytes} {start n : ℕ} where
-  pub reading-none : {words : List (List ℕ)} {ps : List ℕ} → start ≤ length t → length words ≡ pairCount → length ps ≡ pairCount
-      → Reading t start n start 0 0 0 words ps true
+  pub reading-none : {rows : List (List ℕ)} {ps : List ℕ} → start ≤ length t → length rows ≡ pairCount → length ps ≡ pairCount
+      → Reading t start n start 0 0 0 rows ps true
   reading-none l a b =
       record {
-        rows = [];
+        lines = [];
         count = refl;
         formed = none;
         text = ap (λ (xs : Bytes). xs ++ drop start t) (sym (rowText-nil n));
@@ -149,7 +149,7 @@ module _ {t : Bytes} {start n : ℕ} where
         few = omega arith;
         turns = omega arith;
         within = l;
-        words-length = a;
+        rows-length = a;
         ps-length = b;
         stored = record { word-kept = λ m x y c z. absurd (omega arith); p-kept = λ m x y. absurd (omega arith) };
         prime = λ q g x y. absurd (omega arith);
@@ -159,21 +159,21 @@ module _ {t : Bytes} {start n : ℕ} where
       none : all (rowFormed n) [] ≡ true
       none = all-nil (rowFormed n)
 
-  module _ {at j i k : ℕ} {words : List (List ℕ)} {ps : List ℕ} {primes : Bool} (h : Reading t start n at j i k words ps primes) where
+  module _ {at j i k : ℕ} {rows : List (List ℕ)} {ps : List ℕ} {primes : Bool} (h : Reading t start n at j i k rows ps primes) where
     pub reading-below : j < n → k < sum n suc
     reading-below l = omega (arith, pairNumber-below n j i (h .below) l, h .number)
 
-    here : j < n → getD (pairs n) (length (h .rows)) (0, 0) ≡ (j, i)
+    here : j < n → getD (pairs n) (length (h .lines)) (0, 0) ≡ (j, i)
     here l = ap (λ (m : ℕ). getD (pairs n) m (0, 0)) (h .count ∙ sym (h .number)) ∙ pairs-at n j i l (h .below)
 
-    room : j < n → length (h .rows) < length (pairs n)
+    room : j < n → length (h .lines) < length (pairs n)
     room l = omega (arith, h .count, reading-below l, length-pairs n)
 
     pub reading-no-line : j < n → NoLine t at n j i → NoLines t start n
     reading-no-line l m = record {
-      none = λ rows c f q.
-          let a = rows-ahead n j i (h .rows) rows (drop at t) (omega (arith, room l)) c (here l) (sym (h .text) ∙ q) in
-          m .none (getD rows (length (h .rows)) noRow) (a .0) (all-getD (rowFormed n) rows noRow f (length (h .rows)) (omega (arith, room l))) (a .1);
+      none = λ lines c f q.
+          let a = lines-ahead n j i (h .lines) lines (drop at t) (omega (arith, room l)) c (here l) (sym (h .text) ∙ q) in
+          m .none (getD lines (length (h .lines)) noRow) (a .0) (all-getD (rowFormed n) lines noRow f (length (h .lines)) (omega (arith, room l))) (a .1);
     }
 
     -- all lines are read
@@ -185,28 +185,28 @@ module _ {t : Bytes} {start n : ℕ} where
     -- the lines are read, and more stands behind them
     pub reading-over : n ≤ j → at < length t → NoLines t start n
     reading-over l m = record {
-      none = λ rows c f q.
-          let e : length (h .rows) ≡ length rows = omega (arith, h .count, all-read l, length-pairs n) in
-          omega (arith, length-drop at t, ap length (rows-whole n (h .rows) rows (drop at t) e (sym (h .text) ∙ q)));
+      none = λ lines c f q.
+          let e : length (h .lines) ≡ length lines = omega (arith, h .count, all-read l, length-pairs n) in
+          omega (arith, length-drop at t, ap length (lines-whole n (h .lines) lines (drop at t) e (sym (h .text) ∙ q)));
     }
 
     -- one more line
     module _ (l : j < n) {p behind : ℕ} (hd : HeadLine t at j i p behind) {e : List ℕ} {next : ℕ} (wd : WordLine t behind n e next)
-        {words′ : List (List ℕ)} {ps′ : List ℕ} (kp : RowKept words ps k p e words′ ps′) {primes′ : Bool} (pq : primes′ ≡ (primes && passes j i p))
+        {rows′ : List (List ℕ)} {ps′ : List ℕ} (kp : RowKept rows ps k p e rows′ ps′) {primes′ : Bool} (pq : primes′ ≡ (primes && passes j i p))
         {j′ i′ : ℕ} (nx : (pairNumber j′ i′ ≡ pairNumber j i + 1) × (i′ ≤ j′) × (j′ ≤ j + 1)) where
       row : Row
       row = record { p = p; word = wd .word }
 
-      rows′ : List Row
-      rows′ = h .rows ++ (row ∷ [])
+      lines′ : List Row
+      lines′ = h .lines ++ (row ∷ [])
 
-      row-here : getD rows′ k noRow ≡ row
-      unfolding row rows′
-      row-here = getD-snoc (h .rows) row noRow k (h .count)
+      row-here : getD lines′ k noRow ≡ row
+      unfolding row lines′
+      row-here = getD-snoc (h .lines) row noRow k (h .count)
 
-      row-other : (m : ℕ) → m ≢ k → getD rows′ m noRow ≡ getD (h .rows) m noRow
-      unfolding row rows′
-      row-other m q = getD-snoc-other (h .rows) row noRow m (λ w. q (w ∙ h .count))
+      row-other : (m : ℕ) → m ≢ k → getD lines′ m noRow ≡ getD (h .lines) m noRow
+      unfolding row lines′
+      row-other m q = getD-snoc-other (h .lines) row noRow m (λ w. q (w ∙ h .count))
 
       -- the pair with number k is (j, i)
       diagonal : (g : ℕ) → g < n → pairNumber g g ≡ k → (g ≡ j) × (g ≡ i)
@@ -215,71 +215,71 @@ module _ {t : Bytes} {start n : ℕ} where
           sym (pairs-at n g g b (omega arith)) ∙ ap (λ (m : ℕ). getD (pairs n) m (0, 0)) (q ∙ sym (h .number)) ∙ pairs-at n j i l (h .below) in
           (ap (λ (x : ℕ × ℕ). x .0) w, ap (λ (x : ℕ × ℕ). x .1) w)
 
-      primes-more : primes′ ≡ true → (g : ℕ) → g < n → pairNumber g g < k + 1 → isPrime (getD rows′ (pairNumber g g) noRow .p) ≡ true
+      primes-more : primes′ ≡ true → (g : ℕ) → g < n → pairNumber g g < k + 1 → isPrime (getD lines′ (pairNumber g g) noRow .p) ≡ true
       unfolding row
       primes-more q g b c = pick (ℕ-discrete (pairNumber g g) k)
         where
           both : (primes && passes j i p) ≡ true
           both = sym pq ∙ q
 
-          pick : Dec (pairNumber g g ≡ k) → isPrime (getD rows′ (pairNumber g g) noRow .p) ≡ true
+          pick : Dec (pairNumber g g ≡ k) → isPrime (getD lines′ (pairNumber g g) noRow .p) ≡ true
           pick (yes w) =
-              ap (λ (m : ℕ). isPrime (getD rows′ m noRow .p)) w ∙ ap (λ (r : Row). isPrime (r .p)) row-here
+              ap (λ (m : ℕ). isPrime (getD lines′ m noRow .p)) w ∙ ap (λ (r : Row). isPrime (r .p)) row-here
               ∙ passes-prime j i p (and-right primes (passes j i p) both) (sym (diagonal g b w .1) ∙ diagonal g b w .0)
           pick (no w) =
               ap (λ (r : Row). isPrime (r .p)) (row-other (pairNumber g g) w) ∙ h .prime (and-left primes (passes j i p) both) g b (omega arith)
 
-      composite-more : primes′ ≡ false → (g : ℕ) × (g < n) × (pairNumber g g < k + 1) × (isPrime (getD rows′ (pairNumber g g) noRow .p) ≡ false)
+      composite-more : primes′ ≡ false → (g : ℕ) × (g < n) × (pairNumber g g < k + 1) × (isPrime (getD lines′ (pairNumber g g) noRow .p) ≡ false)
       unfolding row
       composite-more q = pick primes refl
         where
-          pick : (b : Bool) → primes ≡ b → (g : ℕ) × (g < n) × (pairNumber g g < k + 1) × (isPrime (getD rows′ (pairNumber g g) noRow .p) ≡ false)
+          pick : (b : Bool) → primes ≡ b → (g : ℕ) × (g < n) × (pairNumber g g < k + 1) × (isPrime (getD lines′ (pairNumber g g) noRow .p) ≡ false)
           pick false w =
               let o = h .composite w in
               (o .0, o .1, omega (arith, o .2), ap (λ (r : Row). isPrime (r .p)) (row-other (pairNumber (o .0) (o .0)) (λ z. omega (arith, o .2))) ∙ o .3)
           pick true w =
               let z = passes-composite j i p (ap (λ (b : Bool). b && passes j i p) (sym w) ∙ sym pq ∙ q) in
               let m : pairNumber j j ≡ k = ap (pairNumber j) (sym (z .0)) ∙ h .number in
-              (j, l, omega arith, ap (λ (x : ℕ). isPrime (getD rows′ x noRow .p)) m ∙ ap (λ (r : Row). isPrime (r .p)) row-here ∙ z .1)
+              (j, l, omega arith, ap (λ (x : ℕ). isPrime (getD lines′ x noRow .p)) m ∙ ap (λ (r : Row). isPrime (r .p)) row-here ∙ z .1)
 
-      pub reading-more : Reading t start n next j′ i′ (k + 1) words′ ps′ primes′
-      unfolding row rows′
+      pub reading-more : Reading t start n next j′ i′ (k + 1) rows′ ps′ primes′
+      unfolding row lines′
       reading-more =
           record {
-            rows = rows′;
-            count = length-append (h .rows) (row ∷ []) ∙ ap (λ (m : ℕ). m + 1) (h .count);
-            formed = all-one (rowFormed n) (h .rows) row (h .formed) (formed-row n row (wd .count) (hd .small) (wd .small-all));
+            lines = lines′;
+            count = length-append (h .lines) (row ∷ []) ∙ ap (λ (m : ℕ). m + 1) (h .count);
+            formed = all-one (rowFormed n) (h .lines) row (h .formed) (formed-row n row (wd .count) (hd .small) (wd .small-all));
             text =
                 h .text
-                ∙ ap (λ (xs : Bytes). rowText n (h .rows) ++ xs) (line-some n hd wd)
-                ∙ sym (rowText-one n j i (h .rows) row (drop next t) (room l) (here l));
+                ∙ ap (λ (xs : Bytes). rowText n (h .lines) ++ xs) (line-some n hd wd)
+                ∙ sym (rowText-one n j i (h .lines) row (drop next t) (room l) (here l));
             number = nx .0 ∙ ap (λ (m : ℕ). m + 1) (h .number);
             below = nx .1;
             top = omega (arith, nx .2);
             few = omega (arith, reading-below l);
             turns = omega (arith, h .turns, hd .further, wd .further);
             within = wd .within;
-            words-length = kept-words-length kp ∙ h .words-length;
+            rows-length = kept-rows-length kp ∙ h .rows-length;
             ps-length = kept-ps-length kp ∙ h .ps-length;
-            stored = stored-one kp (h .rows) row (h .count) (h .words-length) (h .ps-length) refl (wd .keeps) (h .stored);
+            stored = stored-one kp (h .lines) row (h .count) (h .rows-length) (h .ps-length) refl (wd .keeps) (h .stored);
             prime = primes-more;
             composite = composite-more;
           }
 
-    reading-whole : n ≤ j → at ≡ length t → AllLines t start n words ps primes
+    reading-whole : n ≤ j → at ≡ length t → AllLines t start n rows ps primes
     reading-whole l q =
         let e : k ≡ sum n suc = all-read l in
         record {
-          rows = h .rows;
+          lines = h .lines;
           count = h .count ∙ e ∙ sym (length-pairs n);
           formed = h .formed;
-          text = h .text ∙ ap (λ (xs : Bytes). rowText n (h .rows) ++ xs) (drop-of-length-le t {i = at} (omega arith)) ∙ append-nil (rowText n (h .rows));
+          text = h .text ∙ ap (λ (xs : Bytes). rowText n (h .lines) ++ xs) (drop-of-length-le t {i = at} (omega arith)) ∙ append-nil (rowText n (h .lines));
           stored = h .stored;
           prime = λ w g b. h .prime w g b (omega (arith, pairNumber-below n g g (omega arith) b));
           composite = λ w. let o = h .composite w in (o .0, o .1, o .3);
         }
 
-    pub reading-end : n ≤ j → LinesAt t start n words ps (record { ok = eqb at (length t); primes = primes })
+    pub reading-end : n ≤ j → LinesAt t start n rows ps (record { ok = eqb at (length t); primes = primes })
     reading-end l =
         record {
           stands = λ q. reading-whole l (eqb-true at (length t) q);
@@ -290,5 +290,5 @@ module _ {t : Bytes} {start n : ℕ} where
         pick (yes q) n = absurd (n q)
         pick (no q) n = omega (arith, h .within)
 
-    pub reading-refused : NoLines t start n → LinesAt t start n words ps (record { ok = false; primes = primes })
+    pub reading-refused : NoLines t start n → LinesAt t start n rows ps (record { ok = false; primes = primes })
     reading-refused m = record { stands = λ q. absurd (false≢true q); fails = λ q. m }

@@ -3,8 +3,8 @@
 --   pairs-at                     the pair that has a number
 --   line-text, line-some         a line by its head and its word
 --   NoLine, line-no-head, line-no-word      why no line of a pair stands somewhere
---   rowText-nil, rowText-one     no rows; one row more
---   rows-ahead, rows-whole       rows that stand before others are the first of them
+--   rowText-nil, rowText-one     no lines; one line more
+--   lines-ahead, lines-whole     lines that stand before others are the first of them
 --   formed-count, formed-p, formed-small, formed-row      what the form asks of a row
 use mathlib.Core.Path.{_≡_, refl, sym, ap, _∙_}
 use mathlib.Core.Bool.{true, _&&_}
@@ -99,7 +99,7 @@ module _ {t : Bytes} {at j i : ℕ} (n : ℕ) where
 
 -- ---- Lines one behind the other
 
-flatMap-one : (rows : List (List ℕ)) (row : List ℕ) → flatMap valueLine (rows ++ (row ∷ [])) ≡ flatMap valueLine rows ++ valueLine row
+flatMap-one : (lines : List (List ℕ)) (row : List ℕ) → flatMap valueLine (lines ++ (row ∷ [])) ≡ flatMap valueLine lines ++ valueLine row
 flatMap-one [] row =
     flatMap-cons valueLine row [] ∙ ap (λ (xs : Bytes). valueLine row ++ xs) (flatMap-nil valueLine) ∙ append-nil (valueLine row)
     ∙ ap (λ (xs : Bytes). xs ++ valueLine row) (sym (flatMap-nil valueLine))
@@ -109,10 +109,10 @@ flatMap-one (x ∷ xs) row =
     ∙ sym (append-assoc (valueLine x) (flatMap valueLine xs) (valueLine row))
     ∙ ap (λ (ys : Bytes). ys ++ valueLine row) (sym (flatMap-cons valueLine x xs))
 
-zip-one : (ps : List (ℕ × ℕ)) (rows : List Row) (row : Row) → length rows < length ps
-    → zipWith rowValues ps (rows ++ (row ∷ [])) ≡ zipWith rowValues ps rows ++ (rowValues (getD ps (length rows) (0, 0)) row ∷ [])
+zip-one : (ps : List (ℕ × ℕ)) (lines : List Row) (row : Row) → length lines < length ps
+    → zipWith rowValues ps (lines ++ (row ∷ [])) ≡ zipWith rowValues ps lines ++ (rowValues (getD ps (length lines) (0, 0)) row ∷ [])
 unfolding zipWith
-zip-one [] rows row l = absurd (omega arith)
+zip-one [] lines row l = absurd (omega arith)
 zip-one (q ∷ []) [] row l = refl
 zip-one (q ∷ q′ ∷ qs) [] row l = refl
 zip-one (q ∷ qs) (r ∷ rs) row l = ap (λ (xs : List (List ℕ)). rowValues q r ∷ xs) (zip-one qs rs row (le-of-suc-le-suc l))
@@ -125,23 +125,23 @@ rowText-nil n = ap (flatMap valueLine) (none (pairs n)) ∙ flatMap-nil valueLin
     none [] = refl
     none (q ∷ qs) = refl
 
-pub rowText-one : (n j i : ℕ) (rows : List Row) (row : Row) (r : Bytes) → length rows < length (pairs n) → getD (pairs n) (length rows) (0, 0) ≡ (j, i)
-    → rowText n (rows ++ (row ∷ [])) ++ r ≡ rowText n rows ++ (valueLine (rowValues (j, i) row) ++ r)
+pub rowText-one : (n j i : ℕ) (lines : List Row) (row : Row) (r : Bytes) → length lines < length (pairs n) → getD (pairs n) (length lines) (0, 0) ≡ (j, i)
+    → rowText n (lines ++ (row ∷ [])) ++ r ≡ rowText n lines ++ (valueLine (rowValues (j, i) row) ++ r)
 unfolding rowText
-rowText-one n j i rows row r l q =
+rowText-one n j i lines row r l q =
     ap (λ (xs : Bytes). xs ++ r)
-    (ap (flatMap valueLine) (zip-one (pairs n) rows row l) ∙ flatMap-one (zipWith rowValues (pairs n) rows) (rowValues (getD (pairs n) (length rows) (0, 0)) row))
-    ∙ append-assoc (rowText n rows) (valueLine (rowValues (getD (pairs n) (length rows) (0, 0)) row)) r
-    ∙ ap (λ (ji : ℕ × ℕ). rowText n rows ++ (valueLine (rowValues ji row) ++ r)) q
+    (ap (flatMap valueLine) (zip-one (pairs n) lines row l) ∙ flatMap-one (zipWith rowValues (pairs n) lines) (rowValues (getD (pairs n) (length lines) (0, 0)) row))
+    ∙ append-assoc (rowText n lines) (valueLine (rowValues (getD (pairs n) (length lines) (0, 0)) row)) r
+    ∙ ap (λ (ji : ℕ × ℕ). rowText n lines ++ (valueLine (rowValues ji row) ++ r)) q
 
--- the line that follows the first rows
-ahead : (ps : List (ℕ × ℕ)) (rows rows′ : List Row) (r : Bytes) → length rows < length rows′ → length rows′ ≤ length ps
-    → flatMap valueLine (zipWith rowValues ps rows) ++ r ≡ flatMap valueLine (zipWith rowValues ps rows′)
-    → (s : Bytes) × (r ≡ valueLine (rowValues (getD ps (length rows) (0, 0)) (getD rows′ (length rows) noRow)) ++ s)
+-- the line that follows the first lines
+ahead : (ps : List (ℕ × ℕ)) (lines lines′ : List Row) (r : Bytes) → length lines < length lines′ → length lines′ ≤ length ps
+    → flatMap valueLine (zipWith rowValues ps lines) ++ r ≡ flatMap valueLine (zipWith rowValues ps lines′)
+    → (s : Bytes) × (r ≡ valueLine (rowValues (getD ps (length lines) (0, 0)) (getD lines′ (length lines) noRow)) ++ s)
 unfolding zipWith
-ahead [] rows [] r l m q = absurd (omega arith)
-ahead [] rows (x ∷ xs) r l m q = absurd (omega arith)
-ahead (p ∷ ps) rows [] r l m q = absurd (omega arith)
+ahead [] lines [] r l m q = absurd (omega arith)
+ahead [] lines (x ∷ xs) r l m q = absurd (omega arith)
+ahead (p ∷ ps) lines [] r l m q = absurd (omega arith)
 ahead (p ∷ ps) [] (x ∷ xs) r l m q =
     (flatMap valueLine (zipWith rowValues ps xs), ap (λ (ys : Bytes). ys ++ r) (sym (flatMap-nil valueLine)) ∙ q ∙ flatMap-cons valueLine (rowValues p x) (zipWith rowValues ps xs))
 ahead (p ∷ ps) (y ∷ ys) (x ∷ xs) r l m q =
@@ -152,18 +152,18 @@ ahead (p ∷ ps) (y ∷ ys) (x ∷ xs) r l m q =
     ∙ flatMap-cons valueLine (rowValues p x) (zipWith rowValues ps xs)) in
     ahead ps ys xs r (le-of-suc-le-suc l) (le-of-suc-le-suc m) (t .1)
 
-pub rows-ahead : (n j i : ℕ) (rows rows′ : List Row) (r : Bytes) → length rows < length rows′ → length rows′ ≡ length (pairs n)
-    → getD (pairs n) (length rows) (0, 0) ≡ (j, i) → rowText n rows ++ r ≡ rowText n rows′
-    → (s : Bytes) × (r ≡ valueLine (rowValues (j, i) (getD rows′ (length rows) noRow)) ++ s)
+pub lines-ahead : (n j i : ℕ) (lines lines′ : List Row) (r : Bytes) → length lines < length lines′ → length lines′ ≡ length (pairs n)
+    → getD (pairs n) (length lines) (0, 0) ≡ (j, i) → rowText n lines ++ r ≡ rowText n lines′
+    → (s : Bytes) × (r ≡ valueLine (rowValues (j, i) (getD lines′ (length lines) noRow)) ++ s)
 unfolding rowText
-rows-ahead n j i rows rows′ r l m e q =
-    let t = ahead (pairs n) rows rows′ r l (omega arith) q in
-    (t .0, t .1 ∙ ap (λ (ji : ℕ × ℕ). valueLine (rowValues ji (getD rows′ (length rows) noRow)) ++ t .0) e)
+lines-ahead n j i lines lines′ r l m e q =
+    let t = ahead (pairs n) lines lines′ r l (omega arith) q in
+    (t .0, t .1 ∙ ap (λ (ji : ℕ × ℕ). valueLine (rowValues ji (getD lines′ (length lines) noRow)) ++ t .0) e)
 
-whole : (ps : List (ℕ × ℕ)) (rows rows′ : List Row) (r : Bytes) → length rows ≡ length rows′
-    → flatMap valueLine (zipWith rowValues ps rows) ++ r ≡ flatMap valueLine (zipWith rowValues ps rows′) → r ≡ []
+whole : (ps : List (ℕ × ℕ)) (lines lines′ : List Row) (r : Bytes) → length lines ≡ length lines′
+    → flatMap valueLine (zipWith rowValues ps lines) ++ r ≡ flatMap valueLine (zipWith rowValues ps lines′) → r ≡ []
 unfolding zipWith
-whole [] rows rows′ r l q = ap (λ (ys : Bytes). ys ++ r) (sym (flatMap-nil valueLine)) ∙ q ∙ flatMap-nil valueLine
+whole [] lines lines′ r l q = ap (λ (ys : Bytes). ys ++ r) (sym (flatMap-nil valueLine)) ∙ q ∙ flatMap-nil valueLine
 whole (p ∷ ps) [] [] r l q = ap (λ (ys : Bytes). ys ++ r) (sym (flatMap-nil valueLine)) ∙ q ∙ flatMap-nil valueLine
 whole (p ∷ ps) [] (x ∷ xs) r l q = absurd (omega (arith, l))
 whole (p ∷ ps) (y ∷ ys) [] r l q = absurd (omega (arith, l))
@@ -175,6 +175,6 @@ whole (p ∷ ps) (y ∷ ys) (x ∷ xs) r l q =
     ∙ q
     ∙ flatMap-cons valueLine (rowValues p x) (zipWith rowValues ps xs)) .1)
 
-pub rows-whole : (n : ℕ) (rows rows′ : List Row) (r : Bytes) → length rows ≡ length rows′ → rowText n rows ++ r ≡ rowText n rows′ → r ≡ []
+pub lines-whole : (n : ℕ) (lines lines′ : List Row) (r : Bytes) → length lines ≡ length lines′ → rowText n lines ++ r ≡ rowText n lines′ → r ≡ []
 unfolding rowText
-rows-whole n rows rows′ r l q = whole (pairs n) rows rows′ r l q
+lines-whole n lines lines′ r l q = whole (pairs n) lines lines′ r l q

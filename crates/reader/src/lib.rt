@@ -150,11 +150,11 @@ fn next_pair(j: u32, i: u32) -> Pair
 }
 
 // Keeps a line, if there is a row for it.
-fn keep(words: &mut Words, ps: &mut [u32; PAIRS], k: usize, p: u32, e: Row)
-    ensures { λ r. ⌜ RowKept (now (words .entry)) (now (ps .entry)) k p e (now (words .exit)) (now (ps .exit)) ⌝ }
+fn keep(rows: &mut Words, ps: &mut [u32; PAIRS], k: usize, p: u32, e: Row)
+    ensures { λ r. ⌜ RowKept (now (rows .entry)) (now (ps .entry)) k p e (now (rows .exit)) (now (ps .exit)) ⌝ }
 {
     if k < PAIRS {
-        words[k] = e;
+        rows[k] = e;
         ps[k] = p;
     }
 }
@@ -184,11 +184,11 @@ pub fn read_lines(
     text: &[u8],
     start: usize,
     n: u32,
-    words: &mut Words,
+    rows: &mut Words,
     ps: &mut [u32; PAIRS],
 ) -> LinesRead
-    requires { ⌜ (start ≤ length (now text)) × (n ≤ largest) × (length (now words) ≡ pairCount) × (length (now ps) ≡ pairCount) ⌝ }
-    ensures { λ r. ⌜ LinesAt (now (text .entry)) start n (now (words .exit)) (now (ps .exit)) r ⌝ }
+    requires { ⌜ (start ≤ length (now text)) × (n ≤ largest) × (length (now rows) ≡ pairCount) × (length (now ps) ≡ pairCount) ⌝ }
+    ensures { λ r. ⌜ LinesAt (now (text .entry)) start n (now (rows .exit)) (now (ps .exit)) r ⌝ }
 {
     let mut at = start;
     let mut j: u32 = 0;
@@ -206,7 +206,7 @@ pub fn read_lines(
         }
         let e = w.kept;
         primes = still_prime(primes, j, i, p);
-        keep(words, ps, k, p, e);
+        keep(rows, ps, k, p, e);
         at = w.next;
         k += 1;
         let q = next_pair(j, i);

@@ -4,10 +4,11 @@
 --   zeros, empty-is                the row of zeros; a row that is compared with it
 --   single-row                     the row of an exponent of one generator
 --   generator-row, generator-is    the row of a generator, and the normal form that it says
---   small-below, ready-below, reads-below    what holds of m generators holds of fewer
---   prime-fits                     sums of two exponents fit 32 bits
---   small-valid                    a row in range says a valid form
---   small-set, small-zeros, small-generator  rows in range: a store on top, zeros, a generator
+--   small-below, ready-below, reads-below holds of fewer
+--   prime-fits exponents fit 32 bits
+--   small-valid valid form
+--   small-top, small-set, small-zeros  rows in range: one exponent more, a store on top, zeros
+--   small-generator, word-small    rows in range: a generator, the word of a pair
 --   reads-small                    rows that a presentation has are in range
 use mathlib.Core.Path.{_≡_, refl, sym, _∙_, ap, ap₂, subst}
 use mathlib.Core.Logic.{_≢_}
@@ -91,45 +92,51 @@ empty-is i x = ap (sameForm i (toNF i x)) (toNF-trivial i (replicate maxGenerato
 
 -- ---- Fewer generators
 
-pub small-below : (m n : ℕ) (ps x : List ℕ) → m ≤ n → Small n ps x → Small m ps x
-small-below m n ps x l s = record { below = λ k h. s .below k (omega arith) }
+pub small-below : {m n : ℕ} {ps x : List ℕ} → m ≤ n → Small n ps x → Small m ps x
+small-below l s = record { below = λ k h. s .below k (omega arith) }
 
-pub ready-below : (m n : ℕ) (ps : List ℕ) (ws : List (List ℕ)) → m ≤ n → Ranged n ps ws → Ranged m ps ws
-ready-below m n ps ws l r = record {
+pub ready-below : {m n : ℕ} {ps : List ℕ} {rows : List (List ℕ)} → m ≤ n → Ranged n ps rows → Ranged m ps rows
+ready-below l r = record {
   few = omega (arith, r .few);
   two = λ k h. r .two k (omega arith);
   bounded = λ k h. r .bounded k (omega arith);
-  word = λ j i a h. small-below m n ps _ l (r .word j i a (omega arith));
+  word = λ j i a h. small-below l (r .word j i a (omega arith));
 }
 
-pub reads-below : (P : Presentation) (m n : ℕ) (ps : List ℕ) (ws : List (List ℕ)) → m ≤ n → Reads P n ps ws → Reads P m ps ws
-reads-below P m n ps ws l r = record {
+-- the word of a pair
+pub word-small : {m n : ℕ} {ps : List ℕ} {rows : List (List ℕ)} {w : List ℕ} (j i : ℕ) → Ranged m ps rows → i ≤ j → j < m → n ≤ m
+    → w ≡ getD rows (pairNumber j i) [] → Small n ps w
+word-small {m} {n} {ps} j i r a b l e = subst (Small n ps) (sym e) (small-below l (r .word j i a b))
+
+pub reads-below : {P : Presentation} {m n : ℕ} {ps : List ℕ} {rows : List (List ℕ)} → m ≤ n → Reads P n ps rows → Reads P m ps rows
+reads-below l r = record {
   p-is = λ k h. r .p-is k (omega arith);
   u-is = λ j h. r .u-is j (omega arith);
   w-is = λ k j a h. r .w-is k j a (omega arith);
   rest = λ j i k a h b. r .rest j i k a (omega arith) (omega arith);
 }
 
-pub prime-fits : (m : ℕ) (ps : List ℕ) (ws : List (List ℕ)) → Ranged m ps ws → (k : ℕ) → k < m → 2 * getD ps k 0 < 4294967296
+pub prime-fits : {m : ℕ} {ps : List ℕ} {rows : List (List ℕ)} → Ranged m ps rows → (k : ℕ) → k < m → 2 * getD ps k 0 < 4294967296
 unfolding largest
-prime-fits m ps ws r k l = omega (arith, r .bounded k l)
+prime-fits r k l = omega (arith, r .bounded k l)
 
-pub small-valid : (P : Presentation) (m i : ℕ) (ps : List ℕ) (ws : List (List ℕ)) (x : List ℕ) → Reads P m ps ws → i ≤ m → Small i ps x → Valid P i (toNF i x)
-small-valid P m i ps ws x r l s = toNF-valid P i x (λ k h. subst (λ p. getD x k 0 < p) (r .p-is k (omega arith)) (s .below k h))
+pub small-valid : {P : Presentation} {m i : ℕ} {ps : List ℕ} {rows : List (List ℕ)} {x : List ℕ} → Reads P m ps rows → i ≤ m → Small i ps x → Valid P i (toNF i x)
+small-valid {P} {i = i} {ps = ps} {x = x} r l s = toNF-valid P i x (λ k h. subst (λ p. getD x k 0 < p) (r .p-is k (omega arith)) (s .below k h))
 
 -- a store on top of a row that is small below
+-- an exponent on top
+pub small-top : {k : ℕ} {ps x : List ℕ} → Small k ps x → getD x k 0 < getD ps k 0 → Small (suc k) ps x
+small-top {k} {ps} {x} s l = record { below = below-suc k (λ m. getD x m 0 < getD ps m 0) (s .below) l }
+
 pub small-set : (k : ℕ) (ps z : List ℕ) (a : ℕ) → k < length z → Small k ps z → a < getD ps k 0 → Small (suc k) ps (set z k a)
-small-set k ps z a l s h = record {
-  below = below-suc k (λ m. getD (set z k a) m 0 < getD ps m 0)
-      (λ m b. subst (λ t. t < getD ps m 0) (sym (getD-set-other z k m a 0 (omega arith))) (s .below m b))
-      (subst (λ t. t < getD ps k 0) (sym (getD-set-same z k a 0 l)) h);
-}
+small-set k ps z a l s h =
+    small-top (record { below = λ m b. omega (arith, getD-set-other z k m a 0 (omega arith), s .below m b) }) (omega (arith, getD-set-same z k a 0 l))
 
-pub small-zeros : (m : ℕ) (ps : List ℕ) (ws : List (List ℕ)) → Ranged m ps ws → Small m ps (replicate maxGenerators 0)
-small-zeros m ps ws r = record { below = λ k l. subst (λ t. t < getD ps k 0) (sym (zeros k)) (omega (arith, r .two k l)) }
+pub small-zeros : {m : ℕ} {ps : List ℕ} {rows : List (List ℕ)} → Ranged m ps rows → Small m ps (replicate maxGenerators 0)
+small-zeros {ps = ps} r = record { below = λ k l. subst (λ t. t < getD ps k 0) (sym (zeros k)) (omega (arith, r .two k l)) }
 
-pub small-generator : (k m : ℕ) (ps : List ℕ) (ws : List (List ℕ)) (g : List ℕ) → Ranged m ps ws → Generator k g → Small m ps g
-small-generator k m ps ws g r h = record { below = λ i l. go i l (ℕ-discrete i k) }
+pub small-generator : {k m : ℕ} {ps : List ℕ} {rows : List (List ℕ)} {g : List ℕ} → Ranged m ps rows → Generator k g → Small m ps g
+small-generator {k} {m} {ps} {rows} {g} r h = record { below = λ i l. go i l (ℕ-discrete i k) }
   where
     go : (i : ℕ) → i < m → Dec (i ≡ k) → getD g i 0 < getD ps i 0
     go i l (yes q) = subst (λ t. t < getD ps i 0) (sym (h .at i ∙ cond-eq i k 1 0 q)) (r .two i l)
@@ -138,14 +145,14 @@ small-generator k m ps ws g r h = record { below = λ i l. go i l (ℕ-discrete 
 -- ---- Rows that a presentation has
 
 -- every word is in range: where it may use a generator its exponents are those of a valid form, elsewhere they are 0
-pub reads-small : (C : Context) (m : ℕ) (ps : List ℕ) (ws : List (List ℕ)) → Reads (C .P) m ps ws → (j i : ℕ) → i ≤ j → j < m
-    → Small m ps (getD ws (pairNumber j i) [])
+pub reads-small : (C : Context) (m : ℕ) (ps : List ℕ) (rows : List (List ℕ)) → Reads (C .P) m ps rows → (j i : ℕ) → i ≤ j → j < m
+    → Small m ps (getD rows (pairNumber j i) [])
 unfolding allowed
-reads-small C m ps ws r j i a b =
+reads-small C m ps rows r j i a b =
     record { below = λ k l. subst (λ p. getD (row i) k 0 < p) (sym (r .p-is k l)) (go k l (ℕ-discrete i j) (decLt k j) (decLt i k)) }
   where
     row : ℕ → List ℕ
-    row i = getD ws (pairNumber j i) []
+    row i = getD rows (pairNumber j i) []
 
     power-valid : Valid (C .P) j (toNF j (row j))
     power-valid = subst (Valid (C .P) j) (sym (r .u-is j b)) (C .u-valid j)

@@ -2,6 +2,7 @@
 --
 --   pair-small, pair-below         their bounds
 --   pair-power, pair-commutator    the number of (j, j), and of (j, i) for i < j
+--   pair-room                      the latter as the code finds it is in range
 use mathlib.Core.Path.{_≡_, sym, _∙_, ap}
 use mathlib.Core.Logic.{_≢_}
 use Prim.Native.Nat.{ℕ, suc, _+_, _*_, _/_, _≤_, _<_}
@@ -24,3 +25,6 @@ pair-small j h = omega (arith, pair-power j, pair-below j j (omega arith) h)
 pub pair-commutator : (j i : ℕ) → i ≤ j → i ≢ j → j * (j + 1) / 2 + i + 1 ≡ pairNumber j i
 pair-commutator j i a b = let e : sum j suc + i + 1 ≡ sum j suc + suc i = omega arith in
     ap (λ t. t + i + 1) (triangle j) ∙ e ∙ sym (pairNumber-commutator j i (omega arith))
+
+pub pair-room : (j i : ℕ) → i ≤ j → j < maxGenerators → i ≢ j → j * (j + 1) / 2 + i + 1 < pairCount
+pair-room j i a b n = omega (arith, pair-commutator j i a n, pair-below j i a b)

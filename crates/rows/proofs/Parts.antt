@@ -34,48 +34,48 @@ climb Q m (suc i) l step q = go (λ h. climb Q m i h (λ k a b. step k a (omega 
 
 -- ---- The highest exponent
 
-pub top-none : (i : ℕ) (x : List ℕ) → Top i x i
-top-none i x = record { less = omega arith; rest = λ k a b. absurd (omega arith) }
+pub top-none : {i : ℕ} {x : List ℕ} → Top i x i
+top-none = record { less = omega arith; rest = λ k a b. absurd (omega arith) }
 
-pub top-more : (i : ℕ) (x : List ℕ) (k : ℕ) → 0 < k → getD x (k - 1) 0 ≡ 0 → Top i x k → Top i x (k - 1)
-top-more i x k l e t = record { less = omega (arith, t .less); rest = scan-more (λ q. getD x q 0 ≡ 0) k i l e (t .rest) }
+pub top-more : {i : ℕ} {x : List ℕ} {k : ℕ} → 0 < k → getD x (k - 1) 0 ≡ 0 → Top i x k → Top i x (k - 1)
+top-more {i} {x} {k} l e t = record { less = omega (arith, t .less); rest = scan-more (λ q. getD x q 0 ≡ 0) k i l e (t .rest) }
 
 -- ---- A row of two
 
-pub mixed-none : (low high : List ℕ) → Mixed low high 0 high
-mixed-none low high = record { long = refl; below = λ m l. absurd (omega arith); above = λ m l. refl }
+pub mixed-none : {low high : List ℕ} → Mixed low high 0 high
+mixed-none = record { long = refl; below = λ m l. absurd (omega arith); above = λ m l. refl }
 
-pub mixed-more : (low high : List ℕ) (q : ℕ) (r : List ℕ) → q < length r → Mixed low high q r → Mixed low high (q + 1) (set r q (getD low q 0))
-mixed-more low high q r l t = subst (λ n. Mixed low high n (set r q (getD low q 0))) (sym (add-one q)) (record {
+pub mixed-more : {low high : List ℕ} {q : ℕ} {r : List ℕ} → q < length r → Mixed low high q r → Mixed low high (q + 1) (set r q (getD low q 0))
+mixed-more {low} {high} {q} {r} l t = subst (λ n. Mixed low high n (set r q (getD low q 0))) (sym (add-one q)) (record {
   long = length-set r q (getD low q 0) ∙ t .long;
   below = below-suc q (λ m. getD (set r q (getD low q 0)) m 0 ≡ getD low m 0)
       (λ m a. getD-set-other r q m _ 0 (omega arith) ∙ t .below m a) (getD-set-same r q _ 0 l);
   above = λ m a. getD-set-other r q m _ 0 (omega arith) ∙ t .above m (omega arith);
 })
 
-pub mixed-stacked : (low high : List ℕ) (k s : ℕ) (r : List ℕ) → k < length r → Mixed low high k r → Stacked k low high s (set r k s)
-mixed-stacked low high k s r l t = record {
-  below = λ m a. getD-set-other r k m s 0 (omega arith) ∙ t .below m a;
+pub mixed-stacked : {low high : List ℕ} {q k s : ℕ} {r : List ℕ} → q ≡ k → k < length r → Mixed low high q r → Stacked k low high s (set r k s)
+mixed-stacked {low} {high} {q} {k} {s} {r} e l t = record {
+  below = λ m a. getD-set-other r k m s 0 (omega arith) ∙ t .below m (omega arith);
   at = getD-set-same r k s 0 l;
   above = λ m a. getD-set-other r k m s 0 (omega arith) ∙ t .above m (omega arith);
 }
 
-pub kept-all : (i : ℕ) (x : List ℕ) → Kept i x x
-kept-all i x = record { long = refl; above = λ m a. refl }
+pub kept-all : {i : ℕ} {x : List ℕ} → Kept i x x
+kept-all = record { long = refl; above = λ m a. refl }
 
-pub kept-then : (k i : ℕ) (x y z : List ℕ) → k ≤ i → Kept k x y → Kept k y z → Kept i x z
-kept-then k i x y z l a b = record { long = b .long ∙ a .long; above = λ m h. b .above m (omega arith) ∙ a .above m (omega arith) }
+pub kept-then : {k i : ℕ} {x y z : List ℕ} → k ≤ i → Kept k x y → Kept k y z → Kept i x z
+kept-then l a b = record { long = b .long ∙ a .long; above = λ m h. b .above m (omega arith) ∙ a .above m (omega arith) }
 
-pub mixed-kept : (low x : List ℕ) (k : ℕ) (r : List ℕ) → Mixed low x k r → Kept k x r
-mixed-kept low x k r t = record { long = t .long; above = t .above }
+pub mixed-kept : {low x : List ℕ} {k : ℕ} {r : List ℕ} → Mixed low x k r → Kept k x r
+mixed-kept t = record { long = t .long; above = t .above }
 
 -- a store at k into what is left of x from k on
-pub kept-stacked : (k s : ℕ) (x y : List ℕ) → k < length y → Kept k x y → Stacked k y x s (set y k s)
-kept-stacked k s x y l t = record {
+pub kept-stacked : {k s : ℕ} {x y : List ℕ} → k < length y → Kept k x y → Stacked k y x s (set y k s)
+kept-stacked {k} {s} {x} {y} l t = record {
   below = λ m a. getD-set-other y k m s 0 (omega arith);
   at = getD-set-same y k s 0 l;
   above = λ m a. getD-set-other y k m s 0 (omega arith) ∙ t .above m (omega arith);
 }
 
-pub stored-kept : (k i s : ℕ) (x y : List ℕ) → k < i → Kept k x y → Kept i x (set y k s)
-stored-kept k i s x y l t = record { long = length-set y k s ∙ t .long; above = λ m a. getD-set-other y k m s 0 (omega arith) ∙ t .above m (omega arith) }
+pub stored-kept : {k i : ℕ} {x y : List ℕ} (s : ℕ) → k < i → Kept k x y → Kept i x (set y k s)
+stored-kept {k} {i} {x} {y} s l t = record { long = length-set y k s ∙ t .long; above = λ m a. getD-set-other y k m s 0 (omega arith) ∙ t .above m (omega arith) }

@@ -1,8 +1,8 @@
 -- Presentations as the code holds them: a prime for each generator, and a row of exponents for each pair of generators.
 --
 --   Small i primes x              the first i exponents of a row are below their primes
---   Ranged m primes words          primes and words of the first m generators are in range
---   Reads P m primes words        they are those of the presentation P
+--   Ranged m primes rows          primes and rows of the first m generators are in range
+--   Reads P m primes rows         they are those of the presentation P
 --   Generator k r                 r is the row of generator k
 --   Single k a r                  r has exponent a of generator k, and no other
 --   Top i x r                     no exponent of x from r up to i
@@ -21,18 +21,18 @@ use Rattle.definitions.specs.Presentation.{maxGenerators, Presentation, toNF, p
 pub record Small (i : ℕ) (primes x : List ℕ) : Type 0 where
   pub below : (k : ℕ) → k < i → getD x k 0 < getD primes k 0
 
-pub record Ranged (m : ℕ) (primes : List ℕ) (words : List (List ℕ)) : Type 0 where
+pub record Ranged (m : ℕ) (primes : List ℕ) (rows : List (List ℕ)) : Type 0 where
   pub few : m ≤ maxGenerators
   pub two : (k : ℕ) → k < m → 1 < getD primes k 0
   pub bounded : (k : ℕ) → k < m → getD primes k 0 ≤ largest
-  pub word : (j i : ℕ) → i ≤ j → j < m → Small m primes (getD words (pairNumber j i) [])
+  pub word : (j i : ℕ) → i ≤ j → j < m → Small m primes (getD rows (pairNumber j i) [])
 
 -- primes, power words and commutator words of the first m generators, with zeros where a word may not use a generator
-pub record Reads (P : Presentation) (m : ℕ) (primes : List ℕ) (words : List (List ℕ)) : Type 0 where
+pub record Reads (P : Presentation) (m : ℕ) (primes : List ℕ) (rows : List (List ℕ)) : Type 0 where
   pub p-is : (k : ℕ) → k < m → getD primes k 0 ≡ P .p k
-  pub u-is : (j : ℕ) → j < m → toNF j (getD words (pairNumber j j) []) ≡ P .u j
-  pub w-is : (k j : ℕ) → k < j → j < m → toNF (suc k) (getD words (pairNumber j k) []) ≡ P .w k j
-  pub rest : (j i k : ℕ) → i ≤ j → j < m → k < m → allowed j i k ≡ false → getD (getD words (pairNumber j i) []) k 0 ≡ 0
+  pub u-is : (j : ℕ) → j < m → toNF j (getD rows (pairNumber j j) []) ≡ P .u j
+  pub w-is : (k j : ℕ) → k < j → j < m → toNF (suc k) (getD rows (pairNumber j k) []) ≡ P .w k j
+  pub rest : (j i k : ℕ) → i ≤ j → j < m → k < m → allowed j i k ≡ false → getD (getD rows (pairNumber j i) []) k 0 ≡ 0
 
 -- ---- Rows of exponents
 

@@ -49,12 +49,12 @@ pub fn pair(j: usize, i: usize) -> usize
 }
 
 // The word of the pair (j, i).
-pub fn word(words: &Words, j: usize, i: usize) -> Row
+pub fn word(rows: &Words, j: usize, i: usize) -> Row
     requires { ⌜ (i ≤ j) × (j < maxGenerators) ⌝ }
-    ensures { λ r. ⌜ r ≡ getD (now (words .entry)) (pairNumber j i) [] ⌝ }
+    ensures { λ r. ⌜ r ≡ getD (now (rows .entry)) (pairNumber j i) [] ⌝ }
 {
     let at = pair(j, i);
-    words[at]
+    rows[at]
 }
 
 // The row of generator k.

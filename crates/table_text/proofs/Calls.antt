@@ -1,39 +1,30 @@
--- Laws of the two calls.
+-- Laws of what a table text says, and of the two calls one after the other.
 --
 --   writable-parts, writable-whole     what `writable` asks
 --   over-within, over-take    what was written over a buffer stands at its start
---   says-lines                a table text says whole lines
+--   says-lines, says-text     a table text says whole lines; it is the names line and the words
 --   said-first                the tests of the words that a table text says, as tests of the text
---   says-starts, says-form, form-says  a table text: its names line, and its words to the end
---   starts-within             a text that starts with the names line is as long as that
---   Short, Long, short, long  whether the words are room for the lines, by what `enough` answers
---   read-room, read-short, read-unstarted, read-unformed, read-done     the answers of the reader
---   write-part, write-large, write-short, write-done     the answers of the writer
 --   written-read, write-then-read, read-then-write       there and back
 use mathlib.Core.Path.{_≡_, refl, sym, ap, ap₂, _∙_, subst}
-use mathlib.Core.Logic.{inl, inr}
-use mathlib.Core.Bool.{Bool, true, false, not, true≢false, not-eq-not}
+use mathlib.Core.Bool.{Bool, true, not-eq-not}
 use mathlib.Core.List.{List, _++_}
-use Prim.Native.Nat.{ℕ, _+_, _*_, _-_, _/_, _%_, _<_, _≤_}
+use Prim.Native.Nat.{ℕ, _+_, _*_, _-_, _%_, _≤_}
 use native.Mathlib.Nat.{div-add-mod'}
 use native.Mathlib.Omega.{arith}
 use lib.ListN.{length, take, drop, length-append}
 use lib.Seq.{take-append-seam}
-use lib.Dec.{eqb, ltb, leb}
-use borrow.Author.Tests.{eqb-true, eq-eqb, ltb-true, ltb-false, leb-false, not-true, not-false}
+use lib.Dec.{eqb}
+use borrow.Author.Tests.{eqb-true, eq-eqb}
 use Rattle.definitions.specs.Text.{Bytes, small}
 use Rattle.definitions.specs.Presentation.{lineWords, Presentation, order, presentation}
 use Rattle.definitions.specs.Table.{lineCount, tableText, writable}
-use Rattle.definitions.specs.Answers.{First, says, judgements, tableRefusals, newlines, over, TableSays, writeRefusals, ReadTable, WriteTable}
+use Rattle.definitions.specs.Answers.{First, says, judgements, tableRefusals, over, TableSays, writeRefusals, ReadTable, WriteTable}
 use Rattle.definitions.specs.Programs.{saidTest, saidRefusals}
 use Rattle.definitions.proofs.Refusals.{first-none, first-same}
 use Rattle.definitions.proofs.Unique.{table-says-unique}
 use Rattle.numbers.proofs.Bools.{and-left, and-right, and-intro}
-use Rattle.text.specs.Reading.{StartsAt}
-use Rattle.text.specs.Writing.{put, Wrote}
-use Rattle.text.proofs.Writing.{wrote-more, wrote-as}
-use Rattle.table_text.specs.Pieces.{pieces, FormLine, Filled}
-use Rattle.table_text.proofs.Pieces.{names, tableText-pieces, newlines-table}
+use Rattle.table_text.specs.Pieces.{pieces}
+use Rattle.table_text.proofs.Pieces.{names, tableText-pieces}
 
 -- ---- Buffers that were written over
 
@@ -71,123 +62,8 @@ said-first {g} {t} {T} {a} h f = first-same (λ q. Tests q T) (saidTest g t) (λ
     from q (T′, h′, x) = subst (Tests q) (table-says-unique t T′ T h′ h) x
 
 -- the text is the names line and the words
-says-text : {t : Bytes} {T : List ℕ} → TableSays t T → t ≡ names ++ pieces 0 T
+pub says-text : {t : Bytes} {T : List ℕ} → TableSays t T → t ≡ names ++ pieces 0 T
 says-text {t} {T} h = h .written ∙ tableText-pieces T (writable-parts T (h .formed) .0)
-
-pub says-starts : {t : Bytes} {T : List ℕ} → TableSays t T → StartsAt t 0 names
-says-starts {t} {T} h = (pieces 0 T, says-text h)
-
-pub says-form : {t : Bytes} {T : List ℕ} → TableSays t T → FormLine t 34 T
-says-form {t} {T} h =
-    record { text = ap (drop 34) (says-text h); whole = writable-parts T (h .formed) .0; small-all = writable-parts T (h .formed) .1 }
-
-form-text : {t : Bytes} {T : List ℕ} → StartsAt t 0 names → FormLine t 34 T → t ≡ names ++ pieces 0 T
-form-text {t} {T} s f =
-    let q : t ≡ names ++ s .0 = s .1 in
-    q ∙ ap (λ (zs : Bytes). names ++ zs) (sym (ap (drop 34) q) ∙ f .text)
-
-pub form-says : {t : Bytes} {T : List ℕ} → StartsAt t 0 names → FormLine t 34 T → TableSays t T
-form-says {t} {T} s f =
-    record { formed = writable-whole T (f .whole) (f .small-all); written = form-text s f ∙ sym (tableText-pieces T (f .whole)) }
-
-pub starts-within : {t : Bytes} → StartsAt t 0 names → 34 ≤ length t
-starts-within {t} s = let q : t ≡ names ++ s .0 = s .1 in omega (arith, ap length q)
-
--- ---- Room
-
--- the words are fewer than the lines want, or not
-pub record Short (t : Bytes) (have : ℕ) : Type 0 where
-  pub less : have < lineWords * (newlines t - 1)
-
-pub record Long (t : Bytes) (have : ℕ) : Type 0 where
-  pub least : lineWords * (newlines t - 1) ≤ have
-
-module _ (t : Bytes) (have lines : ℕ) (b : Bool) (n : lines ≡ newlines t) (r : b ≡ not (ltb have (8 * (lines - 1)))) where
-  test : b ≡ not (ltb have (8 * (newlines t - 1)))
-  test = r ∙ ap (λ (m : ℕ). not (ltb have (8 * (m - 1)))) n
-
-  pub short : b ≡ false → Short t have
-  unfolding lineWords
-  short q = record { less = ltb-true have (8 * (newlines t - 1)) (not-false (ltb have (8 * (newlines t - 1))) (sym test ∙ q)) }
-
-  pub long : b ≡ true → Long t have
-  unfolding lineWords
-  long q = record { least = ltb-false have (8 * (newlines t - 1)) (not-true (ltb have (8 * (newlines t - 1))) (sym test ∙ q)) }
-
-pub read-room : {t : Bytes} {have : ℕ} (T : List ℕ) → StartsAt t 0 names → FormLine t 34 T → Long t have → length T ≤ have
-unfolding lineWords
-read-room {t} {have} T s f l =
-    omega (arith, ap newlines (form-text s f), newlines-table T (f .whole), l .least, div-add-mod' (length T) 8, f .whole)
-
--- ---- The answers of the reader
-
-module _ (t : Bytes) (before : List ℕ) where
-  pub read-short : Short t (length before) → ReadTable t before 16 0 before
-  read-short l = record { answered = inl (l .less, refl); leaves = record { finished = λ q. absurd (omega arith); refused = λ n. (refl, refl) } }
-
-  module _ (l : Long t (length before)) where
-    room : ¬ (length before < lineWords * (newlines t - 1))
-    room m = omega (arith, l .least)
-
-    other : ¬ ((T : List ℕ) × TableSays t T) → ReadTable t before 20 0 before
-    other h = record { answered = inr (room, inl (h, refl)); leaves = record { finished = λ q. absurd (omega arith); refused = λ n. (refl, refl) } }
-
-    pub read-unstarted : (StartsAt t 0 names → ⊥) → ReadTable t before 20 0 before
-    read-unstarted h = other (λ s. h (says-starts (s .1)))
-
-    pub read-unformed : ((T : List ℕ) → FormLine t 34 T → ⊥) → ReadTable t before 20 0 before
-    read-unformed h = other (λ s. h (s .0) (says-form (s .1)))
-
-    pub read-done : StartsAt t 0 names → {after : List ℕ} {k : ℕ} → Filled t 34 before after k → ReadTable t before 0 (k / 8) after
-    unfolding lineCount lineWords
-    read-done s f =
-        let u = form-says s (f .lines) in
-        record {
-          answered = inr (room, inr ((λ n. n (f .table, u)), refl));
-          leaves = record { finished = λ q. (f .table, u, ap (λ (m : ℕ). m / 8) (f .count), f .stored); refused = λ n. absurd (n refl) };
-        }
-
--- ---- The answers of the writer
-
-module _ (T : List ℕ) (before : Bytes) where
-  refuse-21 : writable T ≡ false → WriteTable T before 21 0 before
-  refuse-21 h = record { answered = inl (h, refl); leaves = record { finished = λ q. absurd (omega arith); refused = λ n. (refl, refl) } }
-
-  pub write-part : (length T % 8 ≡ 0 → ⊥) → WriteTable T before 21 0 before
-  unfolding lineWords
-  write-part n = refuse-21 (not-eq-not .0 (λ q. n (writable-parts T q .0)))
-
-  pub write-large : small T ≡ false → WriteTable T before 21 0 before
-  write-large h = refuse-21 (not-eq-not .0 (λ q. true≢false (sym (writable-parts T q .1) ∙ h)))
-
-  module _ (whole : length T % 8 ≡ 0) (few : small T ≡ true) where
-    text-is : tableText T ≡ names ++ pieces 0 T
-    unfolding lineWords
-    text-is = tableText-pieces T whole
-
-    can : ¬ (writable T ≡ false)
-    unfolding lineWords
-    can h = true≢false (sym (writable-whole T whole few) ∙ h)
-
-    pub write-short : leb (34 + length (pieces 0 T)) (length before) ≡ false → WriteTable T before 16 0 before
-    write-short h = record {
-      answered = inr (can, inl (omega (arith, ap length text-is, leb-false (34 + length (pieces 0 T)) (length before) h), refl));
-      leaves = record { finished = λ q. absurd (omega arith); refused = λ n. (refl, refl) };
-    }
-
-    pub write-done : {mid : List ℕ} {next : ℕ} {after : List ℕ} {end : ℕ} → Wrote before 0 names mid next → Wrote mid next (pieces 0 T) after end
-        → WriteTable T before 0 end after
-    unfolding over put
-    write-done {after = after} {end = end} a b =
-        let w : Wrote before 0 (tableText T) after end = wrote-as (wrote-more a b) (sym text-is) in
-        let e : 0 + length (tableText T) ≡ length (tableText T) = omega arith in
-        record {
-          answered = inr (can, inr ((λ l. omega (arith, w .room)), refl));
-          leaves = record {
-            finished = λ q. (w .end ∙ e, w .content ∙ ap (λ (m : ℕ). tableText T ++ drop m before) e);
-            refused = λ n. absurd (n refl);
-          };
-        }
 
 -- ---- There and back
 

@@ -1,5 +1,3 @@
 -- Laws of table text.
 pub mod Pieces
-pub mod Forms
-pub mod Writes
 pub mod Calls

@@ -1,15 +1,10 @@
-// Table text: read into the caller's words, and written into the caller's bytes.
+// What reading and writing table text share.
 //
 //   LINE, NAMES     words of a line, bytes of the names line
 //   Answer          the number of a refusal, or 0 and the count of lines or bytes
 //   separator       the byte behind a word
-//   reading         table text to words
-//   writing         words to table text
 ghost use mathlib.Core.Path.{_≡_};
 ghost use Rattle.table_text.specs.Pieces.{separatorOf};
-
-pub mod reading;
-pub mod writing;
 
 // Words of a line.
 pub const LINE: usize = 8;

@@ -3,22 +3,19 @@
 -- conjugation on level k take images, powers and products on levels up to k; a power is taken by products on its own level.
 -- The measures are eight times the level, and up to five more.
 use borrow.Author.Needs.{needs}
-use mathlib.Core.Path.{_≡_, sym, _∙_, subst}
-use Prim.Native.Nat.{ℕ, suc, _+_, _*_, _-_, _≤_, _<_}
+use mathlib.Core.Path.{_≡_, subst}
+use Prim.Native.Nat.{ℕ, _+_, _*_, _-_, _≤_, _<_}
 use native.Mathlib.Omega.{arith}
 use lib.ListN.{length}
 use denote.Ref.{now}
 use Rattle.definitions.specs.Presentation.{maxGenerators}
-use Rattle.rows.specs.Rows.{Small, Top}
-use Rattle.rows.proofs.Forms.{small-below, ready-below, prime-fits}
-use Rattle.rows.proofs.Parts.{kept-all, mixed-kept}
-use Rattle.commuting.specs.Commuting.{KeepsFrom, Reach}
-use Rattle.commuting.proofs.Skips.{quiet-below, moved-reach}
-use Rattle.collector.specs.Products.{Product, Power}
-use Rattle.collector.proofs.Steps.{Turning, turning-start, turning-more, turned-done, turned-fixed, turned-same}
-use Rattle.collector.proofs.Steps.{product-same, product-left, product-none}
-use Rattle.collector.proofs.Steps.{multiply-top, multiply-low, multiply-high, powering-start, powering-more, power-once, power-single}
-use Rattle.collector.proofs.Steps.{conjugate-none, commutator-small, image-low, image-high, conjugate-moves-at, lower-small-at}
+use Rattle.collector.specs.Products.{Power}
+use Rattle.collector.proofs.Steps.{Turning, turning-start, turning-more, turned-done, powering-start, powering-more, power-single}
+use Rattle.collector.proofs.Steps.{image-low, image-high}
+use Rattle.collector.proofs.Calls.{turned-still, turn-still, turn-copied, word-factors, carry-none, carry-copied}
+use Rattle.collector.proofs.Calls.{top-level, top-within, turn-asks, multiply-asks, carry-asks, sum-fits, multiply-none, multiply-low, multiply-high}
+use Rattle.collector.proofs.Calls.{multiple-asks, power-first, image-fits, image-asks, moved-level, moved-within, lower-asks, power-asks, product-asks}
+use Rattle.collector.proofs.Calls.{conjugate-still, conjugate-top}
 use borrow.Fn.Kinds.{In}
 use borrow.Fn.PlainCycle.{Measures, is, falls, and}
 use Rattle.collector.proofs.carry.Reads as carry
@@ -45,14 +42,14 @@ use Rattle.collector.proofs.+carry+conjugate+image+multiply+power+produ
 use Rattle.collector.proofs.turned.Reads as turned
 use Rattle.collector.proofs.turned.Kinds as turned-kinds
 use Rattle.collector.proofs.+carry+conjugate+image+multiply+power+product+turn+turned.Lts-turned as turned-lts
-use Rattle.collector.proofs.alone.Reads as alone-reads
-use Rattle.commuting.proofs.moved.Reads as moved-reads
-use Rattle.collector.proofs.multiple.Reads as multiple-reads
-use Rattle.collector.proofs.remaining.Reads as remaining-reads
-use Rattle.rows.proofs.copied.Reads as copied-reads
-use Rattle.rows.proofs.stacked.Reads as stacked-reads
-use Rattle.rows.proofs.top.Reads as top-reads
-use Rattle.rows.proofs.word.Reads as word-reads
+use Rattle.collector.proofs.alone.Reads as alone
+use Rattle.commuting.proofs.moved.Reads as moved
+use Rattle.collector.proofs.multiple.Reads as multiple
+use Rattle.collector.proofs.remaining.Reads as remaining
+use Rattle.rows.proofs.copied.Reads as copied
+use Rattle.rows.proofs.stacked.Reads as stacked
+use Rattle.rows.proofs.top.Reads as top
+use Rattle.rows.proofs.word.Reads as word
 use Rattle.collector.proofs.+carry+conjugate+image+multiply+power+product+turn+turned.{
   statement,
 }
@@ -136,417 +133,203 @@ turned-below t = and 3 turned-kinds.ps (falls 3 turned-kinds.ps _<_ μ-turned t)
 
 -- what the calls of each ask and tell
 abbrev carry-claims : ℕ → carry-lts.Claims
-carry-claims t = (word-reads.Asked, word-reads.Learnt, top-reads.Asked, top-reads.Learnt, product-below t, product.Post, copied-reads.Asked, copied-reads.Learnt)
+carry-claims t = (word.Asked, word.Learnt, top.Asked, top.Learnt, product-below t, product.Post, copied.Asked, copied.Learnt)
 
 abbrev conjugate-claims : ℕ → conjugate-lts.Claims
-conjugate-claims t = (moved-reads.Asked, moved-reads.Learnt, conjugate-below t, conjugate.Post, image-below t, image.Post, power-below t, power.Post, product-below t, product.Post, stacked-reads.Asked, stacked-reads.Learnt)
+conjugate-claims t = (moved.Asked, moved.Learnt, conjugate-below t, conjugate.Post, image-below t, image.Post, power-below t, power.Post, product-below t, product.Post, stacked.Asked, stacked.Learnt)
 
 abbrev image-claims : ℕ → image-lts.Claims
-image-claims t = (word-reads.Asked, word-reads.Learnt, product-below t, product.Post)
+image-claims t = (word.Asked, word.Learnt, product-below t, product.Post)
 
 abbrev multiply-claims : ℕ → multiply-lts.Claims
-multiply-claims t = (top-reads.Asked, top-reads.Learnt, turn-below t, turn.Post, multiply-below t, multiply.Post, carry-below t, carry.Post)
+multiply-claims t = (top.Asked, top.Learnt, turn-below t, turn.Post, multiply-below t, multiply.Post, carry-below t, carry.Post)
 
 abbrev power-claims : ℕ → power-lts.Claims
-power-claims t = (top-reads.Asked, top-reads.Learnt, alone-reads.Asked, alone-reads.Learnt, multiple-reads.Asked, multiple-reads.Learnt, product-below t, product.Post)
+power-claims t = (top.Asked, top.Learnt, alone.Asked, alone.Learnt, multiple.Asked, multiple.Learnt, product-below t, product.Post)
 
 abbrev product-claims : ℕ → product-lts.Claims
 product-claims t = (multiply-below t, multiply.Post)
 
 abbrev turn-claims : ℕ → turn-lts.Claims
-turn-claims t = (turned-below t, turned.Post, copied-reads.Asked, copied-reads.Learnt)
+turn-claims t = (turned-below t, turned.Post, copied.Asked, copied.Learnt)
 
 abbrev turned-claims : ℕ → turned-lts.Claims
-turned-claims t = (conjugate-below t, conjugate.Post, remaining-reads.Asked, remaining-reads.Learnt)
+turned-claims t = (conjugate-below t, conjugate.Post, remaining.Asked, remaining.Learnt)
 
 carry-word-requires : (t : ℕ) → carry-lts.Need-word-requires (carry-claims t) (carry-at t) carry.Post
-carry-word-requires t c κs = (omega arith, omega (arith, c .pre .1 .0 .few))
+carry-word-requires t c κs = (omega arith, omega (arith, c .pre .1 .0 .ranged .few))
 
 carry-top-requires : (t : ℕ) → carry-lts.Need-top-requires (carry-claims t) (carry-at t) carry.Post
-carry-top-requires t c κs =
-    let z = c .before in
-    let ps = now (z .args .primes) in
-    let ws = now (z .args .words) in
-    let k = z .args .k in
-    let x = now (z .args .x) in
-    omega (arith, z .pre .1 .0 .few)
+carry-top-requires t c κs = omega (arith, c .before .pre .1 .0 .ranged .few)
 
 carry-returns : (t : ℕ) → carry-lts.Need-returns (carry-claims t) (carry-at t) carry.Post
 carry-returns t c =
-    let z = c .before .before .before in
-    let ps = now (z .args .primes) in
-    let ws = now (z .args .words) in
-    let k = z .args .k in
-    let x = now (z .args .x) in
-    let u = c .before .before .word in
-    (product-left k ps ws _ x (subst (λ v. Top k v 0) (u .ensures) (subst (Top k (u .result)) (c .if1 .taken) (c .before .top .ensures))) (z .pre .1 .2), kept-all k x)
+    let u = c .before .before in
+    let z = u .before in
+    carry-none (z .pre .1 .0) (u .word .ensures) (z .pre .1 .1) (c .before .top .ensures) (c .if1 .taken)
 
 carry-product-requires : (t : ℕ) → carry-lts.Need-product-requires (carry-claims t) (carry-at t) carry.Post
 carry-product-requires t c κs =
-    let z = c .before .before .before .before in
-    let ps = now (z .args .primes) in
-    let ws = now (z .args .words) in
-    let k = z .args .k in
-    let x = now (z .args .x) in
-    let u = c .before .before .before .word in (
-      omega (arith, z .pre .0),
-      (
-        ready-below k (suc k) ps ws (omega arith) (z .pre .1 .0),
-        z .pre .1 .1,
-        subst (Small k ps) (sym (u .ensures)) (small-below k (suc k) ps _ (omega arith) (z .pre .1 .0 .word k k (omega arith) (omega arith))),
-        z .pre .1 .2,
-      ),
-    )
+    let u = c .before .before .before in
+    let z = u .before in
+    (omega (arith, z .pre .0), word-factors (z .pre .1 .0) (u .word .ensures) (z .pre .1 .1))
 
 carry-copied-requires : (t : ℕ) → carry-lts.Need-copied-requires (carry-claims t) (carry-at t) carry.Post
 carry-copied-requires t c κs =
     let z = c .before .before .before .before .before .before in
-    let ps = now (z .args .primes) in
-    let ws = now (z .args .words) in
-    let k = z .args .k in
-    let x = now (z .args .x) in
-    (omega (arith, z .pre .1 .0 .few), z .pre .1 .3)
+    (omega (arith, z .pre .1 .0 .ranged .few), z .pre .1 .2)
 
 carry-returns-2 : (t : ℕ) → carry-lts.Need-returns-2 (carry-claims t) (carry-at t) carry.Post
 carry-returns-2 t c =
-    let z = c .before .before .before .before .before .before .before in
-    let ps = now (z .args .primes) in
-    let ws = now (z .args .words) in
-    let k = z .args .k in
-    let x = now (z .args .x) in
-    let u = c .before .before .before .before .before .before .word in
-    let v = c .before .before .product in
-    let r = c .copied .last .1 .1 .0 in
-    (product-same k ps ws _ x (v .result) r (c .copied .ensures .below) (subst (λ w. Product k ps ws w x (v .result)) (u .ensures) (v .ensures)), mixed-kept (v .result) x k r (c .copied .ensures))
+    let u = c .before .before .before .before .before .before in
+    let z = u .before in
+    carry-copied (z .pre .1 .0) (u .word .ensures) (z .pre .1 .1) (c .before .before .product .ensures) (c .copied .ensures)
 
 conjugate-moved-requires : (t : ℕ) → conjugate-lts.Need-moved-requires (conjugate-claims t) (conjugate-at t) conjugate.Post
-conjugate-moved-requires t c κs =
-    (c .pre .1 .2, omega (arith, c .pre .1 .0 .few), c .pre .1 .1 .at (c .args .j) (omega arith))
+conjugate-moved-requires t c κs = let q = c .pre .1 in (q .level, omega (arith, q .prepared .ranged .few), q .prepared .quiet .at (c .args .j) (omega arith))
 
 conjugate-returns : (t : ℕ) → conjugate-lts.Need-returns (conjugate-claims t) (conjugate-at t) conjugate.Post
 conjugate-returns t c =
-    let z = c .before .before in
-    let ps = now (z .args .primes) in
-    let ws = now (z .args .words) in
-    let rc = now (z .args .reach) in
-    let k = z .args .k in
-    let j = z .args .j in
-    let x = z .args .t6 in
-    conjugate-none j ps ws x k (z .pre .1 .2) (subst (KeepsFrom ws k j x) (c .if1 .taken) (c .before .moved .ensures)) (z .pre .1 .3)
+    let m = c .before in
+    let z = m .before in
+    conjugate-still (z .pre .1) (m .moved .ensures) (c .if1 .taken)
 
 conjugate-sub-l : (t : ℕ) → conjugate-lts.Need-sub-l (conjugate-claims t) (conjugate-at t) conjugate.Post
 conjugate-sub-l t c = search needs
 
 conjugate-conjugate-requires : (t : ℕ) → conjugate-lts.Need-conjugate-requires (conjugate-claims t) (conjugate-at t) conjugate.Post
 conjugate-conjugate-requires t c κs =
-    let z = c .before .before in
-    let ps = now (z .args .primes) in
-    let ws = now (z .args .words) in
-    let rc = now (z .args .reach) in
-    let k = z .args .k in
-    let j = z .args .j in
-    let x = z .args .t6 in
-    let m = c .before .moved in
-    let mk : m .result ≤ k = m .ensures .less in
-    let kj : k ≤ j = z .pre .1 .2 in
-    (omega (arith, z .pre .0, c .if1 .left), (z .pre .1 .0, z .pre .1 .1, omega arith, small-below (m .result - 1) k ps x (omega arith) (z .pre .1 .3)))
+    let m = c .before in
+    let z = m .before in
+    let asked = lower-asks (z .pre .1) (m .moved .ensures) (c .if1 .left) in
+    (omega (arith, z .pre .0, asked .level, m .moved .ensures .less, c .if1 .left), asked)
 
 conjugate-mul-z : (t : ℕ) → conjugate-lts.Need-mul-z (conjugate-claims t) (conjugate-at t) conjugate.Post
 conjugate-mul-z t c = search needs
 
 conjugate-array-write-z : (t : ℕ) → conjugate-lts.Need-array-write-z (conjugate-claims t) (conjugate-at t) conjugate.Post
 conjugate-array-write-z t c =
-    let z = c .before .before .before in
-    let ps = now (z .args .primes) in
-    let ws = now (z .args .words) in
-    let rc = now (z .args .reach) in
-    let k = z .args .k in
-    let j = z .args .j in
-    let x = z .args .t6 in
-    let m = c .before .before .moved in
-    let mk : m .result ≤ k = m .ensures .less in
-    let kj : k ≤ j = z .pre .1 .2 in
-    let few : suc j ≤ maxGenerators = z .pre .1 .0 .few in
-    omega arith
+    let m = c .before .before in
+    let z = m .before in
+    moved-within (z .pre .1) (m .moved .ensures) (c .before .if1 .left)
 
 conjugate-image-requires : (t : ℕ) → conjugate-lts.Need-image-requires (conjugate-claims t) (conjugate-at t) conjugate.Post
 conjugate-image-requires t c κs =
-    let z = c .before .before .before in
-    let ps = now (z .args .primes) in
-    let ws = now (z .args .words) in
-    let rc = now (z .args .reach) in
-    let k = z .args .k in
-    let j = z .args .j in
-    let x = z .args .t6 in
-    let m = c .before .before .moved in
-    let mk : m .result ≤ k = m .ensures .less in
-    let kj : k ≤ j = z .pre .1 .2 in
-    (omega (arith, z .pre .0, c .before .if1 .left), (z .pre .1 .0, z .pre .1 .1, omega (arith, c .before .if1 .left)))
+    let m = c .before .before in
+    let z = m .before in
+    let low = moved-level (z .pre .1) (m .moved .ensures) (c .before .if1 .left) in
+    (omega (arith, z .pre .0), (z .pre .1 .prepared, omega (arith, z .pre .1 .level)))
 
 conjugate-mul-power : (t : ℕ) → conjugate-lts.Need-mul-power (conjugate-claims t) (conjugate-at t) conjugate.Post
 conjugate-mul-power t c = search needs
 
 conjugate-array-read-power : (t : ℕ) → conjugate-lts.Need-array-read-power (conjugate-claims t) (conjugate-at t) conjugate.Post
 conjugate-array-read-power t c =
-    let z = c .before .before .before .before in
-    let ps = now (z .args .primes) in
-    let ws = now (z .args .words) in
-    let rc = now (z .args .reach) in
-    let k = z .args .k in
-    let j = z .args .j in
-    let x = z .args .t6 in
-    let m = c .before .before .before .moved in
-    let mk : m .result ≤ k = m .ensures .less in
-    let kj : k ≤ j = z .pre .1 .2 in
-    let few : suc j ≤ maxGenerators = z .pre .1 .0 .few in
-    omega arith
+    let m = c .before .before .before in
+    let z = m .before in
+    moved-within (z .pre .1) (m .moved .ensures) (c .before .before .if1 .left)
 
 conjugate-power-requires : (t : ℕ) → conjugate-lts.Need-power-requires (conjugate-claims t) (conjugate-at t) conjugate.Post
 conjugate-power-requires t c κs =
-    let z = c .before .before .before .before in
-    let ps = now (z .args .primes) in
-    let ws = now (z .args .words) in
-    let rc = now (z .args .reach) in
-    let k = z .args .k in
-    let j = z .args .j in
-    let x = z .args .t6 in
-    let m = c .before .before .before .moved in
-    let mk : m .result ≤ k = m .ensures .less in
-    let kj : k ≤ j = z .pre .1 .2 in
-    let r = ready-below (m .result) (suc j) ps ws (omega arith) (z .pre .1 .0) in
-    let quiet = quiet-below (m .result) (suc j) ws rc (omega arith) (z .pre .1 .1) in
-    let level : suc (m .result - 1) ≡ m .result = omega (arith, c .before .before .if1 .left) in
-    (omega (arith, z .pre .0), (r, quiet, subst (λ n. Small n ps (c .image .result)) level (c .image .ensures .small)))
+    let m = c .before .before .before in
+    let z = m .before in
+    let few = m .moved .ensures .less in
+    (omega (arith, z .pre .0), power-asks (z .pre .1) (m .moved .ensures) (c .before .before .if1 .left) (c .image .ensures))
 
 conjugate-product-requires : (t : ℕ) → conjugate-lts.Need-product-requires (conjugate-claims t) (conjugate-at t) conjugate.Post
 conjugate-product-requires t c κs =
-    let z = c .before .before .before .before .before in
-    let ps = now (z .args .primes) in
-    let ws = now (z .args .words) in
-    let rc = now (z .args .reach) in
-    let k = z .args .k in
-    let j = z .args .j in
-    let x = z .args .t6 in
-    let m = c .before .before .before .before .moved in
-    let mk : m .result ≤ k = m .ensures .less in
-    let kj : k ≤ j = z .pre .1 .2 in
-    let r = ready-below (m .result) (suc j) ps ws (omega arith) (z .pre .1 .0) in
-    let quiet = quiet-below (m .result) (suc j) ws rc (omega arith) (z .pre .1 .1) in
-    let few : suc j ≤ maxGenerators = z .pre .1 .0 .few in
-    let q = c .before .before .conjugate in
-    let pos : 0 < m .result = omega (arith, c .before .before .before .if1 .left) in
-    let long : length (q .result) ≡ maxGenerators = search needs in
-    (omega (arith, z .pre .0), (r, quiet, c .power .ensures .small, lower-small-at k j (m .result) ps ws x (q .result) pos kj (omega arith) (m .ensures) (q .ensures) r))
+    let q = c .before .before in
+    let m = q .before .before in
+    let z = m .before in
+    let few = m .moved .ensures .less in
+    let long : length (q .conjugate .result) ≡ maxGenerators = search needs in (
+      omega (arith, z .pre .0),
+      product-asks (z .pre .1) (m .moved .ensures) (q .before .if1 .left) long (q .conjugate .ensures) (c .power .ensures),
+    )
 
 conjugate-mul-stacked : (t : ℕ) → conjugate-lts.Need-mul-stacked (conjugate-claims t) (conjugate-at t) conjugate.Post
 conjugate-mul-stacked t c = search needs
 
 conjugate-array-read-stacked : (t : ℕ) → conjugate-lts.Need-array-read-stacked (conjugate-claims t) (conjugate-at t) conjugate.Post
 conjugate-array-read-stacked t c =
-    let z = c .before .before .before .before .before .before in
-    let ps = now (z .args .primes) in
-    let ws = now (z .args .words) in
-    let rc = now (z .args .reach) in
-    let k = z .args .k in
-    let j = z .args .j in
-    let x = z .args .t6 in
-    let m = c .before .before .before .before .before .moved in
-    let mk : m .result ≤ k = m .ensures .less in
-    let kj : k ≤ j = z .pre .1 .2 in
-    let few : suc j ≤ maxGenerators = z .pre .1 .0 .few in
-    omega arith
+    let m = c .before .before .before .before .before in
+    let z = m .before in
+    moved-within (z .pre .1) (m .moved .ensures) (c .before .before .before .before .if1 .left)
 
 conjugate-stacked-requires : (t : ℕ) → conjugate-lts.Need-stacked-requires (conjugate-claims t) (conjugate-at t) conjugate.Post
 conjugate-stacked-requires t c κs =
-    let z = c .before .before .before .before .before .before in
-    let ps = now (z .args .primes) in
-    let ws = now (z .args .words) in
-    let rc = now (z .args .reach) in
-    let k = z .args .k in
-    let j = z .args .j in
-    let x = z .args .t6 in
-    let m = c .before .before .before .before .before .moved in
-    let mk : m .result ≤ k = m .ensures .less in
-    let kj : k ≤ j = z .pre .1 .2 in
-    let few : suc j ≤ maxGenerators = z .pre .1 .0 .few in
-    omega (arith, c .before .before .before .before .if1 .left)
+    let m = c .before .before .before .before .before in
+    let z = m .before in
+    moved-within (z .pre .1) (m .moved .ensures) (c .before .before .before .before .if1 .left)
 
 conjugate-returns-2 : (t : ℕ) → conjugate-lts.Need-returns-2 (conjugate-claims t) (conjugate-at t) conjugate.Post
 conjugate-returns-2 t c =
-    let z = c .before .before .before .before .before .before .before in
-    let ps = now (z .args .primes) in
-    let ws = now (z .args .words) in
-    let rc = now (z .args .reach) in
-    let k = z .args .k in
-    let j = z .args .j in
-    let x = z .args .t6 in
-    let m = c .before .before .before .before .before .before .moved in
-    let mk : m .result ≤ k = m .ensures .less in
-    let kj : k ≤ j = z .pre .1 .2 in
-    let few : suc j ≤ maxGenerators = z .pre .1 .0 .few in
-    let q = c .before .before .before .before .conjugate in
-    let pos : 0 < m .result = omega (arith, c .before .before .before .before .before .if1 .left) in
-    let long : length (q .result) ≡ maxGenerators = search needs in
-    conjugate-moves-at k j (m .result) ps ws x (q .result) pos kj (omega arith) (m .ensures) (q .ensures) (c .before .before .before .image .result) (c .before .before .power .result) (c .before .product .result) (c .stacked .result)
-    (z .pre .1 .3) (c .before .before .before .image .ensures) (c .before .before .power .ensures) (c .before .product .ensures) (c .stacked .ensures)
+    let q = c .before .before .before .before in
+    let m = q .before .before in
+    let z = m .before in
+    let long : length (q .conjugate .result) ≡ maxGenerators = search needs in
+    conjugate-top (z .pre .1) (m .moved .ensures) (q .before .if1 .left) long (q .conjugate .ensures)
+    (c .before .before .before .image .ensures) (c .before .before .power .ensures) (c .before .product .ensures) (c .stacked .ensures)
 
 image-word-requires : (t : ℕ) → image-lts.Need-word-requires (image-claims t) (image-at t) image.Post
-image-word-requires t c κs =
-    let z = c in
-    let ps = now (z .args .primes) in
-    let ws = now (z .args .words) in
-    let j = z .args .j in
-    let l = z .args .l in
-    let lj : l < j = z .pre .1 .2 in
-    (omega arith, omega (arith, z .pre .1 .0 .few))
+image-word-requires t c κs = (omega (arith, c .pre .1 .1), omega (arith, c .pre .1 .0 .ranged .few))
 
 image-mul-s : (t : ℕ) → image-lts.Need-mul-s (image-claims t) (image-at t) image.Post
 image-mul-s t c = search needs
 
 image-array-read-s : (t : ℕ) → image-lts.Need-array-read-s (image-claims t) (image-at t) image.Post
-image-array-read-s t c =
-    let z = c .before in
-    let ps = now (z .args .primes) in
-    let ws = now (z .args .words) in
-    let j = z .args .j in
-    let l = z .args .l in
-    let lj : l < j = z .pre .1 .2 in
-    omega (arith, z .pre .1 .0 .few)
+image-array-read-s t c = let z = c .before in omega (arith, z .pre .1 .0 .ranged .few, z .pre .1 .1)
 
 image-add-s : (t : ℕ) → image-lts.Need-add-s (image-claims t) (image-at t) image.Post
-image-add-s t c =
-    let z = c .before in
-    let ps = now (z .args .primes) in
-    let ws = now (z .args .words) in
-    let j = z .args .j in
-    let l = z .args .l in
-    let lj : l < j = z .pre .1 .2 in
-    let w = c .word in
-    let few : suc j ≤ maxGenerators = z .pre .1 .0 .few in
-    let long : length (w .result) ≡ maxGenerators = search needs in
-    let small = commutator-small j l ps ws (w .result) lj (z .pre .1 .0) (w .ensures) in
-    omega (arith, small .below l (omega arith), prime-fits (suc j) ps ws (z .pre .1 .0) l (omega arith))
+image-add-s t c = let z = c .before in omega (arith, image-fits (z .pre .1 .0) (z .pre .1 .1) (c .word .ensures))
 
 image-mul-p : (t : ℕ) → image-lts.Need-mul-p (image-claims t) (image-at t) image.Post
 image-mul-p t c = search needs
 
 image-element-copy-out-p : (t : ℕ) → image-lts.Need-element-copy-out-p (image-claims t) (image-at t) image.Post
-image-element-copy-out-p t c =
-    let z = c .before in
-    let ps = now (z .args .primes) in
-    let ws = now (z .args .words) in
-    let j = z .args .j in
-    let l = z .args .l in
-    let lj : l < j = z .pre .1 .2 in
-    omega (arith, z .pre .1 .0 .few)
+image-element-copy-out-p t c = let z = c .before in omega (arith, z .pre .1 .0 .ranged .few, z .pre .1 .1)
 
 image-mul-h : (t : ℕ) → image-lts.Need-mul-h (image-claims t) (image-at t) image.Post
 image-mul-h t c = search needs
 
 image-array-write-h : (t : ℕ) → image-lts.Need-array-write-h (image-claims t) (image-at t) image.Post
-image-array-write-h t c =
-    let z = c .before .before .before in
-    let ps = now (z .args .primes) in
-    let ws = now (z .args .words) in
-    let j = z .args .j in
-    let l = z .args .l in
-    let lj : l < j = z .pre .1 .2 in
-    omega (arith, z .pre .1 .0 .few)
+image-array-write-h t c = let z = c .before .before .before in omega (arith, z .pre .1 .0 .ranged .few, z .pre .1 .1)
 
 image-returns : (t : ℕ) → image-lts.Need-returns (image-claims t) (image-at t) image.Post
 image-returns t c =
-    let z = c .before .before .before in
-    let ps = now (z .args .primes) in
-    let ws = now (z .args .words) in
-    let j = z .args .j in
-    let l = z .args .l in
-    let lj : l < j = z .pre .1 .2 in
-    let w = c .before .before .word in
-    let few : suc j ≤ maxGenerators = z .pre .1 .0 .few in
-    let long : length (w .result) ≡ maxGenerators = search needs in
-    image-low j l ps ws (w .result) lj (z .pre .1 .0) (w .ensures) (omega arith) (c .if1 .taken)
+    let w = c .before .before in
+    let z = w .before in
+    let long : length (w .word .result) ≡ maxGenerators = search needs in
+    image-low (z .pre .1 .0 .ranged) (z .pre .1 .1) (w .word .ensures) (omega (arith, z .pre .1 .0 .ranged .few, z .pre .1 .1)) (c .if1 .taken)
 
 image-word-requires-2 : (t : ℕ) → image-lts.Need-word-requires-2 (image-claims t) (image-at t) image.Post
-image-word-requires-2 t c κs =
-    let z = c .before .before .before in
-    let ps = now (z .args .primes) in
-    let ws = now (z .args .words) in
-    let j = z .args .j in
-    let l = z .args .l in
-    let lj : l < j = z .pre .1 .2 in
-    (omega arith, omega (arith, z .pre .1 .0 .few))
+image-word-requires-2 t c κs = let z = c .before .before .before in (omega arith, omega (arith, z .pre .1 .0 .ranged .few, z .pre .1 .1))
 
 image-product-requires : (t : ℕ) → image-lts.Need-product-requires (image-claims t) (image-at t) image.Post
 image-product-requires t c κs =
-    let z = c .before .before .before .before in
-    let ps = now (z .args .primes) in
-    let ws = now (z .args .words) in
-    let j = z .args .j in
-    let l = z .args .l in
-    let lj : l < j = z .pre .1 .2 in
-    let w = c .before .before .before .word in
-    let few : suc j ≤ maxGenerators = z .pre .1 .0 .few in
-    let long : length (w .result) ≡ maxGenerators = search needs in
-    let u = c .word2 in (
-      omega (arith, z .pre .0),
-      (
-        ready-below l (suc j) ps ws (omega arith) (z .pre .1 .0),
-        quiet-below l (suc j) ws (now (z .args .reach)) (omega arith) (z .pre .1 .1),
-        subst (Small l ps) (sym (u .ensures)) (small-below l (suc j) ps _ (omega arith) (z .pre .1 .0 .word l l (omega arith) (omega arith))),
-        small-below l (suc l) ps (w .result) (omega arith) (commutator-small j l ps ws (w .result) lj (z .pre .1 .0) (w .ensures)),
-      ),
-    )
+    let w = c .before .before .before in
+    let z = w .before in
+    (omega (arith, z .pre .0, z .pre .1 .1), image-asks (z .pre .1 .0) (z .pre .1 .1) (w .word .ensures) (c .word2 .ensures))
 
 image-mul-v : (t : ℕ) → image-lts.Need-mul-v (image-claims t) (image-at t) image.Post
 image-mul-v t c = search needs
 
 image-array-write-v : (t : ℕ) → image-lts.Need-array-write-v (image-claims t) (image-at t) image.Post
-image-array-write-v t c =
-    let z = c .before .before .before .before .before in
-    let ps = now (z .args .primes) in
-    let ws = now (z .args .words) in
-    let j = z .args .j in
-    let l = z .args .l in
-    let lj : l < j = z .pre .1 .2 in
-    omega (arith, z .pre .1 .0 .few)
+image-array-write-v t c = let z = c .before .before .before .before .before in omega (arith, z .pre .1 .0 .ranged .few, z .pre .1 .1)
 
 image-returns-2 : (t : ℕ) → image-lts.Need-returns-2 (image-claims t) (image-at t) image.Post
 image-returns-2 t c =
-    let z = c .before .before .before .before .before in
-    let ps = now (z .args .primes) in
-    let ws = now (z .args .words) in
-    let j = z .args .j in
-    let l = z .args .l in
-    let lj : l < j = z .pre .1 .2 in
-    let w = c .before .before .before .before .word in
-    let few : suc j ≤ maxGenerators = z .pre .1 .0 .few in
-    let long : length (w .result) ≡ maxGenerators = search needs in
-    let u = c .before .word2 in
-    let v = c .product in
-    let longv : length (v .result) ≡ maxGenerators = search needs in
-    image-high j l ps ws (w .result) lj (z .pre .1 .0) (w .ensures) (u .result) (v .result) (u .ensures) (v .ensures) (omega arith) (c .before .before .if1 .left)
+    let w = c .before .before .before .before in
+    let z = w .before in
+    let long : length (c .product .result) ≡ maxGenerators = search needs in
+    image-high (z .pre .1 .0 .ranged) (z .pre .1 .1) (w .word .ensures) (c .before .word2 .ensures) (c .product .ensures)
+    (omega (arith, z .pre .1 .0 .ranged .few, z .pre .1 .1)) (c .before .before .if1 .left)
 
 multiply-top-requires : (t : ℕ) → multiply-lts.Need-top-requires (multiply-claims t) (multiply-at t) multiply.Post
-multiply-top-requires t c κs =
-    let z = c .before in
-    let ps = now (z .args .primes) in
-    let ws = now (z .args .words) in
-    let rc = now (z .args .reach) in
-    let i = z .args .i in
-    let x = now (z .args .x) in
-    let y = now (z .args .y) in
-    z .pre .1 .0 .few
+multiply-top-requires t c κs = c .before .pre .1 .0 .prepared .ranged .few
 
 multiply-returns : (t : ℕ) → multiply-lts.Need-returns (multiply-claims t) (multiply-at t) multiply.Post
-multiply-returns t c =
-    let z = c .before .before .before in
-    let ps = now (z .args .primes) in
-    let ws = now (z .args .words) in
-    let rc = now (z .args .reach) in
-    let i = z .args .i in
-    let x = now (z .args .x) in
-    let y = now (z .args .y) in
-    (product-none i ps ws x y (subst (Top i y) (c .if1 .taken) (c .before .top .ensures)) (z .pre .1 .2), kept-all i x)
+multiply-returns t c = let z = c .before .before .before in multiply-none (z .pre .1 .0) (c .before .top .ensures) (c .if1 .taken)
 
 multiply-sub-k : (t : ℕ) → multiply-lts.Need-sub-k (multiply-claims t) (multiply-at t) multiply.Post
 multiply-sub-k t c = search needs
@@ -555,314 +338,125 @@ multiply-mul-b : (t : ℕ) → multiply-lts.Need-mul-b (multiply-claims t) (mult
 multiply-mul-b t c = search needs
 
 multiply-element-copy-out-b : (t : ℕ) → multiply-lts.Need-element-copy-out-b (multiply-claims t) (multiply-at t) multiply.Post
-multiply-element-copy-out-b t c =
-    let z = c .before .before .before in
-    let ps = now (z .args .primes) in
-    let ws = now (z .args .words) in
-    let rc = now (z .args .reach) in
-    let i = z .args .i in
-    let x = now (z .args .x) in
-    let y = now (z .args .y) in
-    let m = c .before .top in
-    let mi : m .result ≤ i = m .ensures .less in
-    let few : i ≤ maxGenerators = z .pre .1 .0 .few in
-    let pos : 0 < m .result = omega (arith, c .if1 .left) in
-    omega arith
+multiply-element-copy-out-b t c = let m = c .before in top-within (m .before .before .pre .1 .0) (m .top .ensures) (c .if1 .left)
 
 multiply-turn-requires : (t : ℕ) → multiply-lts.Need-turn-requires (multiply-claims t) (multiply-at t) multiply.Post
 multiply-turn-requires t c κs =
-    let z = c .before .before .before .before .before in
-    let ps = now (z .args .primes) in
-    let ws = now (z .args .words) in
-    let rc = now (z .args .reach) in
-    let i = z .args .i in
-    let x = now (z .args .x) in
-    let y = now (z .args .y) in
-    let m = c .before .before .before .top in
-    let mi : m .result ≤ i = m .ensures .less in
-    let few : i ≤ maxGenerators = z .pre .1 .0 .few in
-    let pos : 0 < m .result = omega (arith, c .before .before .if1 .left) in (
-      omega (arith, z .pre .0),
-      (
-        ready-below (suc (m .result - 1)) i ps ws (omega arith) (z .pre .1 .0),
-        quiet-below (suc (m .result - 1)) i ws rc (omega arith) (z .pre .1 .1),
-        small-below (m .result - 1) i ps x (omega arith) (z .pre .1 .2),
-        z .pre .1 .4,
-      ),
-    )
+    let m = c .before .before .before in
+    let z = m .before .before in
+    let low = top-level (z .pre .1 .0) (m .top .ensures) (c .before .before .if1 .left) in
+    (omega (arith, z .pre .0), turn-asks (z .pre .1 .0) (m .top .ensures) (c .before .before .if1 .left) (z .pre .1 .1))
 
 multiply-multiply-requires : (t : ℕ) → multiply-lts.Need-multiply-requires (multiply-claims t) (multiply-at t) multiply.Post
 multiply-multiply-requires t c κs =
-    let z = c .before .before .before .before .before .before .before in
-    let ps = now (z .args .primes) in
-    let ws = now (z .args .words) in
-    let rc = now (z .args .reach) in
-    let i = z .args .i in
-    let x = now (z .args .x) in
-    let y = now (z .args .y) in
-    let m = c .before .before .before .before .before .top in
-    let mi : m .result ≤ i = m .ensures .less in
-    let few : i ≤ maxGenerators = z .pre .1 .0 .few in
-    let pos : 0 < m .result = omega (arith, c .before .before .before .before .if1 .left) in
-    let t = c .before .turn in
-    let x₁ = t .last .1 .1 .1 .1 .0 in (
-      omega (arith, z .pre .0),
-      (
-        ready-below (m .result - 1) i ps ws (omega arith) (z .pre .1 .0),
-        quiet-below (m .result - 1) i ws rc (omega arith) (z .pre .1 .1),
-        t .ensures .0 .small,
-        small-below (m .result - 1) i ps y (omega arith) (z .pre .1 .3),
-        t .ensures .1 .long ∙ z .pre .1 .4,
-      ),
-    )
+    let x = c .before in
+    let m = x .before .before .before .before in
+    let z = m .before .before in
+    let some = x .before .before .before .if1 .left in
+    let low = top-level (z .pre .1 .0) (m .top .ensures) some in
+    (omega (arith, z .pre .0), multiply-asks (z .pre .1 .0) (m .top .ensures) some (z .pre .1 .1) (x .turn .ensures))
 
 multiply-mul-s : (t : ℕ) → multiply-lts.Need-mul-s (multiply-claims t) (multiply-at t) multiply.Post
 multiply-mul-s t c = search needs
 
 multiply-element-copy-out-s : (t : ℕ) → multiply-lts.Need-element-copy-out-s (multiply-claims t) (multiply-at t) multiply.Post
 multiply-element-copy-out-s t c =
-    let z = c .before .before .before .before .before .before .before .before in
-    let ps = now (z .args .primes) in
-    let ws = now (z .args .words) in
-    let rc = now (z .args .reach) in
-    let i = z .args .i in
-    let x = now (z .args .x) in
-    let y = now (z .args .y) in
-    let m = c .before .before .before .before .before .before .top in
-    let mi : m .result ≤ i = m .ensures .less in
-    let few : i ≤ maxGenerators = z .pre .1 .0 .few in
-    let pos : 0 < m .result = omega (arith, c .before .before .before .before .before .if1 .left) in
-    omega arith
+    let m = c .before .before .before .before .before .before in
+    top-within (m .before .before .pre .1 .0) (m .top .ensures) (c .before .before .before .before .before .if1 .left)
 
 multiply-add-s : (t : ℕ) → multiply-lts.Need-add-s (multiply-claims t) (multiply-at t) multiply.Post
 multiply-add-s t c =
-    let z = c .before .before .before .before .before .before .before .before .before in
-    let ps = now (z .args .primes) in
-    let ws = now (z .args .words) in
-    let rc = now (z .args .reach) in
-    let i = z .args .i in
-    let x = now (z .args .x) in
-    let y = now (z .args .y) in
-    let m = c .before .before .before .before .before .before .before .top in
-    let mi : m .result ≤ i = m .ensures .less in
-    let few : i ≤ maxGenerators = z .pre .1 .0 .few in
-    let pos : 0 < m .result = omega (arith, c .before .before .before .before .before .before .if1 .left) in
-    let t = c .before .before .before .turn in
-    let x₁ = t .last .1 .1 .1 .1 .0 in
-    let q = c .before .multiply in
-    let x₂ = q .last .1 .1 .1 .1 .0 in
-    let long : m .result ≤ length x = omega (arith, z .pre .1 .4) in
-    omega (
-      arith,
-      multiply-top i (m .result) ps ws x y x₁ x₂ pos (m .ensures) (z .pre .1 .2) long (t .ensures .0) (t .ensures .1) (q .ensures .0) (q .ensures .1),
-      z .pre .1 .2 .below (m .result - 1) (omega arith),
-      z .pre .1 .3 .below (m .result - 1) (omega arith),
-      prime-fits i ps ws (z .pre .1 .0) (m .result - 1) (omega arith),
-    )
+    let x = c .before .before .before in
+    let e = x .before .before .before in
+    let z = e .before .before .before in
+    omega (arith, sum-fits (z .pre .1 .0) (e .before .top .ensures) (e .if1 .left) (z .pre .1 .1) (x .turn .ensures) (c .before .multiply .ensures))
 
 multiply-mul-p : (t : ℕ) → multiply-lts.Need-mul-p (multiply-claims t) (multiply-at t) multiply.Post
 multiply-mul-p t c = search needs
 
 multiply-element-copy-out-p : (t : ℕ) → multiply-lts.Need-element-copy-out-p (multiply-claims t) (multiply-at t) multiply.Post
 multiply-element-copy-out-p t c =
-    let z = c .before .before .before .before .before .before .before .before .before in
-    let ps = now (z .args .primes) in
-    let ws = now (z .args .words) in
-    let rc = now (z .args .reach) in
-    let i = z .args .i in
-    let x = now (z .args .x) in
-    let y = now (z .args .y) in
-    let m = c .before .before .before .before .before .before .before .top in
-    let mi : m .result ≤ i = m .ensures .less in
-    let few : i ≤ maxGenerators = z .pre .1 .0 .few in
-    let pos : 0 < m .result = omega (arith, c .before .before .before .before .before .before .if1 .left) in
-    omega arith
+    let m = c .before .before .before .before .before .before .before in
+    top-within (m .before .before .pre .1 .0) (m .top .ensures) (c .before .before .before .before .before .before .if1 .left)
 
 multiply-mul-x : (t : ℕ) → multiply-lts.Need-mul-x (multiply-claims t) (multiply-at t) multiply.Post
 multiply-mul-x t c = search needs
 
 multiply-element-write-x : (t : ℕ) → multiply-lts.Need-element-write-x (multiply-claims t) (multiply-at t) multiply.Post
 multiply-element-write-x t c =
-    let z = c .before .before .before .before .before .before .before .before .before .before .before in
-    let ps = now (z .args .primes) in
-    let ws = now (z .args .words) in
-    let rc = now (z .args .reach) in
-    let i = z .args .i in
-    let x = now (z .args .x) in
-    let y = now (z .args .y) in
-    let m = c .before .before .before .before .before .before .before .before .before .top in
-    let mi : m .result ≤ i = m .ensures .less in
-    let few : i ≤ maxGenerators = z .pre .1 .0 .few in
-    let pos : 0 < m .result = omega (arith, c .before .before .before .before .before .before .before .before .if1 .left) in
-    omega arith
+    let e = c .before .before .before .before .before .before .before .before in
+    top-within (e .before .before .before .pre .1 .0) (e .before .top .ensures) (e .if1 .left)
 
 multiply-returns-2 : (t : ℕ) → multiply-lts.Need-returns-2 (multiply-claims t) (multiply-at t) multiply.Post
 multiply-returns-2 t c =
-    let z = c .before .before .before .before .before .before .before .before .before .before .before in
-    let ps = now (z .args .primes) in
-    let ws = now (z .args .words) in
-    let rc = now (z .args .reach) in
-    let i = z .args .i in
-    let x = now (z .args .x) in
-    let y = now (z .args .y) in
-    let m = c .before .before .before .before .before .before .before .before .before .top in
-    let mi : m .result ≤ i = m .ensures .less in
-    let few : i ≤ maxGenerators = z .pre .1 .0 .few in
-    let pos : 0 < m .result = omega (arith, c .before .before .before .before .before .before .before .before .if1 .left) in
-    let t = c .before .before .before .before .before .turn in
-    let x₁ = t .last .1 .1 .1 .1 .0 in
-    let q = c .before .before .before .multiply in
-    let x₂ = q .last .1 .1 .1 .1 .0 in
-    let long : m .result ≤ length x = omega (arith, z .pre .1 .4) in
-    multiply-low i (m .result) ps ws x y x₁ x₂ pos (m .ensures) (z .pre .1 .2) long (t .ensures .0) (t .ensures .1) (q .ensures .0) (q .ensures .1) (c .if2 .taken)
+    let q = c .before .before .before in
+    let x = q .before .before in
+    let e = x .before .before .before in
+    let z = e .before .before .before in
+    multiply-low (z .pre .1 .0) (e .before .top .ensures) (e .if1 .left) (z .pre .1 .1) (x .turn .ensures) (q .multiply .ensures) (c .if2 .taken)
 
 multiply-carry-requires : (t : ℕ) → multiply-lts.Need-carry-requires (multiply-claims t) (multiply-at t) multiply.Post
 multiply-carry-requires t c κs =
-    let z = c .before .before .before .before .before .before .before .before .before .before .before .before in
-    let ps = now (z .args .primes) in
-    let ws = now (z .args .words) in
-    let rc = now (z .args .reach) in
-    let i = z .args .i in
-    let x = now (z .args .x) in
-    let y = now (z .args .y) in
-    let m = c .before .before .before .before .before .before .before .before .before .before .top in
-    let mi : m .result ≤ i = m .ensures .less in
-    let few : i ≤ maxGenerators = z .pre .1 .0 .few in
-    let pos : 0 < m .result = omega (arith, c .before .before .before .before .before .before .before .before .before .if1 .left) in
-    let t = c .before .before .before .before .before .before .turn in
-    let x₁ = t .last .1 .1 .1 .1 .0 in
-    let q = c .before .before .before .before .multiply in
-    let x₂ = q .last .1 .1 .1 .1 .0 in
-    let long : m .result ≤ length x = omega (arith, z .pre .1 .4) in (
-      omega (arith, z .pre .0),
-      (
-        ready-below (suc (m .result - 1)) i ps ws (omega arith) (z .pre .1 .0),
-        quiet-below (m .result - 1) i ws rc (omega arith) (z .pre .1 .1),
-        q .ensures .0 .small,
-        q .ensures .1 .long ∙ t .ensures .1 .long ∙ z .pre .1 .4,
-      ),
-    )
+    let q = c .before .before .before .before in
+    let x = q .before .before in
+    let e = x .before .before .before in
+    let z = e .before .before .before in
+    let low = top-level (z .pre .1 .0) (e .before .top .ensures) (e .if1 .left) in
+    (omega (arith, z .pre .0), carry-asks (z .pre .1 .0) (e .before .top .ensures) (e .if1 .left) (z .pre .1 .1) (x .turn .ensures) (q .multiply .ensures))
 
 multiply-mul-x-2 : (t : ℕ) → multiply-lts.Need-mul-x-2 (multiply-claims t) (multiply-at t) multiply.Post
 multiply-mul-x-2 t c = search needs
 
 multiply-element-write-x-2 : (t : ℕ) → multiply-lts.Need-element-write-x-2 (multiply-claims t) (multiply-at t) multiply.Post
 multiply-element-write-x-2 t c =
-    let z = c .before .before .before .before .before .before .before .before .before .before .before .before .before in
-    let ps = now (z .args .primes) in
-    let ws = now (z .args .words) in
-    let rc = now (z .args .reach) in
-    let i = z .args .i in
-    let x = now (z .args .x) in
-    let y = now (z .args .y) in
-    let m = c .before .before .before .before .before .before .before .before .before .before .before .top in
-    let mi : m .result ≤ i = m .ensures .less in
-    let few : i ≤ maxGenerators = z .pre .1 .0 .few in
-    let pos : 0 < m .result = omega (arith, c .before .before .before .before .before .before .before .before .before .before .if1 .left) in
-    omega arith
+    let q = c .before .before .before .before .before in
+    let e = q .before .before .before .before .before in
+    top-within (e .before .before .before .pre .1 .0) (e .before .top .ensures) (e .if1 .left)
 
 multiply-returns-3 : (t : ℕ) → multiply-lts.Need-returns-3 (multiply-claims t) (multiply-at t) multiply.Post
 multiply-returns-3 t c =
-    let z = c .before .before .before .before .before .before .before .before .before .before .before .before .before in
-    let ps = now (z .args .primes) in
-    let ws = now (z .args .words) in
-    let rc = now (z .args .reach) in
-    let i = z .args .i in
-    let x = now (z .args .x) in
-    let y = now (z .args .y) in
-    let m = c .before .before .before .before .before .before .before .before .before .before .before .top in
-    let mi : m .result ≤ i = m .ensures .less in
-    let few : i ≤ maxGenerators = z .pre .1 .0 .few in
-    let pos : 0 < m .result = omega (arith, c .before .before .before .before .before .before .before .before .before .before .if1 .left) in
-    let t = c .before .before .before .before .before .before .before .turn in
-    let x₁ = t .last .1 .1 .1 .1 .0 in
-    let q = c .before .before .before .before .before .multiply in
-    let x₂ = q .last .1 .1 .1 .1 .0 in
-    let long : m .result ≤ length x = omega (arith, z .pre .1 .4) in
-    multiply-high i (m .result) ps ws x y x₁ x₂ pos (m .ensures) (z .pre .1 .2) long (t .ensures .0) (t .ensures .1) (q .ensures .0) (q .ensures .1) (c .carry .last .1 .1 .1 .1 .0) (c .carry .ensures .0) (c .carry .ensures .1)
-    (c .before .before .if2 .left) (z .pre .1 .3)
+    let q = c .before .before .before .before .before in
+    let x = q .before .before in
+    let e = x .before .before .before in
+    let z = e .before .before .before in
+    multiply-high (z .pre .1 .0) (e .before .top .ensures) (e .if1 .left) (z .pre .1 .1) (x .turn .ensures) (q .multiply .ensures) (c .carry .ensures)
+    (c .before .before .if2 .left)
 
 abbrev power-Inv-loop : power-lts.InvT-loop
-power-Inv-loop primes words reach i x e m r₀ n₀ r n = (n ≤ e) × Power i primes words x r n
+power-Inv-loop primes rows reach i x e m r₀ n₀ r n = (n ≤ e) × Power i primes rows x r n
 
 abbrev power-μ-loop : power-lts.MeasureT-loop
-power-μ-loop primes words reach i x e m r₀ n₀ r n = e - n
+power-μ-loop primes rows reach i x e m r₀ n₀ r n = e - n
 
 power-returns : (t : ℕ) → power-lts.Need-returns (power-claims t) (power-at t) power.Post power-Inv-loop power-μ-loop
-power-returns t c =
-    let z = c .before in
-    let ps = now (z .args .primes) in
-    let ws = now (z .args .words) in
-    let i = z .args .i in
-    let x = z .args .x in
-    subst (Power i ps ws x x) (sym (c .if1 .taken)) (power-once i ps ws x (z .pre .1 .2))
+power-returns t c = power-first (c .if1 .taken) (c .before .pre .1 .1)
 
 power-top-requires : (t : ℕ) → power-lts.Need-top-requires (power-claims t) (power-at t) power.Post power-Inv-loop power-μ-loop
-power-top-requires t c κs =
-    let z = c .before in
-    let ps = now (z .args .primes) in
-    let ws = now (z .args .words) in
-    let i = z .args .i in
-    let x = z .args .x in
-    z .pre .1 .0 .few
+power-top-requires t c κs = c .before .pre .1 .0 .ranged .few
 
 power-alone-requires : (t : ℕ) → power-lts.Need-alone-requires (power-claims t) (power-at t) power.Post power-Inv-loop power-μ-loop
-power-alone-requires t c κs =
-    let z = c .before .before in
-    let ps = now (z .args .primes) in
-    let ws = now (z .args .words) in
-    let i = z .args .i in
-    let x = z .args .x in
-    omega (arith, c .top .ensures .less, z .pre .1 .0 .few)
+power-alone-requires t c κs = omega (arith, c .top .ensures .less, c .before .before .pre .1 .0 .ranged .few)
 
 power-sub-multiple : (t : ℕ) → power-lts.Need-sub-multiple (power-claims t) (power-at t) power.Post power-Inv-loop power-μ-loop
-power-sub-multiple t c =
-    let z = c .before .before .before .before in
-    let ps = now (z .args .primes) in
-    let ws = now (z .args .words) in
-    let i = z .args .i in
-    let x = z .args .x in
-    omega (arith, c .before .alone .ensures .is (c .if2 .taken) .0)
+power-sub-multiple t c = omega (arith, c .before .alone .ensures .is (c .if2 .taken) .0)
 
 power-multiple-requires : (t : ℕ) → power-lts.Need-multiple-requires (power-claims t) (power-at t) power.Post power-Inv-loop power-μ-loop
 power-multiple-requires t c κs =
-    let z = c .before .before .before .before in
-    let ps = now (z .args .primes) in
-    let ws = now (z .args .words) in
-    let i = z .args .i in
-    let x = z .args .x in
-    let t = c .before .before .top in
-    let pos = c .before .alone .ensures .is (c .if2 .taken) .0 in
-    let few : t .result ≤ i = t .ensures .less in
-    (omega (arith, z .pre .1 .0 .few), omega (arith, z .pre .1 .0 .two (t .result - 1) (omega arith)))
+    multiple-asks (c .before .before .before .before .pre .1 .0) (c .before .before .top .ensures) (c .before .alone .ensures .is (c .if2 .taken) .0)
 
 power-returns-2 : (t : ℕ) → power-lts.Need-returns-2 (power-claims t) (power-at t) power.Post power-Inv-loop power-μ-loop
 power-returns-2 t c =
-    let z = c .before .before .before .before .before in
-    let ps = now (z .args .primes) in
-    let ws = now (z .args .words) in
-    let i = z .args .i in
-    let x = z .args .x in
-    let t = c .before .before .before .top in
-    power-single i (t .result) ps ws x (z .pre .1 .0) (z .pre .1 .2) (t .ensures) (c .before .before .alone .ensures .is (c .before .if2 .taken)) (z .args .e) (c .multiple .result) (c .multiple .ensures)
+    let a = c .before .before in
+    let z = a .before .before .before in
+    power-single (z .pre .1 .0 .ranged) (z .pre .1 .1) (a .before .top .ensures) (a .alone .ensures .is (c .before .if2 .taken)) _ (c .multiple .ensures)
 
 power-loop-holds : (t : ℕ) → power-lts.Need-loop-holds (power-claims t) (power-at t) power.Post power-Inv-loop power-μ-loop
-power-loop-holds t c =
-    let z = c .before .before .before .before in
-    let ps = now (z .args .primes) in
-    let ws = now (z .args .words) in
-    let i = z .args .i in
-    let x = z .args .x in
-    (search needs, powering-start i ps ws x (z .pre .1 .0))
+power-loop-holds t c = (search needs, powering-start (c .before .before .before .before .pre .1 .0 .ranged))
 
 power-product-requires : (t : ℕ) → power-lts.Need-product-requires (power-claims t) (power-at t) power.Post power-Inv-loop power-μ-loop
 power-product-requires t c κs =
     let z = c .before .before .before .before .before .before in
-    let ps = now (z .args .primes) in
-    let ws = now (z .args .words) in
-    let i = z .args .i in
-    let x = z .args .x in
-    (omega (arith, z .pre .0), (z .pre .1 .0, z .pre .1 .1, z .pre .1 .2, c .before .loop .inv .1 .small))
+    (omega (arith, z .pre .0), record { prepared = z .pre .1 .0; left = z .pre .1 .1; right = c .before .loop .inv .1 .small })
 
 power-add-n : (t : ℕ) → power-lts.Need-add-n (power-claims t) (power-at t) power.Post power-Inv-loop power-μ-loop
 power-add-n t c = search needs
@@ -871,171 +465,80 @@ power-loop-less : (t : ℕ) → power-lts.Need-loop-less (power-claims t) (power
 power-loop-less t c = search needs
 
 power-loop-again : (t : ℕ) → power-lts.Need-loop-again (power-claims t) (power-at t) power.Post power-Inv-loop power-μ-loop
-power-loop-again t c =
-    let z = c .before .before .before .before .before .before .before in
-    let ps = now (z .args .primes) in
-    let ws = now (z .args .words) in
-    let i = z .args .i in
-    let x = z .args .x in
-    let l = c .before .before .loop in
-    (search needs, powering-more i ps ws x (l .r) (c .product .result) (l .n) (l .inv .1) (c .product .ensures))
+power-loop-again t c = (search needs, powering-more (c .before .before .loop .inv .1) (c .product .ensures))
 
 power-returns-3 : (t : ℕ) → power-lts.Need-returns-3 (power-claims t) (power-at t) power.Post power-Inv-loop power-μ-loop
 power-returns-3 t c =
     let z = c .before .before .before .before .before .before in
-    let ps = now (z .args .primes) in
-    let ws = now (z .args .words) in
-    let i = z .args .i in
-    let x = z .args .x in
     let l = c .before .loop in
     let e : l .n ≡ z .args .e = omega arith in
-    subst (Power i ps ws x (l .r)) e (l .inv .1)
+    subst (Power (z .args .i) (now (z .args .primes)) (now (z .args .rows)) (z .args .x) (l .r)) e (l .inv .1)
 
 product-multiply-requires : (t : ℕ) → product-lts.Need-multiply-requires (product-claims t) (product-at t) product.Post
-product-multiply-requires t c κs =
-    let z = c .before .before in
-    let ps = now (z .args .primes) in
-    let ws = now (z .args .words) in
-    (omega (arith, z .pre .0), (z .pre .1 .0, z .pre .1 .1, z .pre .1 .2, z .pre .1 .3, search needs))
+product-multiply-requires t c κs = let z = c .before .before in (omega (arith, z .pre .0), (z .pre .1, search needs))
 
 product-returns : (t : ℕ) → product-lts.Need-returns (product-claims t) (product-at t) product.Post
-product-returns t c = c .multiply .ensures .0
+product-returns t c = c .multiply .ensures .product
 
 turn-mul-if1 : (t : ℕ) → turn-lts.Need-mul-if1 (turn-claims t) (turn-at t) turn.Post
 turn-mul-if1 t c = search needs
 
 turn-element-copy-out-if1 : (t : ℕ) → turn-lts.Need-element-copy-out-if1 (turn-claims t) (turn-at t) turn.Post
-turn-element-copy-out-if1 t c = omega (arith, c .pre .1 .0 .few)
+turn-element-copy-out-if1 t c = omega (arith, c .pre .1 .0 .ranged .few)
 
 turn-returns : (t : ℕ) → turn-lts.Need-returns (turn-claims t) (turn-at t) turn.Post
-turn-returns t c =
-    let z = c .before .before in
-    let ps = now (z .args .primes) in
-    let ws = now (z .args .words) in
-    let k = z .args .k in
-    let x = now (z .args .x) in
-    let still = moved-reach ws k k 0 x (omega arith) (omega arith) (subst (Reach ws k) (c .if1 .taken) (z .pre .1 .1 .at k (omega arith))) in
-    (turned-fixed k (z .args .b) ps ws x (conjugate-none k ps ws x k (omega arith) still (z .pre .1 .2)), kept-all k x)
+turn-returns t c = let z = c .before .before in turn-still (z .pre .1 .0) (c .if1 .taken) (z .pre .1 .1)
 
 turn-turned-requires : (t : ℕ) → turn-lts.Need-turned-requires (turn-claims t) (turn-at t) turn.Post
-turn-turned-requires t c κs =
-    let z = c .before .before .before in
-    let ps = now (z .args .primes) in
-    let ws = now (z .args .words) in
-    let k = z .args .k in
-    let x = now (z .args .x) in
-    (omega (arith, z .pre .0), (z .pre .1 .0, z .pre .1 .1, z .pre .1 .2))
+turn-turned-requires t c κs = let z = c .before .before .before in (omega (arith, z .pre .0), (z .pre .1 .0, z .pre .1 .1))
 
 turn-copied-requires : (t : ℕ) → turn-lts.Need-copied-requires (turn-claims t) (turn-at t) turn.Post
-turn-copied-requires t c κs =
-    let z = c .before .before .before .before .before in
-    let ps = now (z .args .primes) in
-    let ws = now (z .args .words) in
-    let k = z .args .k in
-    let x = now (z .args .x) in
-    (omega (arith, z .pre .1 .0 .few), z .pre .1 .3)
+turn-copied-requires t c κs = let z = c .before .before .before .before .before in (omega (arith, z .pre .1 .0 .ranged .few), z .pre .1 .2)
 
 turn-returns-2 : (t : ℕ) → turn-lts.Need-returns-2 (turn-claims t) (turn-at t) turn.Post
-turn-returns-2 t c =
-    let z = c .before .before .before .before .before .before in
-    let ps = now (z .args .primes) in
-    let ws = now (z .args .words) in
-    let k = z .args .k in
-    let x = now (z .args .x) in
-    let t = c .before .before .turned in
-    let r = c .copied .last .1 .1 .0 in
-    (turned-same k (z .args .b) ps ws x (t .result) r (c .copied .ensures .below) (t .ensures), mixed-kept (t .result) x k r (c .copied .ensures))
+turn-returns-2 t c = turn-copied (c .before .before .turned .ensures) (c .copied .ensures)
 
 abbrev turned-Inv-loop : turned-lts.InvT-loop
-turned-Inv-loop primes words reach i x b c₀ n₀ left₀ c n left = Turning i b primes words x c n left
+turned-Inv-loop primes rows reach i x b c₀ n₀ left₀ c n left = Turning i b primes rows x c n left
 
 abbrev turned-μ-loop : turned-lts.MeasureT-loop
-turned-μ-loop primes words reach i x b c₀ n₀ left₀ c n left = left
+turned-μ-loop primes rows reach i x b c₀ n₀ left₀ c n left = left
 
 turned-mul-if1 : (t : ℕ) → turned-lts.Need-mul-if1 (turned-claims t) (turned-at t) turned.Post turned-Inv-loop turned-μ-loop
 turned-mul-if1 t c = search needs
 
 turned-element-copy-out-if1 : (t : ℕ) → turned-lts.Need-element-copy-out-if1 (turned-claims t) (turned-at t) turned.Post turned-Inv-loop turned-μ-loop
-turned-element-copy-out-if1 t c = omega (arith, c .pre .1 .0 .few)
+turned-element-copy-out-if1 t c = omega (arith, c .pre .1 .0 .ranged .few)
 
 turned-returns : (t : ℕ) → turned-lts.Need-returns (turned-claims t) (turned-at t) turned.Post turned-Inv-loop turned-μ-loop
-turned-returns t c =
-    let z = c .before .before in
-    let ps = now (z .args .primes) in
-    let ws = now (z .args .words) in
-    let rc = now (z .args .reach) in
-    let i = z .args .i in
-    let x = z .args .x in
-    turned-fixed i (z .args .b) ps ws x (conjugate-none i ps ws x i (omega arith) (moved-reach ws i i 0 x (omega arith) (omega arith) (subst (Reach ws i) (c .if1 .taken) (z .pre .1 .1 .at i (omega arith)))) (z .pre .1 .2))
+turned-returns t c = let z = c .before .before in turned-still (z .pre .1 .0) (c .if1 .taken) (z .pre .1 .1)
 
 turned-loop-holds : (t : ℕ) → turned-lts.Need-loop-holds (turned-claims t) (turned-at t) turned.Post turned-Inv-loop turned-μ-loop
-turned-loop-holds t c =
-    let z = c .before .before in
-    let ps = now (z .args .primes) in
-    let ws = now (z .args .words) in
-    let rc = now (z .args .reach) in
-    let i = z .args .i in
-    let x = z .args .x in
-    turning-start i (z .args .b) ps ws x (z .pre .1 .2)
+turned-loop-holds t c = turning-start (c .before .before .pre .1 .1)
 
 turned-conjugate-requires : (t : ℕ) → turned-lts.Need-conjugate-requires (turned-claims t) (turned-at t) turned.Post turned-Inv-loop turned-μ-loop
 turned-conjugate-requires t c κs =
     let z = c .before .before .before .before in
-    let ps = now (z .args .primes) in
-    let ws = now (z .args .words) in
-    let rc = now (z .args .reach) in
-    let i = z .args .i in
-    let x = z .args .x in
-    (omega (arith, z .pre .0), (z .pre .1 .0, z .pre .1 .1, omega arith, c .before .loop .inv .small))
+    (omega (arith, z .pre .0), record { prepared = z .pre .1 .0; level = omega arith; small = c .before .loop .inv .small })
 
 turned-add-n : (t : ℕ) → turned-lts.Need-add-n (turned-claims t) (turned-at t) turned.Post turned-Inv-loop turned-μ-loop
-turned-add-n t c =
-    let z = c .before .before .before .before .before in
-    let ps = now (z .args .primes) in
-    let ws = now (z .args .words) in
-    let rc = now (z .args .reach) in
-    let i = z .args .i in
-    let x = z .args .x in
-    omega (arith, c .before .before .loop .inv .total)
+turned-add-n t c = omega (arith, c .before .before .loop .inv .total)
 
 turned-sub-remaining : (t : ℕ) → turned-lts.Need-sub-remaining (turned-claims t) (turned-at t) turned.Post turned-Inv-loop turned-μ-loop
 turned-sub-remaining t c = search needs
 
 turned-remaining-requires : (t : ℕ) → turned-lts.Need-remaining-requires (turned-claims t) (turned-at t) turned.Post turned-Inv-loop turned-μ-loop
-turned-remaining-requires t c κs =
-    let z = c .before .before .before .before .before in
-    let ps = now (z .args .primes) in
-    let ws = now (z .args .words) in
-    let rc = now (z .args .reach) in
-    let i = z .args .i in
-    let x = z .args .x in
-    (omega (arith, z .pre .1 .0 .few), omega arith)
+turned-remaining-requires t c κs = (omega (arith, c .before .before .before .before .before .pre .1 .0 .ranged .few), omega arith)
 
 turned-loop-less : (t : ℕ) → turned-lts.Need-loop-less (turned-claims t) (turned-at t) turned.Post turned-Inv-loop turned-μ-loop
 turned-loop-less t c = search needs
 
 turned-loop-again : (t : ℕ) → turned-lts.Need-loop-again (turned-claims t) (turned-at t) turned.Post turned-Inv-loop turned-μ-loop
 turned-loop-again t c =
-    let z = c .before .before .before .before .before .before in
-    let ps = now (z .args .primes) in
-    let ws = now (z .args .words) in
-    let rc = now (z .args .reach) in
-    let i = z .args .i in
-    let x = z .args .x in
-    let l = c .before .before .before .loop in
-    turning-more i (z .args .b) ps ws x (l .c) (c .before .conjugate .result) (l .n) (l .left) (c .remaining .result) (search needs) (l .inv) (c .before .conjugate .ensures) (c .remaining .ensures)
+    turning-more (search needs) (c .before .before .before .loop .inv) (c .before .conjugate .ensures) (c .remaining .ensures)
 
 turned-returns-2 : (t : ℕ) → turned-lts.Need-returns-2 (turned-claims t) (turned-at t) turned.Post turned-Inv-loop turned-μ-loop
-turned-returns-2 t c =
-    let z = c .before .before .before .before in
-    let ps = now (z .args .primes) in
-    let ws = now (z .args .words) in
-    let rc = now (z .args .reach) in
-    let i = z .args .i in
-    let x = z .args .x in
-    let l = c .before .loop in
-    let over : l .left ≡ 0 = omega arith in
-    turned-done i (z .args .b) ps ws x (l .c) (l .n) (l .left) over (l .inv)
+turned-returns-2 t c = let l = c .before .loop in let over : l .left ≡ 0 = omega arith in turned-done over (l .inv)
 
 pub +carry+conjugate+image+multiply+power+product+turn+turned-spec : {M : Type 1} → statement M
 +carry+conjugate+image+multiply+power+product+turn+turned-spec =

@@ -4,7 +4,6 @@ use mathlib.Core.Path.{_≡_, sym, _∙_, subst}
 use mathlib.Core.Logic.{⊎-elim}
 use Prim.Native.Nat.{_≤_, _<_}
 use native.Mathlib.Omega.{arith}
-use lib.ListN.{getD}
 use borrow.Author.Tests.{not-false}
 use denote.Ref.{now}
 use Rattle.definitions.specs.Presentation.{maxGenerators}
@@ -14,10 +13,10 @@ use Rattle.commuting.proofs.moved.Statement.{statement}
 use Rattle.commuting.proofs.moved.Tie as tie
 
 abbrev Inv-loop : tie.InvT-loop
-Inv-loop words reach k j x first m₀ m = (k ≤ j) × (j < maxGenerators) × (m ≤ k) × KeepsFrom words k j x m
+Inv-loop rows reach k j x first m₀ m = (k ≤ j) × (j < maxGenerators) × (m ≤ k) × KeepsFrom rows k j x m
 
 abbrev μ-loop : tie.MeasureT-loop
-μ-loop words reach k j x first m₀ m = m
+μ-loop rows reach k j x first m₀ m = m
 
 mul-first : tie.Need-mul-first Inv-loop μ-loop
 mul-first c = search needs
@@ -28,15 +27,11 @@ element-copy-out-first c = search needs
 loop-holds : tie.Need-loop-holds Inv-loop μ-loop
 loop-holds c =
     let z = c .before .before in
-    let ws = now (z .args .words) in
-    let k = z .args .k in
-    let j = z .args .j in
-    let x = z .args .t5 in (
+    let keeps-from = KeepsFrom (now (z .args .rows)) (z .args .k) (z .args .j) (z .args .t5) in (
       search needs,
       search needs,
       ⊎-elim (λ w. omega arith) (λ w. omega arith) (c .if1 .came),
-      ⊎-elim (λ w. subst (KeepsFrom ws k j x) (sym (w .1)) (moved-reach ws j k (getD (now (z .args .reach)) j 0) x (search needs) (omega (arith, w .0 .taken)) (z .pre .2)))
-          (λ w. subst (KeepsFrom ws k j x) (sym (w .1)) (moved-all ws j k x)) (c .if1 .came),
+      ⊎-elim (λ w. subst keeps-from (sym (w .1)) (moved-reach (search needs) (omega (arith, w .0 .taken)) (z .pre .2))) (λ w. subst keeps-from (sym (w .1)) moved-all) (c .if1 .came),
     )
 
 sub-stays : tie.Need-sub-stays Inv-loop μ-loop
@@ -65,15 +60,14 @@ loop-less c = search needs
 
 loop-again : tie.Need-loop-again Inv-loop μ-loop
 loop-again c =
-    let z = c .before .before .before .before .before .before .before in
     let l = c .before .before .before .before .loop in
-    (search needs, search needs, search needs, moved-more (now (z .args .words)) (z .args .j) (z .args .k) (z .args .t5) (l .m) (search needs) (sym (c .before .stays .ensures) ∙ not-false _ (c .if2 .left)) (l .inv .3))
+    (search needs, search needs, search needs, moved-more (search needs) (sym (c .before .stays .ensures) ∙ not-false _ (c .if2 .left)) (l .inv .3))
 
 returns-2 : tie.Need-returns-2 Inv-loop μ-loop
 returns-2 c =
     let z = c .before .before .before .before in
     let e : c .before .loop .m ≡ 0 = omega arith in
-    subst (KeepsFrom (now (z .args .words)) (z .args .k) (z .args .j) (z .args .t5)) e (c .before .loop .inv .3)
+    subst (KeepsFrom (now (z .args .rows)) (z .args .k) (z .args .j) (z .args .t5)) e (c .before .loop .inv .3)
 
 pub moved-spec : {M : Type 1} → statement M
 moved-spec =

@@ -12,13 +12,13 @@ use Rattle.commuting.proofs.reached.Statement.{statement}
 use Rattle.commuting.proofs.reached.Tie as tie
 
 abbrev Inv-loop : tie.InvT-loop
-Inv-loop words j m₀ m = (j < maxGenerators) × (m ≤ j) × Reach words j m
+Inv-loop rows j m₀ m = (j < maxGenerators) × (m ≤ j) × Reach rows j m
 
 abbrev μ-loop : tie.MeasureT-loop
-μ-loop words j m₀ m = m
+μ-loop rows j m₀ m = m
 
 loop-holds : tie.Need-loop-holds Inv-loop μ-loop
-loop-holds c = (search needs, omega arith, reach-none (now (c .args .words)) (c .args .j))
+loop-holds c = (search needs, omega arith, reach-none)
 
 sub-word : tie.Need-sub-word Inv-loop μ-loop
 sub-word c = search needs
@@ -40,16 +40,14 @@ loop-less c = search needs
 
 loop-again : tie.Need-loop-again Inv-loop μ-loop
 loop-again c =
-    let z = c .before .before .before .before .before in
-    let l = c .before .before .before .before .loop in
-    let w = c .before .before .word in
-    (search needs, search needs, reach-more (now (z .args .words)) (z .args .j) (l .m) (w .result) (search needs) (w .ensures) (sym (c .before .empty .ensures) ∙ not-false _ (c .if1 .left)) (l .inv .2))
+    let empty = sym (c .before .empty .ensures) ∙ not-false _ (c .if1 .left) in
+    (search needs, search needs, reach-more (search needs) (c .before .before .word .ensures) empty (c .before .before .before .before .loop .inv .2))
 
 returns-2 : tie.Need-returns-2 Inv-loop μ-loop
 returns-2 c =
     let z = c .before .before in
     let e : c .before .loop .m ≡ 0 = omega arith in
-    subst (Reach (now (z .args .words)) (z .args .j)) e (c .before .loop .inv .2)
+    subst (Reach (now (z .args .rows)) (z .args .j)) e (c .before .loop .inv .2)
 
 pub reached-spec : {M : Type 1} → statement M
 reached-spec =

@@ -12,13 +12,13 @@ use Rattle.commuting.proofs.reaches.Statement.{statement}
 use Rattle.commuting.proofs.reaches.Tie as tie
 
 abbrev Inv-loop : tie.InvT-loop
-Inv-loop words n r₀ j₀ r j = (n ≤ maxGenerators) × (j ≤ n) × (length r ≡ maxGenerators) × Quiet j words r
+Inv-loop rows n r₀ j₀ r j = (n ≤ maxGenerators) × (j ≤ n) × (length r ≡ maxGenerators) × Quiet j rows r
 
 abbrev μ-loop : tie.MeasureT-loop
-μ-loop words n r₀ j₀ r j = n - j
+μ-loop rows n r₀ j₀ r j = n - j
 
 loop-holds : tie.Need-loop-holds Inv-loop μ-loop
-loop-holds c = (search needs, search needs, search needs, quiet-none _ _)
+loop-holds c = (search needs, search needs, search needs, quiet-none)
 
 reached-requires : tie.Need-reached-requires Inv-loop μ-loop
 reached-requires c κs = search needs
@@ -36,17 +36,14 @@ loop-less : tie.Need-loop-less Inv-loop μ-loop
 loop-less c = search needs
 
 loop-again : tie.Need-loop-again Inv-loop μ-loop
-loop-again c =
-    let z = c .before .before .before in
-    let l = c .before .before .loop in
-    (search needs, search needs, search needs, quiet-more (now (z .args .words)) (l .r) (l .j) (c .reached .result) (search needs) (l .inv .3) (c .reached .ensures))
+loop-again c = (search needs, search needs, search needs, quiet-more (search needs) (c .before .before .loop .inv .3) (c .reached .ensures))
 
 returns : tie.Need-returns Inv-loop μ-loop
 returns c =
     let z = c .before .before in
     let l = c .before .loop in
     let e : l .j ≡ z .args .n = omega arith in
-    subst (λ j. Quiet j (now (z .args .words)) (l .r)) e (l .inv .3)
+    subst (λ j. Quiet j (now (z .args .rows)) (l .r)) e (l .inv .3)
 
 pub reaches-spec : {M : Type 1} → statement M
 reaches-spec =

@@ -12,10 +12,10 @@ use Rattle.commuting.proofs.risen.Statement.{statement}
 use Rattle.commuting.proofs.risen.Tie as tie
 
 abbrev Inv-loop : tie.InvT-loop
-Inv-loop words reach n c j₀ j = (n ≤ maxGenerators) × (c < j) × (j ≤ n) × Rise words c j
+Inv-loop rows reach n c j₀ j = (n ≤ maxGenerators) × (c < j) × (j ≤ n) × Rise rows c j
 
 abbrev μ-loop : tie.MeasureT-loop
-μ-loop words reach n c j₀ j = n - j
+μ-loop rows reach n c j₀ j = n - j
 
 mul-if1 : tie.Need-mul-if1 Inv-loop μ-loop
 mul-if1 c = search needs
@@ -24,7 +24,7 @@ element-copy-out-if1 : tie.Need-element-copy-out-if1 Inv-loop μ-loop
 element-copy-out-if1 c = search needs
 
 returns : tie.Need-returns Inv-loop μ-loop
-returns c = rise-none (now (c .before .before .args .words)) (c .before .before .args .c)
+returns c = rise-none
 
 add-j : tie.Need-add-j Inv-loop μ-loop
 add-j c = search needs
@@ -32,8 +32,7 @@ add-j c = search needs
 loop-holds : tie.Need-loop-holds Inv-loop μ-loop
 loop-holds c =
     let z = c .before .before in
-    let ws = now (z .args .words) in
-    (search needs, search needs, search needs, rise-first ws (z .args .c) (subst (Reach ws (z .args .c)) (c .if1 .left) (z .pre .2)))
+    (search needs, search needs, search needs, rise-first (subst (Reach (now (z .args .rows)) (z .args .c)) (c .if1 .left) (z .pre .2)))
 
 word-requires : tie.Need-word-requires Inv-loop μ-loop
 word-requires c κs = search needs
@@ -55,17 +54,16 @@ loop-less c = search needs
 
 loop-again : tie.Need-loop-again Inv-loop μ-loop
 loop-again c =
-    let z = c .before .before .before .before .before .before .before in
     let l = c .before .before .before .before .loop in
-    let w = c .before .before .word in
-    (search needs, search needs, search needs, rise-more (now (z .args .words)) (z .args .c) (l .j) (w .result) (l .inv .1) (w .ensures) (sym (c .before .empty .ensures) ∙ not-false _ (c .if2 .left)) (l .inv .3))
+    let empty = sym (c .before .empty .ensures) ∙ not-false _ (c .if2 .left) in
+    (search needs, search needs, search needs, rise-more (l .inv .1) (c .before .before .word .ensures) empty (l .inv .3))
 
 returns-3 : tie.Need-returns-3 Inv-loop μ-loop
 returns-3 c =
     let z = c .before .before .before .before in
     let l = c .before .loop in
     let e : l .j ≡ z .args .n = omega arith in
-    subst (Rise (now (z .args .words)) (z .args .c)) e (l .inv .3)
+    subst (Rise (now (z .args .rows)) (z .args .c)) e (l .inv .3)
 
 pub risen-spec : {M : Type 1} → statement M
 risen-spec =

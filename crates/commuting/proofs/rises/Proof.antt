@@ -12,13 +12,13 @@ use Rattle.commuting.proofs.rises.Statement.{statement}
 use Rattle.commuting.proofs.rises.Tie as tie
 
 abbrev Inv-loop : tie.InvT-loop
-Inv-loop words reach n r₀ c₀ r c = (n ≤ maxGenerators) × (c ≤ n) × (length r ≡ maxGenerators) × Central c words r
+Inv-loop rows reach n r₀ c₀ r c = (n ≤ maxGenerators) × (c ≤ n) × (length r ≡ maxGenerators) × Central c rows r
 
 abbrev μ-loop : tie.MeasureT-loop
-μ-loop words reach n r₀ c₀ r c = n - c
+μ-loop rows reach n r₀ c₀ r c = n - c
 
 loop-holds : tie.Need-loop-holds Inv-loop μ-loop
-loop-holds c = (search needs, search needs, search needs, central-none _ _)
+loop-holds c = (search needs, search needs, search needs, central-none)
 
 risen-requires : tie.Need-risen-requires Inv-loop μ-loop
 risen-requires c κs =
@@ -38,17 +38,14 @@ loop-less : tie.Need-loop-less Inv-loop μ-loop
 loop-less c = search needs
 
 loop-again : tie.Need-loop-again Inv-loop μ-loop
-loop-again c =
-    let z = c .before .before .before in
-    let l = c .before .before .loop in
-    (search needs, search needs, search needs, central-more (now (z .args .words)) (l .r) (l .c) (c .risen .result) (search needs) (l .inv .3) (c .risen .ensures))
+loop-again c = (search needs, search needs, search needs, central-more (search needs) (c .before .before .loop .inv .3) (c .risen .ensures))
 
 returns : tie.Need-returns Inv-loop μ-loop
 returns c =
     let z = c .before .before in
     let l = c .before .loop in
     let e : l .c ≡ z .args .n = omega arith in
-    subst (λ m. Central m (now (z .args .words)) (l .r)) e (l .inv .3)
+    subst (λ m. Central m (now (z .args .rows)) (l .r)) e (l .inv .3)
 
 pub rises-spec : {M : Type 1} → statement M
 rises-spec =

@@ -14,7 +14,7 @@ use Rattle.commuting.proofs.stays.Tie as tie
 returns : tie.Need-returns
 returns c =
     let z = c .before in
-    stays-zero (z .args .l) (z .args .e) (getD (now (z .args .words)) (pairNumber (z .args .j) (z .args .l)) []) (c .if1 .taken)
+    stays-zero (z .args .l) (z .args .e) (getD (now (z .args .rows)) (pairNumber (z .args .j) (z .args .l)) []) (c .if1 .taken)
 
 word-requires : tie.Need-word-requires
 word-requires c κs = search needs
@@ -30,7 +30,7 @@ returns-2 c =
     let z = c .before .before .before in
     let l = z .args .l in
     c .empty .ensures ∙ ap (λ w. sameForm (l + 1) (toNF (l + 1) w) (trivial (l + 1))) (c .before .word .ensures)
-    ∙ stays-word l (z .args .e) (getD (now (z .args .words)) (pairNumber (z .args .j) l) []) (c .before .before .if1 .left)
+    ∙ stays-word l (z .args .e) (getD (now (z .args .rows)) (pairNumber (z .args .j) l) []) (c .before .before .if1 .left)
 
 pub stays-spec : {M : Type 1} → statement M
 stays-spec = tie.close (tie.spec returns word-requires add-empty empty-requires returns-2)

@@ -17,10 +17,10 @@ use Rattle.consistency.proofs.consistent.Statement.{statement}
 use Rattle.consistency.proofs.consistent.Tie as tie
 
 abbrev Inv-loop : tie.InvT-loop
-Inv-loop primes words n reach rise i₀ i = (i ≤ n) × TestAnswer n primes words (λ P. allBelow i (levelTest P)) true
+Inv-loop primes rows n reach rise i₀ i = (i ≤ n) × TestAnswer n primes rows (λ P. allBelow i (levelTest P)) true
 
 abbrev μ-loop : tie.MeasureT-loop
-μ-loop primes words n reach rise i₀ i = n - i
+μ-loop primes rows n reach rise i₀ i = n - i
 
 reaches-requires : tie.Need-reaches-requires Inv-loop μ-loop
 reaches-requires c κs = c .pre .few
@@ -29,29 +29,21 @@ rises-requires : tie.Need-rises-requires Inv-loop μ-loop
 rises-requires c κs = (c .before .before .pre .few, c .before .reaches .ensures)
 
 loop-holds : tie.Need-loop-holds Inv-loop μ-loop
-loop-holds c = (search needs, answer-none _ _ _)
+loop-holds c = (search needs, answer-none)
 
 level-passes-requires : tie.Need-level-passes-requires Inv-loop μ-loop
 level-passes-requires c κs =
-    let z = c .before .before .before .before .before .before .before in
-    let ps = now (z .args .primes) in
-    let ws = now (z .args .words) in
-    let n = z .args .n in
-    let i = c .before .before .before .loop .i in (
-      ready-below (suc i) n ps ws (search needs) (z .pre),
-      quiet-below (suc i) n ws (c .before .before .before .before .before .before .reaches .result) (search needs) (c .before .before .before .before .before .before .reaches .ensures),
-      central-below (suc i) n ws (c .before .before .before .before .rises .result) (search needs) (c .before .before .before .before .rises .ensures),
+    let r = c .before .before .before .before in
+    let z = r .before .before .before in
+    let few : suc (c .before .before .before .loop .i) ≤ z .args .n = search needs in (
+      record { ranged = ready-below few (z .pre); quiet = quiet-below few (r .before .before .reaches .ensures) },
+      central-below few (r .rises .ensures),
     )
 
 returns : tie.Need-returns Inv-loop μ-loop
 returns c =
-    let z = c .before .before .before .before .before .before .before .before .before in
-    let ps = now (z .args .primes) in
-    let ws = now (z .args .words) in
-    let n = z .args .n in
     let l = c .before .before .before .before .before .loop in
-    let t = c .before .level-passes in
-    decides n ps ws _ (answer-fails n ps ws (l .i) (t .result) (search needs) (l .inv .1) (t .ensures) (not-true _ (c .if1 .taken)))
+    decides (answer-fails (search needs) (l .inv .1) (c .before .level-passes .ensures) (not-true _ (c .if1 .taken)))
 
 add-i : tie.Need-add-i Inv-loop μ-loop
 add-i c = search needs
@@ -61,23 +53,15 @@ loop-less c = search needs
 
 loop-again : tie.Need-loop-again Inv-loop μ-loop
 loop-again c =
-    let z = c .before .before .before .before .before .before .before .before .before in
-    let ps = now (z .args .primes) in
-    let ws = now (z .args .words) in
-    let n = z .args .n in
     let l = c .before .before .before .before .before .loop in
-    let t = c .before .level-passes in
-    (search needs, answer-more n ps ws (l .i) (t .result) (search needs) (l .inv .1) (t .ensures) (not-false _ (c .if1 .left)))
+    (search needs, answer-more (search needs) (l .inv .1) (c .before .level-passes .ensures) (not-false _ (c .if1 .left)))
 
 returns-2 : tie.Need-returns-2 Inv-loop μ-loop
 returns-2 c =
     let z = c .before .before .before .before .before in
-    let ps = now (z .args .primes) in
-    let ws = now (z .args .words) in
-    let n = z .args .n in
     let l = c .before .loop in
-    let e : l .i ≡ n = omega arith in
-    decides n ps ws true (subst (λ i. TestAnswer n ps ws (λ P. allBelow i (levelTest P)) true) e (l .inv .1))
+    let e : l .i ≡ z .args .n = omega arith in
+    decides (subst (λ i. TestAnswer (z .args .n) (now (z .args .primes)) (now (z .args .rows)) (λ P. allBelow i (levelTest P)) true) e (l .inv .1))
 
 pub consistent-spec : {M : Type 1} → statement M
 consistent-spec =

@@ -1,25 +1,24 @@
 -- `images` meets its contract: the first k rows are images.
 use mathlib.Core.Path.{_≡_, refl, _∙_, subst}
-use Prim.Native.Nat.{suc, _-_, _≤_}
+use Prim.Native.Nat.{_-_, _≤_}
 use native.Mathlib.Omega.{arith}
 use lib.ListN.{length, length-set}
 use denote.Ref.{now}
 use Rattle.definitions.specs.Presentation.{maxGenerators}
 use Rattle.consistency.specs.Images.{Images}
-use Rattle.rows.proofs.Forms.{ready-below, small-generator}
-use Rattle.consistency.proofs.Values.{images-none, images-more}
+use Rattle.consistency.proofs.Values.{images-none, images-more, generator-small}
 use borrow.Author.Needs.{needs}
 use Rattle.consistency.proofs.images.Statement.{statement}
 use Rattle.consistency.proofs.images.Tie as tie
 
 abbrev Inv-loop : tie.InvT-loop
-Inv-loop primes words reach i h₀ k₀ h k = (k ≤ i) × (length h ≡ maxGenerators) × Images i primes words h k
+Inv-loop primes rows reach i h₀ k₀ h k = (k ≤ i) × (length h ≡ maxGenerators) × Images i primes rows h k
 
 abbrev μ-loop : tie.MeasureT-loop
-μ-loop primes words reach i h₀ k₀ h k = i - k
+μ-loop primes rows reach i h₀ k₀ h k = i - k
 
 loop-holds : tie.Need-loop-holds Inv-loop μ-loop
-loop-holds c = (search needs, refl, images-none (c .args .i) (now (c .args .primes)) (now (c .args .words)) _)
+loop-holds c = (search needs, refl, images-none)
 
 generator-requires : tie.Need-generator-requires Inv-loop μ-loop
 generator-requires c κs = search needs
@@ -27,10 +26,7 @@ generator-requires c κs = search needs
 conjugate-requires : tie.Need-conjugate-requires Inv-loop μ-loop
 conjugate-requires c κs =
     let z = c .before .before .before in
-    let ps = now (z .args .primes) in
-    let ws = now (z .args .words) in
-    let i = z .args .i in
-    (z .pre .0, z .pre .1, omega arith, small-generator (c .before .before .loop .k) i ps ws (c .generator .result) (ready-below i (suc i) ps ws (omega arith) (z .pre .0)) (c .generator .ensures))
+    record { prepared = z .pre; level = omega arith; small = generator-small (z .pre) (c .generator .ensures) }
 
 mul-h : tie.Need-mul-h Inv-loop μ-loop
 mul-h c = search needs
@@ -46,23 +42,18 @@ loop-less c = search needs
 
 loop-again : tie.Need-loop-again Inv-loop μ-loop
 loop-again c =
-    let z = c .before .before .before .before in
-    let ps = now (z .args .primes) in
-    let ws = now (z .args .words) in
     let l = c .before .before .before .loop in (
       search needs,
       length-set (l .h) (l .k) (c .conjugate .result) ∙ l .inv .1,
-      images-more (z .args .i) ps ws (l .h) (l .k) (c .before .generator .result) (c .conjugate .result) (omega (arith, l .inv .1, z .pre .0 .few)) (l .inv .2) (c .before .generator .ensures) (c .conjugate .ensures),
+      images-more (search needs) (l .inv .2) (c .before .generator .ensures) (c .conjugate .ensures),
     )
 
 returns : tie.Need-returns Inv-loop μ-loop
 returns c =
     let z = c .before .before in
-    let ps = now (z .args .primes) in
-    let ws = now (z .args .words) in
     let l = c .before .loop in
     let e : l .k ≡ z .args .i = omega arith in
-    subst (Images (z .args .i) ps ws (l .h)) e (l .inv .2)
+    subst (Images (z .args .i) (now (z .args .primes)) (now (z .args .rows)) (l .h)) e (l .inv .2)
 
 pub images-spec : {M : Type 1} → statement M
 images-spec =

@@ -1,6 +1,5 @@
 -- `is_inner_on` meets its contract: the generator is central, or the equation is tested.
 use native.Mathlib.Omega.{arith}
-use denote.Ref.{now}
 use Rattle.consistency.proofs.Answers.{inner-central}
 use borrow.Author.Needs.{needs}
 use Rattle.consistency.proofs.is_inner_on.Statement.{statement}
@@ -15,10 +14,7 @@ element-copy-out-if1 c = search needs
 returns : tie.Need-returns
 returns c =
     let z = c .before .before in
-    let ps = now (z .args .primes) in
-    let ws = now (z .args .words) in
-    let i = z .args .i in
-    inner-central i ps ws (z .args .k) (z .pre .3) (z .pre .2 .at (z .args .k) (omega (arith, z .pre .3)) .at i (c .if1 .taken))
+    inner-central (z .pre .2) (z .pre .1 .at (z .args .k) (omega (arith, z .pre .2)) .at (z .args .i) (c .if1 .taken))
 
 is-inner-at-requires : tie.Need-is-inner-at-requires
 is-inner-at-requires c κs = search needs

@@ -1,9 +1,6 @@
 -- `keeps_commutator` meets its contract: both sides of the commutator relation, over the images.
-use Prim.Native.Nat.{suc}
 use native.Mathlib.Omega.{arith}
-use denote.Ref.{now}
-use Rattle.commuting.proofs.Skips.{quiet-below}
-use Rattle.rows.proofs.Forms.{ready-below}
+use Rattle.consistency.proofs.Values.{prepared-lower}
 use Rattle.consistency.proofs.Answers.{commutator-kept}
 use borrow.Author.Needs.{needs}
 use Rattle.consistency.proofs.keeps_commutator.Statement.{statement}
@@ -24,11 +21,8 @@ element-copy-out-b c = search needs
 product-requires : tie.Need-product-requires
 product-requires c κs =
     let z = c .before .before in
-    let ps = now (z .args .primes) in
-    let ws = now (z .args .words) in
-    let i = z .args .i in
-    let r = ready-below i (suc i) ps ws (omega arith) (z .pre .0) in
-    (r, quiet-below i (suc i) ws (now (z .args .reach)) (omega arith) (z .pre .1), z .pre .2 .small (z .args .k) (omega (arith, z .pre .3, z .pre .4)), z .pre .2 .small (z .args .j) (z .pre .4))
+    let h = z .pre .0 .images in
+    record { prepared = prepared-lower (z .pre .0 .prepared); left = h .small (z .args .k) (omega (arith, z .pre .1, z .pre .2)); right = h .small (z .args .j) (z .pre .2) }
 
 word-requires : tie.Need-word-requires
 word-requires c κs = search needs
@@ -42,32 +36,24 @@ value-requires c κs = search needs
 product-requires-2 : tie.Need-product-requires-2
 product-requires-2 c κs =
     let z = c .before .before .before .before .before in
-    let ps = now (z .args .primes) in
-    let ws = now (z .args .words) in
-    let i = z .args .i in
-    let r = ready-below i (suc i) ps ws (omega arith) (z .pre .0) in
-    (r, quiet-below i (suc i) ws (now (z .args .reach)) (omega arith) (z .pre .1), z .pre .2 .small (z .args .k) (omega (arith, z .pre .3, z .pre .4)), c .value .ensures .small)
+    let low = z .pre .0 .images .small (z .args .k) (omega (arith, z .pre .1, z .pre .2)) in
+    record { prepared = prepared-lower (z .pre .0 .prepared); left = low; right = c .value .ensures .small }
 
 product-requires-3 : tie.Need-product-requires-3
 product-requires-3 c κs =
     let z = c .before .before .before .before .before .before in
-    let ps = now (z .args .primes) in
-    let ws = now (z .args .words) in
-    let i = z .args .i in
-    let r = ready-below i (suc i) ps ws (omega arith) (z .pre .0) in
-    (r, quiet-below i (suc i) ws (now (z .args .reach)) (omega arith) (z .pre .1), z .pre .2 .small (z .args .j) (z .pre .4), c .product2 .ensures .small)
+    record { prepared = prepared-lower (z .pre .0 .prepared); left = z .pre .0 .images .small (z .args .j) (z .pre .2); right = c .product2 .ensures .small }
 
 same-requires : tie.Need-same-requires
-same-requires c κs = search needs
+same-requires c κs = omega (arith, c .before .before .before .before .before .before .before .pre .0 .prepared .ranged .few)
 
 returns : tie.Need-returns
 returns c =
-    let z = c .before .before .before .before .before .before .before .before in
-    let ps = now (z .args .primes) in
-    let ws = now (z .args .words) in
-    commutator-kept (z .args .i) ps ws (now (z .args .h)) (z .pre .2) (z .args .j) (z .args .k)
-    (c .before .before .before .before .before .product .result) (c .before .before .before .before .word .result) (c .before .before .before .value .result) (c .before .before .product2 .result) (c .before .product3 .result) (c .same .result) (z .pre .3) (z .pre .4)
-    (c .before .before .before .before .before .product .ensures) (c .before .before .before .before .word .ensures) (c .before .before .before .value .ensures) (c .before .before .product2 .ensures) (c .before .product3 .ensures) (c .same .ensures)
+    let v = c .before .before .before in
+    let l = v .before .before in
+    let z = l .before .before .before in
+    commutator-kept (z .pre .0 .images) (z .pre .1) (z .pre .2) (l .product .ensures) (v .before .word .ensures) (v .value .ensures)
+    (c .before .before .product2 .ensures) (c .before .product3 .ensures) (c .same .ensures)
 
 pub keeps-commutator-spec : {M : Type 1} → statement M
 keeps-commutator-spec =

@@ -1,36 +1,31 @@
 -- `keeps_commutators` meets its contract: every relation passed so far holds.
-use mathlib.Core.Path.{_≡_, subst}
-use mathlib.Core.Bool.{true, false}
+use mathlib.Core.Path.{_≡_}
 use Prim.Native.Nat.{_-_, _≤_}
 use native.Mathlib.Omega.{arith}
-use denote.Ref.{now}
 use borrow.Author.Tests.{not-true, not-false}
 use Rattle.definitions.specs.Lists.{allBelow}
-use Rattle.consistency.specs.Answers.{Settles, commutatorKept}
-use Rattle.consistency.proofs.Answers.{settles-none, settles-more, settles-fails, commutators-all}
+use Rattle.consistency.specs.Answers.{commutatorKept}
+use Rattle.consistency.proofs.Answers.{SettledBelow, settled-none, settled-more, settled-all, settled-fails, commutators-all}
 use borrow.Author.Needs.{needs}
 use Rattle.consistency.proofs.keeps_commutators.Statement.{statement}
 use Rattle.consistency.proofs.keeps_commutators.Tie as tie
 
 abbrev Inv-loop : tie.InvT-loop
-Inv-loop primes words reach rise h i j₀ j = (j ≤ i) × Settles i primes words (λ P. allBelow j (λ j. allBelow j (commutatorKept P i j))) true
+Inv-loop primes rows reach rise h i j₀ j = (j ≤ i) × SettledBelow i primes rows (λ P j. allBelow j (commutatorKept P i j)) j
 
 abbrev μ-loop : tie.MeasureT-loop
-μ-loop primes words reach rise h i j₀ j = i - j
+μ-loop primes rows reach rise h i j₀ j = i - j
 
 loop-holds : tie.Need-loop-holds Inv-loop μ-loop
-loop-holds c = (search needs, settles-none _ _ _ _)
+loop-holds c = (search needs, settled-none)
 
 keeps-commutators-of-requires : tie.Need-keeps-commutators-of-requires Inv-loop μ-loop
 keeps-commutators-of-requires c κs = search needs
 
 returns : tie.Need-returns Inv-loop μ-loop
 returns c =
-    let z = c .before .before .before .before in
-    let ps = now (z .args .primes) in
-    let ws = now (z .args .words) in
     let l = c .before .before .before .loop in
-    commutators-all (z .args .i) ps ws false (settles-fails (z .args .i) ps ws (λ P j. allBelow j (commutatorKept P (z .args .i) j)) (l .j) (z .args .i) (c .before .keeps-commutators-of .result) (search needs) (not-true _ (c .if1 .taken)) (c .before .keeps-commutators-of .ensures))
+    commutators-all (settled-fails (l .inv .1) (search needs) (c .before .keeps-commutators-of .ensures) (not-true _ (c .if1 .taken)))
 
 add-j : tie.Need-add-j Inv-loop μ-loop
 add-j c = search needs
@@ -39,21 +34,13 @@ loop-less : tie.Need-loop-less Inv-loop μ-loop
 loop-less c = search needs
 
 loop-again : tie.Need-loop-again Inv-loop μ-loop
-loop-again c =
-    let z = c .before .before .before .before in
-    let ps = now (z .args .primes) in
-    let ws = now (z .args .words) in
-    let l = c .before .before .before .loop in
-    (search needs, settles-more (z .args .i) ps ws (λ P j. allBelow j (commutatorKept P (z .args .i) j)) (l .j) (c .before .keeps-commutators-of .result) (not-false _ (c .if1 .left)) (l .inv .1) (c .before .keeps-commutators-of .ensures))
+loop-again c = (search needs, settled-more (c .before .before .before .loop .inv .1) (c .before .keeps-commutators-of .ensures) (not-false _ (c .if1 .left)))
 
 returns-2 : tie.Need-returns-2 Inv-loop μ-loop
 returns-2 c =
-    let z = c .before .before in
-    let ps = now (z .args .primes) in
-    let ws = now (z .args .words) in
     let l = c .before .loop in
-    let e : l .j ≡ z .args .i = omega arith in
-    commutators-all (z .args .i) ps ws true (subst (λ j. Settles (z .args .i) ps ws (λ P. allBelow j (λ j. allBelow j (commutatorKept P (z .args .i) j))) true) e (l .inv .1))
+    let e : l .j ≡ c .before .before .args .i = omega arith in
+    commutators-all (settled-all (l .inv .1) e)
 
 pub keeps-commutators-spec : {M : Type 1} → statement M
 keeps-commutators-spec =

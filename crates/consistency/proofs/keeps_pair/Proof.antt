@@ -1,6 +1,6 @@
 -- `keeps_pair` meets its contract: one of the two is central, or the relation is tested.
+use Prim.Native.Nat.{_<_}
 use native.Mathlib.Omega.{arith}
-use denote.Ref.{now}
 use Rattle.consistency.proofs.Answers.{commutator-low, commutator-high}
 use borrow.Author.Needs.{needs}
 use Rattle.consistency.proofs.keeps_pair.Statement.{statement}
@@ -15,10 +15,9 @@ element-copy-out-if1 c = search needs
 returns : tie.Need-returns
 returns c =
     let z = c .before .before in
-    let ps = now (z .args .primes) in
-    let ws = now (z .args .words) in
-    let i = z .args .i in
-    commutator-low i ps ws (z .args .k) (omega (arith, z .pre .1 .1, z .pre .1 .2)) (z .pre .0 .2 .at (z .args .k) (omega (arith, z .pre .1 .1, z .pre .1 .2)) .at i (c .if1 .taken)) (z .args .j) (z .pre .1 .1) (z .pre .1 .2)
+    let l = z .args .k in
+    let low : l < z .args .i = omega (arith, z .pre .2, z .pre .3) in
+    commutator-low low (z .pre .1 .at l (omega arith) .at (z .args .i) (c .if1 .taken)) (z .pre .2) (z .pre .3)
 
 mul-if2 : tie.Need-mul-if2
 mul-if2 c = search needs
@@ -29,10 +28,7 @@ element-copy-out-if2 c = search needs
 returns-2 : tie.Need-returns-2
 returns-2 c =
     let z = c .before .before .before .before in
-    let ps = now (z .args .primes) in
-    let ws = now (z .args .words) in
-    let i = z .args .i in
-    commutator-high i ps ws (z .args .j) (z .pre .1 .2) (z .pre .0 .2 .at (z .args .j) (omega (arith, z .pre .1 .2)) .at i (c .if2 .taken)) (z .args .k) (z .pre .1 .1)
+    commutator-high (z .pre .3) (z .pre .1 .at (z .args .j) (omega (arith, z .pre .3)) .at (z .args .i) (c .if2 .taken)) (z .pre .2)
 
 keeps-commutator-requires : tie.Need-keeps-commutator-requires
 keeps-commutator-requires c κs = search needs

@@ -1,9 +1,5 @@
 -- `keeps_power` meets its contract: both sides of the power relation, over the images.
-use Prim.Native.Nat.{suc}
-use native.Mathlib.Omega.{arith}
-use denote.Ref.{now}
-use Rattle.commuting.proofs.Skips.{quiet-below}
-use Rattle.rows.proofs.Forms.{ready-below}
+use Rattle.consistency.proofs.Values.{prepared-lower}
 use Rattle.consistency.proofs.Answers.{power-kept}
 use borrow.Author.Needs.{needs}
 use Rattle.consistency.proofs.keeps_power.Statement.{statement}
@@ -22,12 +18,7 @@ element-copy-out-p : tie.Need-element-copy-out-p
 element-copy-out-p c = search needs
 
 power-requires : tie.Need-power-requires
-power-requires c κs =
-    let z = c .before .before in
-    let ps = now (z .args .primes) in
-    let ws = now (z .args .words) in
-    let i = z .args .i in
-    (ready-below i (suc i) ps ws (omega arith) (z .pre .0), quiet-below i (suc i) ws (now (z .args .reach)) (omega arith) (z .pre .1), z .pre .2 .small (z .args .k) (z .pre .3))
+power-requires c κs = let z = c .before .before in (prepared-lower (z .pre .0 .prepared), z .pre .0 .images .small (z .args .k) (z .pre .1))
 
 word-requires : tie.Need-word-requires
 word-requires c κs = search needs
@@ -40,11 +31,9 @@ same-requires c κs = search needs
 
 returns : tie.Need-returns
 returns c =
-    let z = c .before .before .before .before .before .before in
-    let ps = now (z .args .primes) in
-    let ws = now (z .args .words) in
-    power-kept (z .args .i) ps ws (now (z .args .h)) (z .pre .2) (z .args .k) (c .before .before .before .power .result) (c .before .before .word .result) (c .before .value .result) (c .same .result) (z .pre .3)
-    (c .before .before .before .power .ensures) (c .before .before .word .ensures) (c .before .value .ensures) (c .same .ensures)
+    let l = c .before .before .before in
+    let z = l .before .before .before in
+    power-kept (z .pre .0 .images) (z .pre .1) (l .power .ensures) (c .before .before .word .ensures) (c .before .value .ensures) (c .same .ensures)
 
 pub keeps-power-spec : {M : Type 1} → statement M
 keeps-power-spec =

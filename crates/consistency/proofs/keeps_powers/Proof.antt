@@ -1,36 +1,30 @@
 -- `keeps_powers` meets its contract: every relation passed so far holds.
-use mathlib.Core.Path.{_≡_, subst}
-use mathlib.Core.Bool.{true, false}
+use mathlib.Core.Path.{_≡_}
 use Prim.Native.Nat.{_-_, _≤_}
 use native.Mathlib.Omega.{arith}
-use denote.Ref.{now}
 use borrow.Author.Tests.{not-true, not-false}
-use Rattle.definitions.specs.Lists.{allBelow}
-use Rattle.consistency.specs.Answers.{Settles, powerKept}
-use Rattle.consistency.proofs.Answers.{settles-none, settles-more, settles-fails, powers-all}
+use Rattle.consistency.specs.Answers.{powerKept}
+use Rattle.consistency.proofs.Answers.{SettledBelow, settled-none, settled-more, settled-all, settled-fails, powers-all}
 use borrow.Author.Needs.{needs}
 use Rattle.consistency.proofs.keeps_powers.Statement.{statement}
 use Rattle.consistency.proofs.keeps_powers.Tie as tie
 
 abbrev Inv-loop : tie.InvT-loop
-Inv-loop primes words reach h i k₀ k = (k ≤ i) × Settles i primes words (λ P. allBelow k (powerKept P i)) true
+Inv-loop primes rows reach h i k₀ k = (k ≤ i) × SettledBelow i primes rows (λ P. powerKept P i) k
 
 abbrev μ-loop : tie.MeasureT-loop
-μ-loop primes words reach h i k₀ k = i - k
+μ-loop primes rows reach h i k₀ k = i - k
 
 loop-holds : tie.Need-loop-holds Inv-loop μ-loop
-loop-holds c = (search needs, settles-none _ _ _ _)
+loop-holds c = (search needs, settled-none)
 
 keeps-power-requires : tie.Need-keeps-power-requires Inv-loop μ-loop
 keeps-power-requires c κs = search needs
 
 returns : tie.Need-returns Inv-loop μ-loop
 returns c =
-    let z = c .before .before .before .before in
-    let ps = now (z .args .primes) in
-    let ws = now (z .args .words) in
     let l = c .before .before .before .loop in
-    powers-all (z .args .i) ps ws false (settles-fails (z .args .i) ps ws (λ P. powerKept P (z .args .i)) (l .k) (z .args .i) (c .before .keeps-power .result) (search needs) (not-true _ (c .if1 .taken)) (c .before .keeps-power .ensures))
+    powers-all (settled-fails (l .inv .1) (search needs) (c .before .keeps-power .ensures) (not-true _ (c .if1 .taken)))
 
 add-k : tie.Need-add-k Inv-loop μ-loop
 add-k c = search needs
@@ -39,21 +33,13 @@ loop-less : tie.Need-loop-less Inv-loop μ-loop
 loop-less c = search needs
 
 loop-again : tie.Need-loop-again Inv-loop μ-loop
-loop-again c =
-    let z = c .before .before .before .before in
-    let ps = now (z .args .primes) in
-    let ws = now (z .args .words) in
-    let l = c .before .before .before .loop in
-    (search needs, settles-more (z .args .i) ps ws (λ P. powerKept P (z .args .i)) (l .k) (c .before .keeps-power .result) (not-false _ (c .if1 .left)) (l .inv .1) (c .before .keeps-power .ensures))
+loop-again c = (search needs, settled-more (c .before .before .before .loop .inv .1) (c .before .keeps-power .ensures) (not-false _ (c .if1 .left)))
 
 returns-2 : tie.Need-returns-2 Inv-loop μ-loop
 returns-2 c =
-    let z = c .before .before in
-    let ps = now (z .args .primes) in
-    let ws = now (z .args .words) in
     let l = c .before .loop in
-    let e : l .k ≡ z .args .i = omega arith in
-    powers-all (z .args .i) ps ws true (subst (λ k. Settles (z .args .i) ps ws (λ P. allBelow k (powerKept P (z .args .i))) true) e (l .inv .1))
+    let e : l .k ≡ c .before .before .args .i = omega arith in
+    powers-all (settled-all (l .inv .1) e)
 
 pub keeps-powers-spec : {M : Type 1} → statement M
 keeps-powers-spec =

@@ -1,4 +1,4 @@
--- The order, then the words.
+-- The order, then the rows.
 use mathlib.Core.Path.{refl, sym, _∙_}
 use native.Mathlib.Omega.{arith}
 use borrow.Author.Tests.{not-true, not-false}
@@ -19,8 +19,8 @@ refused-requires c κs = search needs
 
 returns : tie.Need-returns
 returns c =
-    let f = c .before .before .order-fits in
-    concluded-large (c .before .before .before .before .primes-of .ensures) (sym (f .ensures) ∙ not-true (f .result) (c .before .if1 .taken)) (c .refused .ensures)
+    let f = c .before .before in
+    concluded-large (f .before .before .primes-of .ensures) (sym (f .order-fits .ensures) ∙ not-true _ (c .before .if1 .taken)) (c .refused .ensures)
 
 well-requires : tie.Need-well-requires
 well-requires c κs = search needs
@@ -30,22 +30,20 @@ refused-requires-2 c κs = search needs
 
 returns-2 : tie.Need-returns-2
 returns-2 c =
-    let primes-of = c .before .before .before .before .before .before .before .before .before .primes-of in
-    let if1 = c .before .before .before .before .before .before .if1 in
-    let f = c .before .before .before .before .before .before .before .order-fits in
-    let w = c .before .before .well in
-    concluded-misused (primes-of .ensures) (sym (f .ensures) ∙ not-false (f .result) (if1 .left)) (sym (w .ensures) ∙ not-true (w .result) (c .before .if2 .taken)) (c .refused2 .ensures)
+    let w = c .before .before in
+    let o = w .before .before .before .before in
+    let fits = sym (o .before .order-fits .ensures) ∙ not-false _ (o .if1 .left) in
+    concluded-misused (o .before .before .before .primes-of .ensures) fits (sym (w .well .ensures) ∙ not-true _ (c .before .if2 .taken)) (c .refused2 .ensures)
 
 make-requires : tie.Need-make-requires
 make-requires c κs = search needs
 
 returns-3 : tie.Need-returns-3
 returns-3 c =
-    let primes-of = c .before .before .before .before .before .before .before .before .before .primes-of in
-    let if1 = c .before .before .before .before .before .before .if1 in
-    let f = c .before .before .before .before .before .before .before .order-fits in
-    let w = c .before .before .well in
-    concluded-well (primes-of .ensures) (sym (f .ensures) ∙ not-false (f .result) (if1 .left)) (sym (w .ensures) ∙ not-false (w .result) (c .before .if2 .left)) refl (c .make .ensures)
+    let w = c .before .before in
+    let o = w .before .before .before .before in
+    let fits = sym (o .before .order-fits .ensures) ∙ not-false _ (o .if1 .left) in
+    concluded-well (o .before .before .before .primes-of .ensures) fits (sym (w .well .ensures) ∙ not-false _ (c .before .if2 .left)) refl (c .make .ensures)
 
 pub conclude-spec : {M : Type 1} → statement M
 conclude-spec =

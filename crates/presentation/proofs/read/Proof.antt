@@ -33,62 +33,51 @@ refused-requires-2 c κs = search needs
 
 returns-2 : tie.Need-returns-2
 returns-2 c =
-    let names = c .before .before .before .before .before .before .before .before .names in
-    let n = c .before .before .before .before .before .before .n in
-    let m = names .ensures .stands _ _ (n .given .1) in
-    let l = c .before .before .read-lines in
-    refused-form (unlined m (l .ensures .fails (not-true (l .result .ok) (c .before .if1 .taken)))) (c .refused2 .ensures)
+    let r = c .before .before in
+    let n = r .before .before .before .before in
+    let m = n .before .before .names .ensures .stands _ _ (n .n .given .1) in
+    refused-form (unlined m (r .read-lines .ensures .fails (not-true _ (c .before .if1 .taken)))) (c .refused2 .ensures)
 
 refused-requires-3 : tie.Need-refused-requires-3
 refused-requires-3 c κs = search needs
 
 returns-3 : tie.Need-returns-3
 returns-3 c =
-    let names = c .before .before .before .before .before .before .before .before .before .names in
-    let n = c .before .before .before .before .before .before .before .n in
-    let if1 = c .before .before .if1 in
-    let m = names .ensures .stands _ _ (n .given .1) in
-    let l = c .before .before .before .read-lines in
-    let a = l .ensures .stands (not-false (l .result .ok) (if1 .left)) in
-    not-prime m a (not-true (l .result .primes) (c .before .if2 .taken)) (c .refused3 .ensures)
+    let r = c .before .before .before in
+    let n = r .before .before .before .before in
+    let m = n .before .before .names .ensures .stands _ _ (n .n .given .1) in
+    let a = r .read-lines .ensures .stands (not-false _ (c .before .before .if1 .left)) in
+    not-prime m a (not-true _ (c .before .if2 .taken)) (c .refused3 .ensures)
 
 refused-requires-4 : tie.Need-refused-requires-4
 refused-requires-4 c κs = search needs
 
 returns-4 : tie.Need-returns-4
 returns-4 c =
-    let names = c .before .before .before .before .before .before .before .before .before .before .names in
-    let n = c .before .before .before .before .before .before .before .before .n in
-    let if1 = c .before .before .before .if1 in
-    let if2 = c .before .before .if2 in
-    let m = names .ensures .stands _ _ (n .given .1) in
-    let l = c .before .before .before .before .read-lines in
-    let a = l .ensures .stands (not-false (l .result .ok) (if1 .left)) in
-    too-many m a (not-false (l .result .primes) (if2 .left)) (omega arith) (c .refused4 .ensures)
+    let r = c .before .before .before .before in
+    let n = r .before .before .before .before in
+    let m = n .before .before .names .ensures .stands _ _ (n .n .given .1) in
+    let a = r .read-lines .ensures .stands (not-false _ (c .before .before .before .if1 .left)) in
+    too-many m a (not-false _ (c .before .before .if2 .left)) (omega arith) (c .refused4 .ensures)
 
 cast-count : tie.Need-cast-count
 cast-count c = search needs
 
 conclude-requires : tie.Need-conclude-requires
 conclude-requires c κs =
-    let names = c .before .before .before .before .before .before .before .before .before .names in
-    let n = c .before .before .before .before .before .before .before .n in
-    let if1 = c .before .before .if1 in
-    let m = names .ensures .stands _ _ (n .given .1) in
-    let l = c .before .before .before .read-lines in
-    let a = l .ensures .stands (not-false (l .result .ok) (if1 .left)) in
-    (omega arith, primes-positive m a (not-false (l .result .primes) (c .before .if2 .left)) (omega arith))
+    let r = c .before .before .before in
+    let n = r .before .before .before .before in
+    let m = n .before .before .names .ensures .stands _ _ (n .n .given .1) in
+    let a = r .read-lines .ensures .stands (not-false _ (c .before .before .if1 .left)) in
+    (omega arith, primes-positive m a (not-false _ (c .before .if2 .left)) (omega arith))
 
 returns-5 : tie.Need-returns-5
 returns-5 c =
-    let names = c .before .before .before .before .before .before .before .before .before .before .names in
-    let n = c .before .before .before .before .before .before .before .before .n in
-    let if1 = c .before .before .before .if1 in
-    let if2 = c .before .before .if2 in
-    let m = names .ensures .stands _ _ (n .given .1) in
-    let l = c .before .before .before .before .read-lines in
-    let a = l .ensures .stands (not-false (l .result .ok) (if1 .left)) in
-    concluded m a (not-false (l .result .primes) (if2 .left)) (omega arith) (c .conclude .ensures)
+    let r = c .before .before .before .before in
+    let n = r .before .before .before .before in
+    let m = n .before .before .names .ensures .stands _ _ (n .n .given .1) in
+    let a = r .read-lines .ensures .stands (not-false _ (c .before .before .before .if1 .left)) in
+    concluded m a (not-false _ (c .before .before .if2 .left)) (omega arith) (c .conclude .ensures)
 
 pub read-spec : {M : Type 1} → statement M
 read-spec =

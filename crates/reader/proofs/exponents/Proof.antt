@@ -48,12 +48,12 @@ loop-less c = omega arith
 
 loop-again : tie.Need-loop-again Inv-loop μ-loop
 loop-again c =
-    let loop = c .before .before .before .before .before .before .loop in
-    let value-behind = c .before .before .before .before .value-behind in
-    let e = c .before .before .e in
-    let h = loop .inv in
-    let v = value-behind .ensures .stands _ _ (e .given .1) in
-    ⊎-elim (λ w. going-as (w .1) (going-more h (omega arith) (omega (arith, w .0)) v)) (λ w. going-as (w .1) (going-past h (omega arith) (omega (arith, w .0)) v)) (c .if1 .came)
+    let e = c .before .before in
+    let k = e .before .before in
+    let h = k .before .before .loop .inv in
+    let v = k .value-behind .ensures .stands _ _ (e .e .given .1) in
+    ⊎-elim (λ w. going-as (w .1) (going-more h (omega arith) (omega (arith, w .0)) v))
+    (λ w. going-as (w .1) (going-past h (omega arith) (omega (arith, w .0)) v)) (c .if1 .came)
 
 byte-at-requires : tie.Need-byte-at-requires Inv-loop μ-loop
 byte-at-requires c κs = tt

@@ -18,9 +18,7 @@ enum-told : tie.Need-enum-told
 enum-told c = search needs
 
 returns : tie.Need-returns
-returns c =
-    let a = c .before .before .before .before .args in
-    head-none (a .j) (a .i) (c .before .before .value .ensures .fails (c .enum-told .given .1)) (c .before .before .before .before .pre .0)
+returns c = head-none _ _ (c .before .before .value .ensures .fails (c .enum-told .given .1)) (c .before .before .before .before .pre .0)
 
 add-if1 : tie.Need-add-if1
 unfolding largest
@@ -28,10 +26,8 @@ add-if1 c = omega arith
 
 returns-2 : tie.Need-returns-2
 returns-2 c =
-    let value = c .before .before .before .before .value in
-    let a-2 = c .before .before .a in
-    let a = c .before .before .before .before .before .before .args in
-    head-other (a .j) (a .i) (value .ensures .stands _ _ (a-2 .given .1)) (λ q. c .if1 .taken (q ∙ sym (add-one (a .j))))
+    let a = c .before .before in
+    head-other _ _ (a .before .before .value .ensures .stands _ _ (a .a .given .1)) (λ q. c .if1 .taken (q ∙ sym (add-one _)))
 
 value-behind-requires : tie.Need-value-behind-requires
 value-behind-requires c κs = search needs
@@ -44,12 +40,10 @@ enum-told-2 c = search needs
 
 returns-3 : tie.Need-returns-3
 returns-3 c =
-    let pre = c .before .before .before .before .before .before .before .before .before .pre in
-    let value = c .before .before .before .before .before .before .before .value in
-    let a-2 = c .before .before .before .before .before .a in
-    let value-behind = c .before .before .value-behind in
-    let a = c .before .before .before .before .before .before .before .before .before .args in
-    head-none-2 (a .j) (a .i) (value .ensures .stands _ _ (a-2 .given .1)) (value-behind .ensures .fails (c .enum-told2 .given .1)) (omega (arith, pre))
+    let k = c .before .before in
+    let a = k .before .before .before in
+    let v = a .before .before in
+    head-none-2 _ _ (v .value .ensures .stands _ _ (a .a .given .1)) (k .value-behind .ensures .fails (c .enum-told2 .given .1)) (omega (arith, v .before .before .pre))
 
 add-if2 : tie.Need-add-if2
 unfolding largest
@@ -57,24 +51,22 @@ add-if2 c = search needs
 
 returns-4 : tie.Need-returns-4
 returns-4 c =
-    let value = c .before .before .before .before .before .before .before .before .before .value in
-    let a-2 = c .before .before .before .before .before .before .before .a in
-    let value-behind = c .before .before .before .before .value-behind in
-    let b = c .before .before .b in
-    let a = c .before .before .before .before .before .before .before .before .before .before .before .args in
-    head-other-2 (a .j) (a .i) (value .ensures .stands _ _ (a-2 .given .1)) (value-behind .ensures .stands _ _ (b .given .1)) (λ q. c .if2 .taken (q ∙ sym (add-one (a .i))))
+    let b = c .before .before in
+    let k = b .before .before in
+    let a = k .before .before .before in
+    head-other-2 _ _ (a .before .before .value .ensures .stands _ _ (a .a .given .1)) (k .value-behind .ensures .stands _ _ (b .b .given .1))
+    (λ q. c .if2 .taken (q ∙ sym (add-one _)))
 
 value-behind-requires-2 : tie.Need-value-behind-requires-2
 value-behind-requires-2 c κs = search needs
 
 returns-5 : tie.Need-returns-5
 returns-5 c =
-    let value = c .before .before .before .before .before .before .before .before .before .before .value in
-    let a-2 = c .before .before .before .before .before .before .before .before .a in
-    let value-behind = c .before .before .before .before .before .value-behind in
-    let b = c .before .before .before .b in
-    let a = c .before .before .before .before .before .before .before .before .before .before .before .before .args in
-    head-some (a .j) (a .i) (value .ensures .stands _ _ (a-2 .given .1)) (value-behind .ensures .stands _ _ (b .given .1)) (omega arith) (omega arith) (c .value-behind2 .ensures)
+    let b = c .before .before .before in
+    let k = b .before .before in
+    let a = k .before .before .before in
+    head-some _ _ (a .before .before .value .ensures .stands _ _ (a .a .given .1)) (k .value-behind .ensures .stands _ _ (b .b .given .1))
+    (omega arith) (omega arith) (c .value-behind2 .ensures)
 
 pub head-spec : {M : Type 1} → statement M
 head-spec =

@@ -52,10 +52,9 @@ add-if3 c = omega arith
 
 returns-3 : tie.Need-returns-3 Inv-loop μ-loop
 returns-3 c =
-    let loop = c .before .before .before .before .before .before .before .loop in
-    let next-name = c .before .before .before .before .next-name in
-    let v = c .before .before .v in
-    names-other (loop .inv) (next-name .ensures .stands _ _ (v .given .1)) (c .if3 .taken)
+    let v = c .before .before in
+    let k = v .before .before in
+    names-other (k .before .before .before .loop .inv) (k .next-name .ensures .stands _ _ (v .v .given .1)) (c .if3 .taken)
 
 loop-less : tie.Need-loop-less Inv-loop μ-loop
 loop-less c =
@@ -64,10 +63,9 @@ loop-less c =
 
 loop-again : tie.Need-loop-again Inv-loop μ-loop
 loop-again c =
-    let loop = c .before .before .before .before .before .before .before .loop in
-    let next-name = c .before .before .before .before .next-name in
-    let v = c .before .before .v in
-    names-more (loop .inv) (next-name .ensures .stands _ _ (v .given .1)) (c .if3 .left)
+    let v = c .before .before in
+    let k = v .before .before in
+    names-more (k .before .before .before .loop .inv) (k .next-name .ensures .stands _ _ (v .v .given .1)) (c .if3 .left)
 
 returns-4 : tie.Need-returns-4 Inv-loop μ-loop
 returns-4 c = names-stops (c .before .before .before .loop .inv) (λ q. omega arith) (λ l q. omega arith)
@@ -80,15 +78,13 @@ returns-5 c = names-stops (c .before .before .before .before .before .loop .inv)
 
 add-t16 : tie.Need-add-t16 Inv-loop μ-loop
 add-t16 c =
-    let args = c .before .before .before .before .before .before .before .before .before .before .args in
-    let loop = c .before .before .before .before .before .loop in
-    omega (arith, byte-within (args .text .now) (loop .at) (omega arith))
+    let l = c .before .before .before .before .before in
+    omega (arith, byte-within (l .before .before .before .before .before .args .text .now) (l .loop .at) (omega arith))
 
 returns-6 : tie.Need-returns-6 Inv-loop μ-loop
 returns-6 c =
-    let args = c .before .before .before .before .before .before .before .before .before .before .args in
-    let loop = c .before .before .before .before .before .loop in
-    names-end (loop .inv) (omega arith) (omega arith) (byte-within (args .text .now) (loop .at) (omega arith))
+    let l = c .before .before .before .before .before in
+    names-end (l .loop .inv) (omega arith) (omega arith) (byte-within (l .before .before .before .before .before .args .text .now) (l .loop .at) (omega arith))
 
 pub names-spec : {M : Type 1} → statement M
 names-spec =

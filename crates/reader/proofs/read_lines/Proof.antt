@@ -10,10 +10,10 @@ use Rattle.reader.proofs.read_lines.Statement.{statement}
 use Rattle.reader.proofs.read_lines.Tie as tie
 
 abbrev Inv-loop : tie.InvT-loop
-Inv-loop text start n words₀ ps₀ at₀ j₀ i₀ k₀ primes₀ words ps at j i k primes = Reading text start n at j i k words ps primes
+Inv-loop text start n rows₀ ps₀ at₀ j₀ i₀ k₀ primes₀ rows ps at j i k primes = Reading text start n at j i k rows ps primes
 
 abbrev μ-loop : tie.MeasureT-loop
-μ-loop text start n words₀ ps₀ at₀ j₀ i₀ k₀ primes₀ words ps at j i k primes = length text - at
+μ-loop text start n rows₀ ps₀ at₀ j₀ i₀ k₀ primes₀ rows ps at j i k primes = length text - at
 
 loop-holds : tie.Need-loop-holds Inv-loop μ-loop
 loop-holds c =
@@ -31,11 +31,9 @@ enum-told c = search needs
 
 returns : tie.Need-returns Inv-loop μ-loop
 returns c =
-    let args = c .before .before .before .before .before .before .args in
-    let loop = c .before .before .before .before .loop in
-    let head = c .before .before .head in
-    let h = loop .inv in
-    reading-refused h (reading-no-line h (omega arith) (line-no-head (args .n) (head .ensures .fails (c .enum-told .given .1))))
+    let h = c .before .before in
+    let l = h .before .before in
+    reading-refused (l .loop .inv) (reading-no-line (l .loop .inv) (omega arith) (line-no-head _ (h .head .ensures .fails (c .enum-told .given .1))))
 
 exponents-requires : tie.Need-exponents-requires Inv-loop μ-loop
 exponents-requires c κs =
@@ -44,52 +42,50 @@ exponents-requires c κs =
 
 returns-2 : tie.Need-returns-2 Inv-loop μ-loop
 returns-2 c =
-    let args = c .before .before .before .before .before .before .before .before .before .args in
-    let loop = c .before .before .before .before .before .before .before .loop in
-    let head = c .before .before .before .before .before .head in
-    let p = c .before .before .before .p in
-    let h = loop .inv in
-    let w = c .before .exponents .ensures .fails (not-true (c .before .exponents .result .ok) (c .if1 .taken)) in
-    reading-refused h (reading-no-line h (omega arith) (line-no-word (args .n) (head .ensures .stands _ _ (p .given .1)) w))
+    let p = c .before .before .before in
+    let h = p .before .before in
+    let l = h .before .before in
+    let w = c .before .exponents .ensures .fails (not-true _ (c .if1 .taken)) in
+    let none = line-no-word _ (h .head .ensures .stands _ _ (p .p .given .1)) w in
+    reading-refused (l .loop .inv) (reading-no-line (l .loop .inv) (omega arith) none)
 
 still-prime-requires : tie.Need-still-prime-requires Inv-loop μ-loop
 still-prime-requires c κs =
-    c .before .before .before .before .before .before .head .ensures .stands _ _ (c .before .before .before .before .p .given .1) .small
+    let p = c .before .before .before .before in
+    p .before .before .head .ensures .stands _ _ (p .p .given .1) .small
 
 keep-requires : tie.Need-keep-requires Inv-loop μ-loop
 keep-requires c κs = tt
 
 add-k : tie.Need-add-k Inv-loop μ-loop
 add-k c =
-    let loop = c .before .before .before .before .before .before .before .before .before .before .before .before .loop in
-    omega (arith, loop .inv .turns, loop .inv .within)
+    let e = c .before .before .before .before .before .before in
+    let l = e .before .before .before .before .before .before .loop in
+    omega (arith, l .inv .turns, l .inv .within)
 
 next-pair-requires : tie.Need-next-pair-requires Inv-loop μ-loop
 next-pair-requires c κs =
-    let pre = c .before .before .before .before .before .before .before .before .before .before .before .before .before .before .pre in
-    let loop = c .before .before .before .before .before .before .before .before .before .before .before .before .loop in
-    omega (arith, pre, loop .inv .below)
+    let e = c .before .before .before .before .before .before in
+    let l = e .before .before .before .before .before .before in
+    omega (arith, l .before .before .pre, l .loop .inv .below)
 
 loop-less : tie.Need-loop-less Inv-loop μ-loop
 loop-less c =
-    let head = c .before .before .before .before .before .before .before .before .before .before .before .head in
-    let p = c .before .before .before .before .before .before .before .before .before .p in
-    let exponents = c .before .before .before .before .before .before .before .exponents in
-    let if1 = c .before .before .before .before .before .before .if1 in
-    let w = exponents .ensures .stands (not-false (exponents .result .ok) (if1 .left)) in
-    omega (arith, (head .ensures .stands _ _ (p .given .1)) .further, w .further, w .within)
+    let e = c .before .before .before .before .before .before in
+    let p = e .before .before .before in
+    let w = e .before .exponents .ensures .stands (not-false _ (e .if1 .left)) in
+    omega (arith, p .before .before .head .ensures .stands _ _ (p .p .given .1) .further, w .further, w .within)
 
 loop-again : tie.Need-loop-again Inv-loop μ-loop
 loop-again c =
-    let l : c .before .before .before .before .before .before .before .before .before .before .before .before .before .loop .j < c .before .before .before .before .before .before .before .before .before .before .before .before .before .before .before .args .n = omega arith in
-    let loop = c .before .before .before .before .before .before .before .before .before .before .before .before .before .loop in
-    let head = c .before .before .before .before .before .before .before .before .before .before .before .head in
-    let p = c .before .before .before .before .before .before .before .before .before .p in
-    let exponents = c .before .before .before .before .before .before .before .exponents in
-    let if1 = c .before .before .before .before .before .before .if1 in
-    let still-prime = c .before .before .before .before .still-prime in
-    let w = exponents .ensures .stands (not-false (exponents .result .ok) (if1 .left)) in
-    reading-more (loop .inv) l (head .ensures .stands _ _ (p .given .1)) w (c .before .keep .ensures) (still-prime .ensures) (c .next-pair .ensures)
+    let e = c .before .before .before .before .before .before in
+    let p = e .before .before .before in
+    let h = p .before .before in
+    let l = h .before .before in
+    let below : l .loop .j < l .before .before .args .n = omega arith in
+    let w = e .before .exponents .ensures .stands (not-false _ (e .if1 .left)) in
+    reading-more (l .loop .inv) below (h .head .ensures .stands _ _ (p .p .given .1)) w
+    (c .before .keep .ensures) (c .before .before .before .before .still-prime .ensures) (c .next-pair .ensures)
 
 returns-3 : tie.Need-returns-3 Inv-loop μ-loop
 returns-3 c = reading-end (c .before .loop .inv) (omega arith)

@@ -18,7 +18,7 @@ abbrev μ-loop : tie.MeasureT-loop
 μ-loop k x₀ low q₀ x q = k - q
 
 loop-holds : tie.Need-loop-holds Inv-loop μ-loop
-loop-holds c = (search needs, search needs, search needs, mixed-none _ _)
+loop-holds c = (search needs, search needs, search needs, mixed-none)
 
 mul-x : tie.Need-mul-x Inv-loop μ-loop
 mul-x c = search needs
@@ -39,9 +39,7 @@ loop-less : tie.Need-loop-less Inv-loop μ-loop
 loop-less c = search needs
 
 loop-again : tie.Need-loop-again Inv-loop μ-loop
-loop-again c =
-    let l = c .before .loop in
-    (search needs, search needs, search needs, mixed-more _ _ (l .q) (l .x) (search needs) (l .inv .3))
+loop-again c = (search needs, search needs, search needs, mixed-more (search needs) (c .before .loop .inv .3))
 
 returns : tie.Need-returns Inv-loop μ-loop
 returns c =

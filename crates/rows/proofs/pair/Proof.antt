@@ -2,7 +2,7 @@
 use mathlib.Core.Path.{sym, _∙_, ap}
 use Rattle.definitions.specs.Presentation.{pairNumber}
 use native.Mathlib.Omega.{arith}
-use Rattle.rows.proofs.Pairs.{pair-small, pair-below, pair-power, pair-commutator}
+use Rattle.rows.proofs.Pairs.{pair-small, pair-below, pair-power, pair-commutator, pair-room}
 use borrow.Author.Needs.{needs}
 use Rattle.rows.proofs.pair.Statement.{statement}
 use Rattle.rows.proofs.pair.Tie as tie
@@ -14,10 +14,10 @@ mul-first : tie.Need-mul-first
 mul-first c = omega (arith, pair-small (c .args .j) (search needs))
 
 add-result : tie.Need-add-result
-add-result c = let z = c .before in omega (arith, pair-commutator (z .args .j) (z .args .i) (search needs) (search needs), pair-below (z .args .j) (z .args .i) (search needs) (search needs))
+add-result c = let a = c .before .args in omega (arith, pair-room (a .j) (a .i) (search needs) (search needs) (search needs))
 
 add-result-2 : tie.Need-add-result-2
-add-result-2 c = let z = c .before in omega (arith, pair-commutator (z .args .j) (z .args .i) (search needs) (search needs), pair-below (z .args .j) (z .args .i) (search needs) (search needs))
+add-result-2 c = let a = c .before .args in omega (arith, pair-room (a .j) (a .i) (search needs) (search needs) (search needs))
 
 returns : tie.Need-returns
 returns c =

@@ -1,6 +1,6 @@
 -- `stacked` meets its contract: low below q, high from q on, and s at k in the end.
 use borrow.Author.Needs.{needs}
-use mathlib.Core.Path.{_≡_, subst}
+use mathlib.Core.Path.{_≡_}
 use Prim.Native.Nat.{_-_, _≤_, _<_}
 use lib.ListN.{length}
 use native.Mathlib.Omega.{arith}
@@ -17,7 +17,7 @@ abbrev μ-loop : tie.MeasureT-loop
 μ-loop k s low r₀ q₀ r q = k - q
 
 loop-holds : tie.Need-loop-holds Inv-loop μ-loop
-loop-holds c = (search needs, search needs, search needs, mixed-none _ _)
+loop-holds c = (search needs, search needs, search needs, mixed-none)
 
 mul-r : tie.Need-mul-r Inv-loop μ-loop
 mul-r c = search needs
@@ -38,10 +38,7 @@ loop-less : tie.Need-loop-less Inv-loop μ-loop
 loop-less c = search needs
 
 loop-again : tie.Need-loop-again Inv-loop μ-loop
-loop-again c =
-    let z = c .before .before in
-    let l = c .before .loop in
-    (search needs, search needs, search needs, mixed-more (z .args .t2) (z .args .high) (l .q) (l .r) (search needs) (l .inv .3))
+loop-again c = (search needs, search needs, search needs, mixed-more (search needs) (c .before .loop .inv .3))
 
 mul-r-3 : tie.Need-mul-r-3 Inv-loop μ-loop
 mul-r-3 c = search needs
@@ -51,10 +48,9 @@ array-write-r-2 c = search needs
 
 returns : tie.Need-returns Inv-loop μ-loop
 returns c =
-    let z = c .before .before in
     let l = c .before .loop in
-    let e : l .q ≡ z .args .k = omega arith in
-    mixed-stacked (z .args .t2) (z .args .high) (z .args .k) (z .args .s) (l .r) (search needs) (subst (λ q. Mixed (z .args .t2) (z .args .high) q (l .r)) e (l .inv .3))
+    let e : l .q ≡ c .before .before .args .k = omega arith in
+    mixed-stacked e (search needs) (l .inv .3)
 
 pub stacked-spec : {M : Type 1} → statement M
 stacked-spec =

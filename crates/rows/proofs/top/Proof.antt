@@ -16,7 +16,7 @@ abbrev μ-loop : tie.MeasureT-loop
 μ-loop i x k₀ k = k
 
 loop-holds : tie.Need-loop-holds Inv-loop μ-loop
-loop-holds c = (search needs, omega arith, top-none (c .args .i) (c .args .t2))
+loop-holds c = (search needs, omega arith, top-none)
 
 sub-if1 : tie.Need-sub-if1 Inv-loop μ-loop
 sub-if1 c = search needs
@@ -37,10 +37,7 @@ loop-less : tie.Need-loop-less Inv-loop μ-loop
 loop-less c = search needs
 
 loop-again : tie.Need-loop-again Inv-loop μ-loop
-loop-again c =
-    let z = c .before .before .before in
-    let l = c .before .before .loop in
-    (search needs, search needs, top-more (z .args .i) (z .args .t2) (l .k) (search needs) (c .if1 .left) (l .inv .2))
+loop-again c = (search needs, search needs, top-more (search needs) (c .if1 .left) (c .before .before .loop .inv .2))
 
 returns-2 : tie.Need-returns-2 Inv-loop μ-loop
 returns-2 c =

@@ -17,7 +17,7 @@ element-copy-out-result : tie.Need-element-copy-out-result
 element-copy-out-result c = search needs
 
 returns : tie.Need-returns
-returns c = ap (λ k. getD (now (c .before .before .args .words)) k []) (c .before .pair .ensures .0)
+returns c = ap (λ k. getD (now (c .before .before .args .rows)) k []) (c .before .pair .ensures .0)
 
 pub word-spec : {M : Type 1} → statement M
 word-spec = tie.close (tie.spec pair-requires mul-result element-copy-out-result returns)

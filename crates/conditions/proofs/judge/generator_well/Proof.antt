@@ -9,10 +9,10 @@ use Rattle.conditions.proofs.judge.generator_well.Statement.{statement}
 use Rattle.conditions.proofs.judge.generator_well.Tie as tie
 
 abbrev Inv-loop : tie.InvT-loop
-Inv-loop words ps primes n j i₀ i = Tested (λ m. pairWell words ps primes n j m) i
+Inv-loop rows ps primes n j i₀ i = Tested (λ m. pairWell rows ps primes n j m) i
 
 abbrev μ-loop : tie.MeasureT-loop
-μ-loop words ps primes n j i₀ i = suc j - i
+μ-loop rows ps primes n j i₀ i = suc j - i
 
 loop-holds : tie.Need-loop-holds Inv-loop μ-loop
 loop-holds c = tested-none

@@ -19,10 +19,7 @@ p-well-requires : tie.Need-p-well-requires
 p-well-requires c κs = search needs
 
 returns : tie.Need-returns
-returns c =
-    let a = c .before .before .before .before .args in
-    let n = c .before .before .before .pair in
-    sym (pair-stray (a .words .now) (a .ps .now) (a .primes .now) (a .n) (a .j) (a .i) (n .result) (n .ensures .0) (sym (c .before .p-well .ensures) ∙ not-true (c .before .p-well .result) (c .if1 .taken)))
+returns c = sym (pair-stray _ _ _ _ _ _ _ (c .before .before .before .pair .ensures .0) (sym (c .before .p-well .ensures) ∙ not-true _ (c .if1 .taken)))
 
 mul-row-well : tie.Need-mul-row-well
 mul-row-well c = search needs
@@ -35,11 +32,8 @@ row-well-requires c κs = search needs
 
 returns-2 : tie.Need-returns-2
 returns-2 c =
-    let if1 = c .before .before .if1 in
-    let a = c .before .before .before .before .before .before .args in
-    let n = c .before .before .before .before .before .pair in
-    let p = c .before .before .before .p-well in
-    c .row-well .ensures ∙ sym (pair-row (a .words .now) (a .ps .now) (a .primes .now) (a .n) (a .j) (a .i) (n .result) (n .ensures .0) (sym (p .ensures) ∙ not-false (p .result) (if1 .left)))
+    let p = c .before .before .before in
+    c .row-well .ensures ∙ sym (pair-row _ _ _ _ _ _ _ (p .before .before .pair .ensures .0) (sym (p .p-well .ensures) ∙ not-false _ (c .before .before .if1 .left)))
 
 pub pair-well-spec : {M : Type 1} → statement M
 pair-well-spec =

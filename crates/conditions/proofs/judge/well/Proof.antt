@@ -10,10 +10,10 @@ use Rattle.conditions.proofs.judge.well.Statement.{statement}
 use Rattle.conditions.proofs.judge.well.Tie as tie
 
 abbrev Inv-loop : tie.InvT-loop
-Inv-loop words ps primes n j₀ j = Tested (λ m. allBelow (suc m) (λ i. pairWell words ps primes n m i)) j
+Inv-loop rows ps primes n j₀ j = Tested (λ m. allBelow (suc m) (λ i. pairWell rows ps primes n m i)) j
 
 abbrev μ-loop : tie.MeasureT-loop
-μ-loop words ps primes n j₀ j = n - j
+μ-loop rows ps primes n j₀ j = n - j
 
 loop-holds : tie.Need-loop-holds Inv-loop μ-loop
 loop-holds c = tested-none

@@ -39,9 +39,10 @@ loop-less c =
 
 loop-again : tie.Need-loop-again Inv-loop μ-loop
 loop-again c =
-    let p = c .before .before .before .before .args .p in
-    let d = c .before .before .loop .d in
-    (omega arith, omega arith, omega (arith, root-below p d (c .before .before .before .before .pre) (omega arith)), tried-more p d (c .before .before .loop .inv .3) (c .if2 .left))
+    let z = c .before .before .before .before in
+    let l = c .before .before .loop in
+    let low = root-below (z .args .p) (l .d) (z .pre) (omega arith) in
+    (omega arith, omega arith, omega arith, tried-more (z .args .p) (l .d) (l .inv .3) (c .if2 .left))
 
 returns-3 : tie.Need-returns-3 Inv-loop μ-loop
 returns-3 c =

@@ -1,12 +1,10 @@
 -- Each order is the one before it times a prime.
-use mathlib.Core.Path.{_≡_, refl}
-use Prim.Native.Nat.{_+_, _*_, _-_, _≤_}
+use mathlib.Core.Path.{refl}
+use Prim.Native.Nat.{_-_, _≤_}
 use native.Mathlib.Omega.{arith}
-use lib.ListN.{getD}
-use Rattle.definitions.specs.Presentation.{maxGenerators, maxOrder}
-use Rattle.conditions.specs.Conditions.{product}
+use Rattle.definitions.specs.Presentation.{maxGenerators}
 use Rattle.conditions.specs.Size.{LevelOrders}
-use Rattle.conditions.proofs.Conditions.{product-turn, orders-none, orders-more, orders-all}
+use Rattle.conditions.proofs.Conditions.{product-turn, turn-fits, orders-none, orders-more, orders-all}
 use Rattle.conditions.proofs.size.level_orders.Statement.{statement}
 use Rattle.conditions.proofs.size.level_orders.Tie as tie
 
@@ -35,10 +33,7 @@ mul-r-3 : tie.Need-mul-r-3 Inv-loop μ-loop
 mul-r-3 c =
     let z = c .before .before .before in
     let l = c .before .before .loop in
-    let e : getD (l .r) (l .j) 0 * getD (z .args .primes .now) (l .j) 0 ≡ product (z .args .primes .now) (l .j + 1) =
-    product-turn (z .args .primes .now) (l .j) _ _ (l .inv .0 .each (l .j) (omega arith)) refl in
-    let b : product (z .args .primes .now) (l .j + 1) ≤ maxOrder = z .pre .1 (l .j + 1) (omega arith) in
-    omega arith
+    omega (arith, turn-fits (z .args .primes .now) (z .args .n) (l .j) _ (z .pre .1) (omega arith) (l .inv .0 .each (l .j) (omega arith)))
 
 add-r : tie.Need-add-r Inv-loop μ-loop
 add-r c = omega arith
@@ -57,10 +52,9 @@ loop-less c = omega arith
 
 loop-again : tie.Need-loop-again Inv-loop μ-loop
 loop-again c =
-    let z = c .before .before .before in
+    let ps = c .before .before .before .args .primes .now in
     let l = c .before .before .loop in
-    let e : getD (l .r) (l .j) 0 * getD (z .args .primes .now) (l .j) 0 ≡ product (z .args .primes .now) (l .j + 1) =
-    product-turn (z .args .primes .now) (l .j) _ _ (l .inv .0 .each (l .j) (omega arith)) refl in
+    let e = product-turn ps (l .j) _ _ (l .inv .0 .each (l .j) (omega arith)) refl in
     (orders-more _ (l .inv .0) (omega arith) e, omega arith, omega arith)
 
 returns : tie.Need-returns Inv-loop μ-loop

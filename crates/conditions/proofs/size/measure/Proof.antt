@@ -7,7 +7,7 @@ use Rattle.definitions.specs.Lists.{sum}
 use Rattle.definitions.specs.Presentation.{maxGenerators, maxOrder, lineWords}
 use Rattle.numbers.proofs.Sums.{sum-zero}
 use Rattle.conditions.specs.Conditions.{product}
-use Rattle.conditions.proofs.Conditions.{product-zero, product-turn, elements-turn, words-fit}
+use Rattle.conditions.proofs.Conditions.{product-zero, product-turn, elements-turn, turn-fits, words-fit}
 use Rattle.conditions.proofs.size.measure.Statement.{statement}
 use Rattle.conditions.proofs.size.measure.Tie as tie
 
@@ -31,17 +31,13 @@ mul-order-2 : tie.Need-mul-order-2 Inv-loop μ-loop
 mul-order-2 c =
     let z = c .before .before .before in
     let l = c .before .before .loop in
-    let e : l .order * getD (z .args .primes .now) (l .j) 0 ≡ product (z .args .primes .now) (l .j + 1) = product-turn (z .args .primes .now) (l .j) (l .order) _ (l .inv .0) refl in
-    let b : product (z .args .primes .now) (l .j + 1) ≤ maxOrder = z .pre .1 (l .j + 1) (omega arith) in
-    omega arith
+    omega (arith, turn-fits (z .args .primes .now) (z .args .n) (l .j) (l .order) (z .pre .1) (omega arith) (l .inv .0))
 
 add-elements : tie.Need-add-elements Inv-loop μ-loop
 add-elements c =
     let z = c .before .before .before in
     let l = c .before .before .loop in
-    let e : l .order * getD (z .args .primes .now) (l .j) 0 ≡ product (z .args .primes .now) (l .j + 1) = product-turn (z .args .primes .now) (l .j) (l .order) _ (l .inv .0) refl in
-    let b : product (z .args .primes .now) (l .j + 1) ≤ maxOrder = z .pre .1 (l .j + 1) (omega arith) in
-    omega arith
+    omega (arith, turn-fits (z .args .primes .now) (z .args .n) (l .j) (l .order) (z .pre .1) (omega arith) (l .inv .0))
 
 add-j : tie.Need-add-j Inv-loop μ-loop
 add-j c = omega arith
@@ -53,9 +49,10 @@ loop-again : tie.Need-loop-again Inv-loop μ-loop
 loop-again c =
     let z = c .before .before .before in
     let l = c .before .before .loop in
-    let e : l .order * getD (z .args .primes .now) (l .j) 0 ≡ product (z .args .primes .now) (l .j + 1) = product-turn (z .args .primes .now) (l .j) (l .order) _ (l .inv .0) refl in
-    let b : product (z .args .primes .now) (l .j + 1) ≤ maxOrder = z .pre .1 (l .j + 1) (omega arith) in
-    (e, elements-turn (z .args .primes .now) (l .j) (l .elements) _ (l .inv .1) e, omega arith, omega arith, omega arith)
+    let ps = z .args .primes .now in
+    let e : l .order * getD ps (l .j) 0 ≡ product ps (l .j + 1) = product-turn ps (l .j) (l .order) _ (l .inv .0) refl in
+    let fits = turn-fits (z .args .primes .now) (z .args .n) (l .j) (l .order) (z .pre .1) (omega arith) (l .inv .0) in
+    (e, elements-turn ps (l .j) (l .elements) _ (l .inv .1) e, omega arith, omega arith, omega arith)
 
 cast-t11 : tie.Need-cast-t11 Inv-loop μ-loop
 cast-t11 c = omega arith

@@ -1,0 +1,3 @@
+-- Laws of reading table text.
+pub mod Forms
+pub mod Calls

@@ -1,0 +1,54 @@
+-- The bytes are counted one by one.
+use Prim.Native.Nat.{_-_}
+use native.Mathlib.Omega.{arith}
+use lib.ListN.{length}
+use Rattle.table_reading.proofs.Forms.{CountedLines, counted-none, counted-more, counted-all}
+use Rattle.table_reading.proofs.count_newlines.Statement.{statement}
+use Rattle.table_reading.proofs.count_newlines.Tie as tie
+
+abbrev Inv-loop : tie.InvT-loop
+Inv-loop text n₀ i₀ n i = CountedLines text i n
+
+abbrev μ-loop : tie.MeasureT-loop
+μ-loop text n₀ i₀ n i = length text - i
+
+loop-holds : tie.Need-loop-holds Inv-loop μ-loop
+loop-holds c = counted-none
+
+shared-slice-read-is-newline : tie.Need-shared-slice-read-is-newline Inv-loop μ-loop
+shared-slice-read-is-newline c = omega arith
+
+is-newline-requires : tie.Need-is-newline-requires Inv-loop μ-loop
+is-newline-requires c κs = tt
+
+add-n : tie.Need-add-n Inv-loop μ-loop
+add-n c =
+    let h = counted-more (c .before .before .before .loop .inv) (omega arith) (c .is-newline .ensures) in
+    omega (arith, h .few, h .within)
+
+add-i : tie.Need-add-i Inv-loop μ-loop
+add-i c = omega arith
+
+loop-less : tie.Need-loop-less Inv-loop μ-loop
+loop-less c = omega arith
+
+loop-again : tie.Need-loop-again Inv-loop μ-loop
+loop-again c = counted-more (c .before .before .before .loop .inv) (omega arith) (c .is-newline .ensures)
+
+returns : tie.Need-returns Inv-loop μ-loop
+returns c = counted-all (c .before .loop .inv) (omega arith)
+
+pub count-newlines-spec : {M : Type 1} → statement M
+count-newlines-spec =
+    tie.close
+    (tie.spec
+    Inv-loop
+    μ-loop
+    loop-holds
+    shared-slice-read-is-newline
+    is-newline-requires
+    add-n
+    add-i
+    loop-less
+    loop-again
+    returns)

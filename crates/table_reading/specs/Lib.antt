@@ -1,0 +1,2 @@
+-- What stands in a table text that is read.
+pub mod Forms

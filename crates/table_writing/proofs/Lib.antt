@@ -1,0 +1,3 @@
+-- Laws of writing table text.
+pub mod Writes
+pub mod Calls

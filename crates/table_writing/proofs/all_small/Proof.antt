@@ -1,0 +1,55 @@
+-- The words are tested one by one.
+use mathlib.Core.Path.{_≡_}
+use mathlib.Core.Bool.{true}
+use Prim.Native.Nat.{_-_}
+use native.Mathlib.Omega.{arith}
+use lib.ListN.{length, take}
+use Rattle.definitions.specs.Text.{small}
+use Rattle.table_writing.proofs.Writes.{small-none, small-more, small-all, small-fails}
+use Rattle.table_writing.proofs.all_small.Statement.{statement}
+use Rattle.table_writing.proofs.all_small.Tie as tie
+
+abbrev Inv-loop : tie.InvT-loop
+Inv-loop words k₀ k = small (take k words) ≡ true
+
+abbrev μ-loop : tie.MeasureT-loop
+μ-loop words k₀ k = length words - k
+
+loop-holds : tie.Need-loop-holds Inv-loop μ-loop
+loop-holds c = small-none (c .args .words .now)
+
+mul-if1 : tie.Need-mul-if1 Inv-loop μ-loop
+mul-if1 c = omega arith
+
+shared-slice-read-if1 : tie.Need-shared-slice-read-if1 Inv-loop μ-loop
+shared-slice-read-if1 c = omega arith
+
+returns : tie.Need-returns Inv-loop μ-loop
+returns c = let l = c .before .before .before in small-fails (l .before .args .words .now) (l .loop .k) (omega arith) (omega arith)
+
+add-k : tie.Need-add-k Inv-loop μ-loop
+add-k c = omega arith
+
+loop-less : tie.Need-loop-less Inv-loop μ-loop
+loop-less c = omega arith
+
+loop-again : tie.Need-loop-again Inv-loop μ-loop
+loop-again c = let l = c .before .before .before in small-more (l .before .args .words .now) (l .loop .k) (omega arith) (l .loop .inv) (omega arith)
+
+returns-2 : tie.Need-returns-2 Inv-loop μ-loop
+returns-2 c = let l = c .before in small-all (l .before .args .words .now) (l .loop .k) (omega arith) (l .loop .inv)
+
+pub all-small-spec : {M : Type 1} → statement M
+all-small-spec =
+    tie.close
+    (tie.spec
+    Inv-loop
+    μ-loop
+    loop-holds
+    mul-if1
+    shared-slice-read-if1
+    returns
+    add-k
+    loop-less
+    loop-again
+    returns-2)

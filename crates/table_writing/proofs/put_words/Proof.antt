@@ -1,0 +1,71 @@
+-- The words are written one by one.
+use Prim.Native.Nat.{_-_}
+use native.Mathlib.Omega.{arith}
+use lib.ListN.{length}
+use Rattle.text.proofs.Writing.{wrote-length}
+use Rattle.table_writing.proofs.Writes.{WrittenTo, written-none, written-room, written-more, written-all}
+use Rattle.table_writing.proofs.put_words.Statement.{statement}
+use Rattle.table_writing.proofs.put_words.Tie as tie
+
+abbrev Inv-loop : tie.InvT-loop
+Inv-loop out₀ at words next₀ k₀ out next k = WrittenTo words out₀ at k out next
+
+abbrev μ-loop : tie.MeasureT-loop
+μ-loop out₀ at words next₀ k₀ out next k = length words - k
+
+loop-holds : tie.Need-loop-holds Inv-loop μ-loop
+loop-holds c = written-none (c .before .before .pre)
+
+mul-put-value : tie.Need-mul-put-value Inv-loop μ-loop
+mul-put-value c = omega arith
+
+shared-slice-read-put-value : tie.Need-shared-slice-read-put-value Inv-loop μ-loop
+shared-slice-read-put-value c = omega arith
+
+put-value-requires : tie.Need-put-value-requires Inv-loop μ-loop
+put-value-requires c κs = omega (arith, written-room (c .before .before .before .loop .inv) (omega arith))
+
+separator-requires : tie.Need-separator-requires Inv-loop μ-loop
+separator-requires c κs = tt
+
+put-byte-requires : tie.Need-put-byte-requires Inv-loop μ-loop
+put-byte-requires c κs =
+    let v = c .before .before .before .before in
+    let w = v .put-value .ensures in
+    omega (arith, written-room (v .before .before .before .before .loop .inv) (omega arith), w .end, wrote-length w)
+
+add-k : tie.Need-add-k Inv-loop μ-loop
+add-k c = omega arith
+
+loop-less : tie.Need-loop-less Inv-loop μ-loop
+loop-less c = omega arith
+
+loop-again : tie.Need-loop-again Inv-loop μ-loop
+loop-again c =
+    let v = c .before .before .before .before .before .before .before in
+    let l = v .before .before .before .before .loop in
+    written-more (l .inv) (omega arith) (c .before .before .before .separator .ensures) (v .put-value .ensures) (c .before .before .put-byte .ensures)
+
+same-length : tie.Need-same-length Inv-loop μ-loop
+same-length c = wrote-length (c .before .loop .inv .wrote)
+
+returns : tie.Need-returns Inv-loop μ-loop
+returns c = written-all (c .before .loop .inv) (omega arith)
+
+pub put-words-spec : {M : Type 1} → statement M
+put-words-spec =
+    tie.close
+    (tie.spec
+    Inv-loop
+    μ-loop
+    loop-holds
+    mul-put-value
+    shared-slice-read-put-value
+    put-value-requires
+    separator-requires
+    put-byte-requires
+    add-k
+    loop-less
+    loop-again
+    same-length
+    returns)
