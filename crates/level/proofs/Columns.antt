@@ -10,6 +10,7 @@
 --   iter-fixed                 turns that keep the basis index add up their exponents
 --   act-fixed, plus-fixed      a matrix that fixes a basis index, and the same times a power of the root
 --   walk-zero, walk-next       the clauses of `walk`
+--   walk-ends                  a word that ends early is walked as far as it goes
 --   stored-fewer               fewer generators stand where more do
 --   matrix-inside              the lines of a generator stand among those of all
 use mathlib.Core.Path.{_≡_, refl, ap, ap₂, sym, _∙_}
@@ -26,6 +27,7 @@ use Rattle.definitions.specs.Monomial.{Matrix, entry, less, col, act, scale}
 use Rattle.numbers.proofs.Lists.{iter-suc, iter-add, iter-zero}
 use Rattle.numbers.proofs.Blocks.{getD-map, getD-table}
 use Rattle.formulas.specs.Formulas.{walk, plus}
+use Rattle.rows.specs.Rows.{Top}
 use Rattle.level.specs.declared.Listed.{Listed}
 use Rattle.level.specs.Stored.{entryIn, matrixIn, lineIn, Stored}
 
@@ -109,6 +111,22 @@ pub walk-next : (m : ℕ) (M : ℕ → Matrix) (w : List ℕ) (k : ℕ) (x : Ent
     → walk m M (k + 1) (toNF (k + 1) w) x ≡ iter (act m (M k)) (getD w k 0) (walk m M k (toNF k w) x)
 unfolding walk toNF
 walk-next m M w k x = ap (λ n. walk m M n (toNF n w) x) (add-one k)
+
+module _ (m : ℕ) (M : ℕ → Matrix) (w : List ℕ) (x : Entry) where
+  abbrev walked-to : ℕ → Entry
+  walked-to i = walk m M i (toNF i w) x
+
+  walk-still : (i : ℕ) → getD w i 0 ≡ 0 → walked-to i ≡ walked-to (suc i)
+  walk-still i z = sym (ap walked-to (sym (add-one i)) ∙ walk-next m M w i x ∙ ap (λ k. iter (act m (M i)) k (walked-to i)) z ∙ iter-zero (act m (M i)) (walked-to i))
+
+  walk-far : (n d : ℕ) → ((k : ℕ) → n ≤ k → k < n + d → getD w k 0 ≡ 0) → walked-to n ≡ walked-to (n + d)
+  walk-far n zero z = let e : n ≡ n + 0 = omega arith in ap walked-to e
+  walk-far n (suc d) z =
+      let e : suc (n + d) ≡ n + suc d = omega arith in
+      walk-far n d (λ k a b. z k a (omega arith)) ∙ walk-still (n + d) (z (n + d) (omega arith) (omega arith)) ∙ ap walked-to e
+
+  pub walk-ends : (i n : ℕ) → Top i w n → walk m M n (toNF n w) x ≡ walk m M i (toNF i w) x
+  walk-ends i n T = let e : n + (i - n) ≡ i = omega (arith, T .less) in walk-far n (i - n) (λ k a b. T .rest k a (omega arith)) ∙ ap walked-to e
 
 -- ---- Representations
 

@@ -133,10 +133,10 @@ module _ (A : Accepted) (k : ℕ) where
     unfolding order
     prime-order = order-le A (suc (suc k)) l
 
-    -- no level below has more representations than half the order, and no prime above the first is greater
-    halved : 2 * order P (suc k) ≤ m
-    halved = let a : 2 * order P (suc k) ≤ p * order P (suc k) = mul-le-mul-right (order P (suc k)) (A .C .two (suc k)) in omega (arith, prime-order)
+    listed-order : p * length L ≤ m
+    listed-order = let a : p * length L ≤ p * order P (suc k) = mul-le-mul-left p (reps-le A k lower) in omega (arith, prime-order)
 
+    -- no prime above the first is greater than half the order
     doubled : 2 * p ≤ m
     unfolding order
     doubled =
@@ -148,8 +148,7 @@ module _ (A : Accepted) (k : ℕ) where
     stands-at S =
         let few = S .few in
         let low = S .low in
-        let reps = reps-le A k lower in
-        let half = halved in
+        let listed = listed-order in
         let double = doubled in
         let end = lines-small A S (suc k) (omega arith) in
         let len = upTo-length A (suc k) in

@@ -6,20 +6,27 @@
 --   located-stored, located-line     matrices of the representation that D is, and the lines at which they begin
 --   located-degree, located-matrix, located-column      its degree, a matrix, column 0
 --   located-target             where an intertwiner leads it
+--   located-fixed, located-moves     whether the generator on top fixes it
 --   orbits                     the orbits of the generator on top
+--   moved-many, moved-prime    an orbit that moves has p members, so that p is no more than there are representations, and small
+--   reps-half                  representations are few
 use mathlib.Core.Path.{_≡_, refl, ap, sym, _∙_, subst}
 use Prim.Native.Nat.{ℕ, _+_, _*_, _<_, _≤_}
 use native.Mathlib.Numerals.{add-one}
 use native.Mathlib.Omega.{arith}
-use native.Mathlib.Nat.{mul-le-mul-right}
+use native.Mathlib.Nat.{le-refl, mul-le-mul-left, mul-le-mul-right}
+use native.Mathlib.Decide.{decLt}
 use mathlib.Core.List.{List}
 use lib.ListN.{length}
-use Rattle.numbers.proofs.Orbits.{Orbits}
+use Rattle.definitions.specs.Lists.{iter}
+use Rattle.definitions.specs.Presentation.{maxOrder}
+use Rattle.numbers.proofs.Pigeonhole.{injects-le}
+use Rattle.numbers.proofs.Orbits.{Orbits, iter-below, moved-distinct}
 use Rattle.level.specs.declared.Listed.{Listed}
 use Rattle.level.specs.Stored.{matrixIn, Below, lineIn, generatorIn, targetIn, Stored}
 use Rattle.definitions.specs.Monomial.{entry}
 use Rattle.survey.specs.declared.Frame.{Frame}
-use Rattle.survey.specs.Below.{firstOf, degOf, matrixOf, targetOf, LevelStands, Located}
+use Rattle.survey.specs.Below.{firstOf, degOf, matrixOf, targetOf, Fixed, LevelStands, Located}
 
 module _ (f : Frame) (W : List ℕ) where
   pub first-zero : firstOf f W 0 ≡ f .base
@@ -52,6 +59,29 @@ module _ (f : Frame) (W : List ℕ) where
       home = S .cycle;
     }
 
+    -- an orbit that moves has as many members as the prime says
+    pub moved-many : (r : ℕ) → r < f .reps → ¬ Fixed f W r → f .p ≤ f .reps
+    unfolding orbits
+    moved-many r h v = injects-le (f .p) (f .reps) (λ k. iter (targetOf f W (f .top)) k r) (record {
+      below = λ k l. iter-below orbits k r h;
+      injective = λ j k a b e. moved-distinct orbits r h v j k a b e;
+    })
+
+    -- no level has more representations than half the order
+    pub reps-half : 2 * f .reps ≤ maxOrder
+    reps-half = let a : 2 * f .reps ≤ f .p * f .reps = mul-le-mul-right (f .reps) (S .prime .0) in omega (arith, S .few)
+
+    -- the square of the prime of an orbit that moves is at most the order
+    pub moved-prime : f .p ≤ f .reps → f .p ≤ 64
+    moved-prime l = go (decLt 64 (f .p))
+      where
+        go : Dec (64 < f .p) → f .p ≤ 64
+        go (yes h) =
+            let a : f .p * f .p ≤ f .p * f .reps = mul-le-mul-left (f .p) l in
+            let b : f .p * 65 ≤ f .p * f .p = mul-le-mul-left (f .p) h in
+            absurd (omega (arith, S .few))
+        go (no h) = omega arith
+
 -- ---- The representation that D is
 
 module _ {f : Frame} {W : List ℕ} {r : ℕ} {D : Listed} (L : Located f W r D) where
@@ -83,3 +113,9 @@ module _ {f : Frame} {W : List ℕ} {r : ℕ} {D : Listed} (L : Located f W r D)
       let t : x ≡ targetOf f W j r = e ∙ ap (λ (E : Listed). targetIn W E j) (L .is) in
       let q = L .stands .target r (L .listed) j a b in
       (t, subst (λ y. y < f .reps) (sym t) (q .0), located-degree ∙ sym (q .1) ∙ ap (degOf f W) (sym t))
+
+  pub located-fixed : (x : ℕ) → x ≡ targetIn W D (f .top) → x ≡ r → Fixed f W r
+  located-fixed x e h = sym (located-target (f .top) x (le-refl _) (L .stands .gens .0) e .0) ∙ h
+
+  pub located-moves : (x : ℕ) → x ≡ targetIn W D (f .top) → ¬ (x ≡ r) → ¬ Fixed f W r
+  located-moves x e h t = h (located-target (f .top) x (le-refl _) (L .stands .gens .0) e .0 ∙ t)

@@ -101,7 +101,7 @@ module _ (f : Frame) (W : List ℕ) where
   leadingIn u r = cond (eqb (leaderIn r) r) (closingIn u r) 0
 
   pub record LevelStands : Type 0 where
-    pub few : 2 * f .reps ≤ maxOrder
+    pub few : f .p * f .reps ≤ maxOrder
     pub gens : (f .top < f .gens) × (f .gens ≤ maxGenerators)
     pub prime : (1 < f .p) × (2 * f .p ≤ maxOrder)
     pub units : Units (f .p)

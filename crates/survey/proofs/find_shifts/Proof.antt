@@ -12,10 +12,10 @@ use Rattle.survey.proofs.find_shifts.Statement.{statement}
 use Rattle.survey.proofs.find_shifts.Tie as tie
 
 abbrev Inv-loop : tie.InvT-loop
-Inv-loop low notes₀ u f reps r₀ notes r = (r ≤ reps) × (reps ≡ f .reps) × Beside 4 notes₀ notes × Filled (shifts notes) (leadingIn f low u) r
+Inv-loop low notes₀ u n f reps r₀ notes r = (r ≤ reps) × (reps ≡ f .reps) × Beside 4 notes₀ notes × Filled (shifts notes) (leadingIn f low u) r
 
 abbrev μ-loop : tie.MeasureT-loop
-μ-loop low notes₀ u f reps r₀ notes r = reps - r
+μ-loop low notes₀ u n f reps r₀ notes r = reps - r
 
 loop-holds : tie.Need-loop-holds Inv-loop μ-loop
 loop-holds c = let z = c .before .before in
@@ -25,7 +25,7 @@ loop-holds c = let z = c .before .before in
 leading-requires : tie.Need-leading-requires Inv-loop μ-loop
 leading-requires c κs = let z = c .before .before .before .before .before in
     let l = c .before .before .loop in
-    (z .pre .0, orbited-beside 4 (omega arith) (l .inv .2) (z .pre .1), search needs)
+    (z .pre .0, orbited-beside 4 (omega arith) (l .inv .2) (z .pre .1), search needs, z .pre .2)
 
 put-note-requires : tie.Need-put-note-requires Inv-loop μ-loop
 put-note-requires c κs = let z = c .before .before .before .before .before .before .before in

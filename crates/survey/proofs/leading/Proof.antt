@@ -18,7 +18,7 @@ returns c = let z = c .before .before .before .before in
     (sym (leading-other (z .args .f) (now (z .args .low)) (now (z .args .u)) (z .args .r) other), z .pre .0 .modulus .0)
 
 closing-requires : tie.Need-closing-requires
-closing-requires c κs = let z = c .before .before .before .before in (z .pre .0, z .pre .1 .lines, z .pre .2)
+closing-requires c κs = let z = c .before .before .before .before in (z .pre .0, z .pre .1 .lines, z .pre .2, z .pre .3)
 
 returns-2 : tie.Need-returns-2
 returns-2 c = let z = c .before .before .before .before .before in
