@@ -53,8 +53,7 @@ fn append_above(
         return at;
     }
     let n = 8 * f.end;
-    let d = survey::listed(&words[..n], notes, f, r);
-    let t = level::target(&words[..n], d, f.top);
+    let t = survey::led_to(&words[..n], notes, f, r);
     if t == r {
         return extend::append_extensions(words, rows, notes, f, at, r);
     }

@@ -1,6 +1,5 @@
 -- Laws of the numbers and the constants of a level that stands in words.
 --
---   led-moves                  what another leads is moved
 --   made-fixed, made-leader, made-none    what a representation gives
 --   number-zero, number-next, number-small      numbers
 --   around-zero, around-next   an entry along an orbit
@@ -19,7 +18,6 @@ use Rattle.definitions.specs.declared.Entry.{Entry}
 use Rattle.definitions.specs.Monomial.{entry, less, act}
 use Rattle.definitions.specs.Presentation.{toNF}
 use Rattle.numbers.proofs.Bools.{cond-eq, cond-ne}
-use Rattle.numbers.proofs.Orbits.{leader, leader-fixed}
 use Rattle.formulas.specs.Formulas.{made, start, around, walk}
 use Rattle.rows.specs.Rows.{Top}
 use Rattle.level.specs.declared.Listed.{Listed}
@@ -27,18 +25,13 @@ use Rattle.level.specs.Stored.{generatorIn}
 use Rattle.level.proofs.Columns.{walk-zero, walk-ends}
 use Rattle.survey.specs.declared.Frame.{Frame}
 use Rattle.survey.specs.Below.{targetOf, sourceIn, leaderIn, madeIn, numberIn, aroundIn, closingIn, leadingIn, LevelStands, Located}
-use Rattle.survey.proofs.Level.{orbits}
+use Rattle.survey.proofs.Marking.{lead-fixed}
 
 module _ (f : Frame) (W : List ℕ) where
   abbrev τ : ℕ → ℕ
   τ = targetOf f W (f .top)
 
   -- ---- Numbers
-
-  -- what another leads is moved
-  pub led-moves : LevelStands f W → (r : ℕ) → r < f .reps → ¬ (leaderIn f W r ≡ r) → ¬ (τ r ≡ r)
-  unfolding orbits leader
-  led-moves S r h n e = n (leader-fixed (orbits f W S) r h e)
 
   pub made-fixed : (r : ℕ) → τ r ≡ r → f .p ≡ madeIn f W r
   unfolding made
@@ -50,7 +43,7 @@ module _ (f : Frame) (W : List ℕ) where
 
   pub made-none : LevelStands f W → (r : ℕ) → r < f .reps → ¬ (leaderIn f W r ≡ r) → 0 ≡ madeIn f W r
   unfolding made
-  made-none S r h n = sym (cond-ne (τ r) r (f .p) _ (led-moves S r h n) ∙ cond-ne (leaderIn f W r) r 1 0 n)
+  made-none S r h n = sym (cond-ne (τ r) r (f .p) _ (λ e. n (lead-fixed f W S r h e)) ∙ cond-ne (leaderIn f W r) r 1 0 n)
 
   pub leading-least : (u : List ℕ) (r : ℕ) → leaderIn f W r ≡ r → leadingIn f W u r ≡ closingIn f W u r
   unfolding leadingIn

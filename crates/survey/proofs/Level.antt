@@ -6,7 +6,6 @@
 --   located-stored, located-line     matrices of the representation that D is, and the lines at which they begin
 --   located-degree, located-matrix, located-column      its degree, a matrix, column 0
 --   located-target             where an intertwiner leads it
---   located-fixed, located-moves     whether the generator on top fixes it
 --   orbits                     the orbits of the generator on top
 --   moved-many, moved-prime    an orbit that moves has p members, so that p is no more than there are representations, and small
 --   reps-half                  representations are few
@@ -14,7 +13,7 @@ use mathlib.Core.Path.{_≡_, refl, ap, sym, _∙_, subst}
 use Prim.Native.Nat.{ℕ, _+_, _*_, _<_, _≤_}
 use native.Mathlib.Numerals.{add-one}
 use native.Mathlib.Omega.{arith}
-use native.Mathlib.Nat.{le-refl, mul-le-mul-left, mul-le-mul-right}
+use native.Mathlib.Nat.{mul-le-mul-left, mul-le-mul-right}
 use native.Mathlib.Decide.{decLt}
 use mathlib.Core.List.{List}
 use lib.ListN.{length}
@@ -113,9 +112,3 @@ module _ {f : Frame} {W : List ℕ} {r : ℕ} {D : Listed} (L : Located f W r D)
       let t : x ≡ targetOf f W j r = e ∙ ap (λ (E : Listed). targetIn W E j) (L .is) in
       let q = L .stands .target r (L .listed) j a b in
       (t, subst (λ y. y < f .reps) (sym t) (q .0), located-degree ∙ sym (q .1) ∙ ap (degOf f W) (sym t))
-
-  pub located-fixed : (x : ℕ) → x ≡ targetIn W D (f .top) → x ≡ r → Fixed f W r
-  located-fixed x e h = sym (located-target (f .top) x (le-refl _) (L .stands .gens .0) e .0) ∙ h
-
-  pub located-moves : (x : ℕ) → x ≡ targetIn W D (f .top) → ¬ (x ≡ r) → ¬ Fixed f W r
-  located-moves x e h t = h (located-target (f .top) x (le-refl _) (L .stands .gens .0) e .0 ∙ t)

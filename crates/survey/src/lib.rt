@@ -6,6 +6,7 @@
 //   Frame                        what a level is made with
 //   note, put_note               reads and stores a field
 //   listed, member               a representation by its first line
+//   led_to                       where the generator on top leads it
 //   find_lines                   notes the first lines
 //   mark, mark_orbit, mark_from, clear, mark_orbits      note leaders and positions
 //   made, count_numbers          note the numbers
@@ -16,7 +17,7 @@ ghost use Prim.Native.Nat.{_+_, _*_, _≤_, _<_};
 ghost use lib.ListN.{length, getD};
 ghost use Rattle.fields.specs.Fields.{field, Inside, Put};
 ghost use Rattle.survey.specs.Notes.{noteWidth, firsts, leaders, positions, numbers, shifts, Beside, Cleared, Marked};
-ghost use Rattle.survey.specs.Below.{degOf, leaderIn, madeIn, numberIn, aroundIn, closingIn, leadingIn, LevelStands, Located, Array, Lines, Orbited, MarkedTo, Marking, CarriedOn};
+ghost use Rattle.survey.specs.Below.{degOf, targetOf, leaderIn, madeIn, numberIn, aroundIn, closingIn, leadingIn, LevelStands, Located, Array, Lines, Orbited, MarkedTo, Marking, CarriedAt, CarriedOn};
 ghost use Rattle.level.specs.Stored.{Below};
 ghost use Rattle.rows.specs.Rows.{Top};
 use definitions::Entry;
@@ -88,6 +89,15 @@ pub fn member(low: &[u32], notes: &[u32], f: Frame, d: u32, r: u32) -> Listed
         line: level::up(s),
         deg: d,
     }
+}
+
+// Where the generator on top leads representation r.
+pub fn led_to(low: &[u32], notes: &[u32], f: Frame, r: u32) -> u32
+    requires { ⌜ LevelStands f (now low) × Lines f (now low) (firsts (now notes)) × (r < f .reps) ⌝ }
+    ensures { λ x. ⌜ x ≡ targetOf f (now (low .entry)) (f .top) r ⌝ }
+{
+    let d = listed(low, notes, f, r);
+    level::target(low, d, f.top)
 }
 
 // Notes the first lines.
@@ -172,8 +182,7 @@ fn made(low: &[u32], notes: &[u32], f: Frame, r: u32) -> u32
     if note(notes, LEADER, r) != r {
         return 0;
     }
-    let d = listed(low, notes, f, r);
-    if level::target(low, d, f.top) == r {
+    if led_to(low, notes, f, r) == r {
         return f.p;
     }
     1
@@ -202,7 +211,7 @@ pub struct Carried {
 
 // An entry taken one step along the orbit.
 fn carry(low: &[u32], notes: &[u32], f: Frame, d: u32, s: Carried) -> Carried
-    requires { ⌜ LevelStands f (now low) × Lines f (now low) (firsts (now notes)) × (s .rep < f .reps) × (d ≡ degOf f (now low) (s .rep)) × Below (f .m) d (s .x) ⌝ }
+    requires { ⌜ LevelStands f (now low) × Lines f (now low) (firsts (now notes)) × CarriedAt f (now low) d s ⌝ }
     ensures { λ t. ⌜ CarriedOn f (now (low .entry)) d s t ⌝ }
 {
     let e = member(low, notes, f, d, s.rep);

@@ -60,7 +60,4 @@ returns c = let z = c .before .before .before .before .before in
     all-wrote (z .args .f) (lowOf (z .args .f) (now (z .args .words))) (now (z .args .rows)) (l .inv .3) e
 
 pub append-all-spec : {M : Type 1} → statement M
-append-all-spec =
-    tie.close
-    (tie.spec
-    Inv-loop μ-loop loop-holds append-above-requires add-r loop-less loop-again same-length same-length-2 returns)
+append-all-spec = tie.close (tie.spec Inv-loop μ-loop loop-holds append-above-requires add-r loop-less loop-again same-length same-length-2 returns)

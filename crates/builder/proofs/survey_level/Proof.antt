@@ -58,5 +58,4 @@ pub survey-level-spec : {M : Type 1} → statement M
 survey-level-spec =
     tie.close
     (tie.spec
-    find-lines-requires mark-orbits-requires count-numbers-requires up-requires word-requires top-requires find-shifts-requires
-    same-length returns)
+    find-lines-requires mark-orbits-requires count-numbers-requires up-requires word-requires top-requires find-shifts-requires same-length returns)

@@ -87,5 +87,4 @@ pub append-generators-spec : {M : Type 1} → statement M
 append-generators-spec =
     tie.close
     (tie.spec
-    Inv-loop μ-loop append-low-requires add-above loop-holds reference-requires append-matrix-requires add-g
-    loop-less loop-again same-length returns)
+    Inv-loop μ-loop append-low-requires add-above loop-holds reference-requires append-matrix-requires add-g loop-less loop-again same-length returns)

@@ -59,7 +59,4 @@ returns c = let z = c .before .before .before .before in
     wrote-as (l .inv .2 .wrote) (ap (λ n. blocks n (λ j. copyWords (a .f) (lowOf (a .f) (now (a .words))) (a .o) (a .k) j (a .o .rep))) e)
 
 pub append-low-spec : {M : Type 1} → statement M
-append-low-spec =
-    tie.close
-    (tie.spec
-    Inv-loop μ-loop add-above loop-holds append-matrix-requires add-g loop-less loop-again same-length returns)
+append-low-spec = tie.close (tie.spec Inv-loop μ-loop add-above loop-holds append-matrix-requires add-g loop-less loop-again same-length returns)

@@ -47,7 +47,4 @@ returns c = let made = c .before .before .before .before in
     wrote-as (c .before .before .append-block .ensures) (piece-lines (a .f) (lowOf (a .f) (now (a .words))) (a .o) (a .k) (a .g) (a .x) src by)
 
 pub append-matrix-spec : {M : Type 1} → statement M
-append-matrix-spec =
-    tie.close
-    (tie.spec
-    factor-requires add-t12 add-t13 add-t14 matrix-line-requires append-block-requires same-length returns)
+append-matrix-spec = tie.close (tie.spec factor-requires add-t12 add-t13 add-t14 matrix-line-requires append-block-requires same-length returns)

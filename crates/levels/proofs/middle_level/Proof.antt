@@ -23,7 +23,4 @@ returns : tie.Need-returns
 returns c = search needs
 
 pub middle-level-spec : {M : Type 1} → statement M
-middle-level-spec =
-    tie.close
-    (tie.spec
-    slice-aggregate-append-level slice-aggregate-append-level-2 append-level-requires same-length returns)
+middle-level-spec = tie.close (tie.spec slice-aggregate-append-level slice-aggregate-append-level-2 append-level-requires same-length returns)

@@ -46,11 +46,4 @@ pub append-line-spec : {M : Type 1} → statement M
 append-line-spec =
     tie.close
     (tie.spec
-    mul-n
-    slice-reshare-prefix-word-at
-    slice-aggregate-word-at
-    word-at-requires
-    add-mod-requires
-    put-line-requires
-    same-length
-    returns)
+    mul-n slice-reshare-prefix-word-at slice-aggregate-word-at word-at-requires add-mod-requires put-line-requires same-length returns)
