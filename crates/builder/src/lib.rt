@@ -53,7 +53,7 @@ fn append_above(
         return at;
     }
     let n = 8 * f.end;
-    let t = survey::led_to(&words[..n], notes, f, r);
+    let t = survey::top_target(&words[..n], notes, f, r);
     if t == r {
         return extend::append_extensions(words, rows, notes, f, at, r);
     }

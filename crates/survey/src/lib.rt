@@ -6,7 +6,7 @@
 //   Frame                        what a level is made with
 //   note, put_note               reads and stores a field
 //   listed, member               a representation by its first line
-//   led_to                       where the generator on top leads it
+//   top_target                   where the generator on top leads it
 //   find_lines                   notes the first lines
 //   mark, mark_orbit, mark_from, clear, mark_orbits      note leaders and positions
 //   made, count_numbers          note the numbers
@@ -91,8 +91,8 @@ pub fn member(low: &[u32], notes: &[u32], f: Frame, d: u32, r: u32) -> Listed
     }
 }
 
-// Where the generator on top leads representation r.
-pub fn led_to(low: &[u32], notes: &[u32], f: Frame, r: u32) -> u32
+// Where the intertwiner of the generator on top leads representation r.
+pub fn top_target(low: &[u32], notes: &[u32], f: Frame, r: u32) -> u32
     requires { ⌜ LevelStands f (now low) × Lines f (now low) (firsts (now notes)) × (r < f .reps) ⌝ }
     ensures { λ x. ⌜ x ≡ targetOf f (now (low .entry)) (f .top) r ⌝ }
 {
@@ -182,7 +182,7 @@ fn made(low: &[u32], notes: &[u32], f: Frame, r: u32) -> u32
     if note(notes, LEADER, r) != r {
         return 0;
     }
-    if led_to(low, notes, f, r) == r {
+    if top_target(low, notes, f, r) == r {
         return f.p;
     }
     1

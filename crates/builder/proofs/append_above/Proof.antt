@@ -22,21 +22,21 @@ returns c = let z = c .before .before .before .before .before in
 mul-n : tie.Need-mul-n
 mul-n c = let S = c .before .before .before .before .before .before .pre .1 in omega (arith, S .from, S .room)
 
-slice-reshare-prefix-led-to : tie.Need-slice-reshare-prefix-led-to
-slice-reshare-prefix-led-to c = let S = c .before .before .before .before .before .before .pre .1 in omega (arith, S .from, S .room)
+slice-reshare-prefix-top-target : tie.Need-slice-reshare-prefix-top-target
+slice-reshare-prefix-top-target c = let S = c .before .before .before .before .before .before .pre .1 in omega (arith, S .from, S .room)
 
-slice-aggregate-led-to : tie.Need-slice-aggregate-led-to
-slice-aggregate-led-to c = let z = c .before .before .before .before .before .before .before in
+slice-aggregate-top-target : tie.Need-slice-aggregate-top-target
+slice-aggregate-top-target c = let z = c .before .before .before .before .before .before .before in
     sym (length-take-le _ (now (z .args .words)) (omega (arith, z .pre .1 .from, z .pre .1 .room)))
 
-led-to-requires : tie.Need-led-to-requires
-led-to-requires c κs = let P = c .before .before .before .before .before .before .before .pre .0 in (P .0 .sound .stands, P .0 .orbited .lines, P .1)
+top-target-requires : tie.Need-top-target-requires
+top-target-requires c κs = let P = c .before .before .before .before .before .before .before .pre .0 in (P .0 .sound .stands, P .0 .orbited .lines, P .1)
 
 append-extensions-requires : tie.Need-append-extensions-requires
 append-extensions-requires c κs = let t = c .before .before in
     let z = t .before .before .before .before .before .before .before .before in
     let P = z .pre .0 in
-    extensions-asked (z .args .f) _ (now (z .args .rows)) (z .args .r) (t .led-to .ensures) (P .0) (P .1) (c .before .if2 .taken) (z .pre .1)
+    extensions-asked (z .args .f) _ (now (z .args .rows)) (z .args .r) (t .top-target .ensures) (P .0) (P .1) (c .before .if2 .taken) (z .pre .1)
 
 same-length : tie.Need-same-length
 same-length c = search needs
@@ -45,7 +45,7 @@ returns-2 : tie.Need-returns-2
 returns-2 c = let i = c .before .before .before .before in
     let z = i .before .before .before .before .before .before .before .before .before in
     let P = z .pre .0 in
-    let above = extensions-above (z .args .f) _ (now (z .args .rows)) (z .args .r) (i .before .led-to .ensures) (P .0) (P .1) (i .if2 .taken) in
+    let above = extensions-above (z .args .f) _ (now (z .args .rows)) (z .args .r) (i .before .top-target .ensures) (P .0) (P .1) (i .if2 .taken) in
     wrote-as (c .before .before .append-extensions .ensures) above
 
 append-induction-requires : tie.Need-append-induction-requires
@@ -55,7 +55,7 @@ append-induction-requires c κs = let i = c .before .before in
     let P = z .pre .0 in
     let led = noted-led (P .0 .orbited) (P .1) (o .before .note .ensures) (o .if1 .left) in
     let rows = now (z .args .rows) in
-    induction-asked (z .args .f) _ rows (z .args .r) (i .before .led-to .ensures) (P .0) (P .1) (i .if2 .left) led (now (z .args .blocks)) (P .2) (z .pre .1)
+    induction-asked (z .args .f) _ rows (z .args .r) (i .before .top-target .ensures) (P .0) (P .1) (i .if2 .left) led (now (z .args .blocks)) (P .2) (z .pre .1)
 
 same-length-2 : tie.Need-same-length-2
 same-length-2 c = search needs
@@ -70,12 +70,12 @@ returns-3 c = let E = c .before .before .before .before in
     let z = o .before .before .before .before .before in
     let P = z .pre .0 in
     let led = noted-led (P .0 .orbited) (P .1) (o .before .note .ensures) (o .if1 .left) in
-    let above = induction-above (z .args .f) _ (now (z .args .rows)) (z .args .r) (i .before .led-to .ensures) (P .0) (P .1) (i .if2 .left) led in
+    let above = induction-above (z .args .f) _ (now (z .args .rows)) (z .args .r) (i .before .top-target .ensures) (P .0) (P .1) (i .if2 .left) led in
     wrote-as (E .append-induction .ensures) above
 
 pub append-above-spec : {M : Type 1} → statement M
 append-above-spec =
     tie.close
     (tie.spec
-    note-requires returns mul-n slice-reshare-prefix-led-to slice-aggregate-led-to led-to-requires append-extensions-requires
+    note-requires returns mul-n slice-reshare-prefix-top-target slice-aggregate-top-target top-target-requires append-extensions-requires
     same-length returns-2 append-induction-requires same-length-2 same-length-3 returns-3)

@@ -1,10 +1,10 @@
--- `led_to` reads the reference of the generator on top.
+-- `top_target` reads the reference of the generator on top.
 use Prim.Native.Nat.{suc}
 use native.Mathlib.Nat.{le-refl}
 use Rattle.survey.proofs.Level.{located-stored, located-target}
 use borrow.Author.Needs.{needs}
-use Rattle.survey.proofs.led_to.Statement.{statement}
-use Rattle.survey.proofs.led_to.Tie as tie
+use Rattle.survey.proofs.top_target.Statement.{statement}
+use Rattle.survey.proofs.top_target.Tie as tie
 
 listed-requires : tie.Need-listed-requires
 listed-requires c κs = search needs
@@ -17,5 +17,5 @@ returns : tie.Need-returns
 returns c = let z = c .before .before .before .before in
     located-target (c .before .listed .ensures) (z .args .f .top) _ (le-refl _) (z .pre .0 .gens .0) (c .target .ensures) .0
 
-pub led-to-spec : {M : Type 1} → statement M
-led-to-spec = tie.close (tie.spec listed-requires target-requires returns)
+pub top-target-spec : {M : Type 1} → statement M
+top-target-spec = tie.close (tie.spec listed-requires target-requires returns)
