@@ -16,7 +16,7 @@ use lib.Seq.{ext-getD}
 use borrow.Author.Tests.{le-leb}
 use Rattle.definitions.specs.declared.Entry.{Entry}
 use Rattle.definitions.specs.Lists.{upto, blocks, sum}
-use Rattle.definitions.specs.Monomial.{Matrix, entry, col, less, scale, image, Rep, Level, repOf, noRep}
+use Rattle.definitions.specs.Monomial.{Matrix, entry, col, scale, Rep, Level, repOf, noRep}
 use Rattle.definitions.specs.Table.{levelWords}
 use Rattle.definitions.specs.Steps
 use Rattle.formulas.specs.Formulas as Fm
@@ -63,7 +63,8 @@ module _ (R : Rung) where
             ap (λ k. scale m k (repOf L s .matrix g)) (cond-ne g i _ _ (λ e. omega arith)) ∙ scale-zero R h (stands .represents g l s h)
             ∙ sym (extension-low R s κ g (omega arith) ∙ cond-lt g i _ _ l)
         go (no l) (yes e) =
-            ap (λ k. scale m k (repOf L s .matrix g)) (cond-eq g i _ _ e ∙ ap (λ z. z / p R + κ * (m / p R)) shift-s) ∙ ap (λ g. scale m (Steps.s (P R) m i L s / p R + κ * (m / p R)) (repOf L s .matrix g)) e
+            ap (λ k. scale m k (repOf L s .matrix g)) (cond-eq g i _ _ e ∙ ap (λ z. z / p R + κ * (m / p R)) shift-s)
+            ∙ ap (λ g. scale m (Steps.s (P R) m i L s / p R + κ * (m / p R)) (repOf L s .matrix g)) e
             ∙ sym (extension-low R s κ g (omega arith) ∙ cond-ge g i _ _ (omega arith) ∙ extended-is)
           where
             extended-is : Steps.extended (P R) m i L s κ ≡ scale m (Steps.s (P R) m i L s / p R + κ * (m / p R)) (repOf L s .matrix i)
@@ -111,19 +112,22 @@ module _ (R : Rung) where
     unfolding Fm.blockTo Fm.blockBy
     top-parts b = (cond-ge i i _ _ (omega arith) ∙ cond-eq i i _ _ refl, cond-ge i i _ _ (omega arith) ∙ cond-eq i i _ _ refl)
 
-    top-block : (b : ℕ) → b < e → block i b ≡ Steps.lift (suc b * deg R s) (repOf L (o b) .matrix i)
+    -- block b of generator i, by where it goes and what it is multiplied by
+    top-is : (b : ℕ) {x y : ℕ} → Fm.nextOf (Sc R) b ≡ x → Fm.shiftOf (Sc R) s b ≡ y → block i b ≡ Steps.lift (x * deg R s) (scale m y (repOf L (o b) .matrix i))
     unfolding block
+    top-is b {x} {y} q t =
+        ap₂ (λ x y. Steps.lift (x * deg R s) (scale m y (repOf L (Fm.orbit (Sc R) s b) .matrix i))) (top-parts b .0 ∙ q) (top-parts b .1 ∙ t)
+        ∙ ap (λ t. Steps.lift (x * deg R s) (scale m y (repOf L t .matrix i))) (orbit-is b)
+
+    top-block : (b : ℕ) → b < e → block i b ≡ Steps.lift (suc b * deg R s) (repOf L (o b) .matrix i)
     top-block b l =
-        ap₂ (λ x y. Steps.lift (x * deg R s) (scale m y (repOf L (Fm.orbit (Sc R) s b) .matrix i))) (top-parts b .0 ∙ cond-lt (suc b) (p R) _ _ (omega arith)) (top-parts b .1 ∙ cond-lt (suc b) (p R) _ _ (omega arith))
-        ∙ ap (λ t. Steps.lift (suc b * deg R s) (scale m 0 (repOf L t .matrix i))) (orbit-is b)
+        top-is b (cond-lt (suc b) (p R) _ _ (omega arith)) (cond-lt (suc b) (p R) _ _ (omega arith))
         ∙ ap (Steps.lift (suc b * deg R s)) (scale-zero R (orb-below R s h mv own b) (stands .intertwines i (omega arith) (R .in-range) (o b) (orb-below R s h mv own b)))
 
     last-block : block i e ≡ Steps.lastBlock (P R) m i L s
-    unfolding block
     last-block =
-        ap₂ (λ x y. Steps.lift (x * deg R s) (scale m y (repOf L (Fm.orbit (Sc R) s e) .matrix i))) (top-parts e .0 ∙ cond-ge (suc e) (p R) _ _ (omega arith)) (top-parts e .1 ∙ cond-ge (suc e) (p R) _ _ (omega arith) ∙ shift-is R s h ∙ sym (defect-formula R s h mv own))
-        ∙ lift-zero (0 * deg R s) _ (omega arith)
-        ∙ ap (λ t. scale m (less m (col (image m (repOf L s) i (P R .u i)) 0 .exp) (col (Steps.along (P R) m i L s (p R)) 0 .exp)) (repOf L t .matrix i)) (orbit-is e) ∙ sym (last-formula R s h mv own)
+        top-is e (cond-ge (suc e) (p R) _ _ (omega arith)) (cond-ge (suc e) (p R) _ _ (omega arith) ∙ shift-is R s h ∙ sym (defect-formula R s h mv own))
+        ∙ lift-zero (0 * deg R s) _ (omega arith) ∙ sym (last-formula R s h mv own)
 
     up-parts : (g b : ℕ) → i < g → g < T .n → (Fm.blockTo (Sc R) s g b ≡ Fm.position (Sc R) (repOf L (Fm.orbit (Sc R) s b) .ref g 0)) × (Fm.blockBy (Sc R) s g b ≡ Steps.c (P R) m i L g s b)
     unfolding Fm.blockTo Fm.blockBy
@@ -244,5 +248,6 @@ module _ (R : Rung) where
     same-ref = λ r g c h b l. same-ref g c b r h;
   }
 
-  pub same-words : levelWords (R .T .n) (suc (R .i)) (Steps.nextLevel (R .T .context .P) (R .m) (R .i) (R .L)) ≡ levelWords (R .T .n) (suc (R .i)) (Fm.levelBy (sourceOf (R .T .context .P) (R .m) (R .i) (R .L)))
+  pub same-words : levelWords (R .T .n) (suc (R .i)) (Steps.nextLevel (R .T .context .P) (R .m) (R .i) (R .L))
+      ≡ levelWords (R .T .n) (suc (R .i)) (Fm.levelBy (sourceOf (R .T .context .P) (R .m) (R .i) (R .L)))
   same-words = agree-words (T .n) (suc i) _ _ by-formulas

@@ -114,8 +114,10 @@ module _ (R : Rung) where
   walk-value r (suc k) h l w z e =
       let (a, b) = walk-value r k h (omega arith) (w .1) z e in
       let sh = stands .represents k (omega arith) r h in
-      let (c, d) = iter-shows (act m (repOf L r .matrix k)) (gens k) (λ y f. (act-shows sh y f, move-rep sh y f)) (w .0) (move (value (maps (E R) Ω) gens k (w .1)) z) b in
-      let q : move (power (maps (E R) Ω) (gens k) (w .0)) (move (value (maps (E R) Ω) gens k (w .1)) z) ≡ move (value (maps (E R) Ω) gens (suc k) w) z = sym (ap (λ B. move B z) (value-suc (maps (E R) Ω) gens k w) ∙ move-mul _ _ z) in
+      let y : Z = move (value (maps (E R) Ω) gens k (w .1)) z in
+      let (c, d) = iter-shows (act m (repOf L r .matrix k)) (gens k) (λ y f. (act-shows sh y f, move-rep sh y f)) (w .0) y b in
+      let q : move (power (maps (E R) Ω) (gens k) (w .0)) y ≡ move (value (maps (E R) Ω) gens (suc k) w) z
+      = sym (ap (λ B. move B z) (value-suc (maps (E R) Ω) gens k w) ∙ move-mul _ _ z) in
       (ap (iter (act m (repOf L r .matrix k)) (w .0)) a ∙ c ∙ ap stand q, ap (λ y. rep R (y .0)) (sym q) ∙ d)
 
   pub walk-shows : (r : ℕ) → r < N R → (x : Nf (T .context) i) (z : Z) → rep R (z .0) ≡ r
@@ -151,7 +153,8 @@ module _ (R : Rung) where
   pub turn-same : (r k : ℕ) → Fm.orbit Sc r k ≡ iter (τ R) k r
   turn-same r k = ap (λ t. iter t k r) (target-same R i)
 
-  pub around-shows : (r k : ℕ) → r < N R → (Fm.around Sc r k ≡ stand (move (power (maps (E R) Ω) (F .X i) k) (origin r))) × (rep R (move (power (maps (E R) Ω) (F .X i) k) (origin r) .0) ≡ iter (τ R) k r)
+  pub around-shows : (r k : ℕ) → r < N R
+      → (Fm.around Sc r k ≡ stand (move (power (maps (E R) Ω) (F .X i) k) (origin r))) × (rep R (move (power (maps (E R) Ω) (F .X i) k) (origin r) .0) ≡ iter (τ R) k r)
   unfolding Fm.around
   around-shows r zero h =
       let q : origin r ≡ move (power (maps (E R) Ω) (F .X i) zero) (origin r) = sym (ap (λ B. move B (origin r)) (power-zero (maps (E R) Ω) (F .X i)) ∙ move-one (origin r)) in
@@ -167,7 +170,9 @@ module _ (R : Rung) where
   pub shift-is : (r : ℕ) → r < N R → Fm.shift Sc r ≡ (residues m pos .neg (defect (S R) F (first R r))) .0
   unfolding Fm.shift uNf
   shift-is r h =
+      let u : Nf (T .context) i = uNf (T .context) i in
       ap₂ (less m)
-      (ap (λ x. Fm.walk m (λ g. repOf L r .matrix g) i (P R .u i) x .exp) (sym (origin-stands r)) ∙ ap (λ (x : Entry). x .exp) (walk-shows r h (uNf (T .context) i) (origin r) (origin-rep r h) .0) ∙ stand-exp _ ∙ ap (λ z. z .1 .0) (origin-moves (F .d (uNf (T .context) i)) r))
+      (ap (λ x. Fm.walk m (λ g. repOf L r .matrix g) i (P R .u i) x .exp) (sym (origin-stands r))
+      ∙ ap (λ (x : Entry). x .exp) (walk-shows r h u (origin r) (origin-rep r h) .0) ∙ stand-exp _ ∙ ap (λ z. z .1 .0) (origin-moves (F .d u) r))
       (ap (λ (x : Entry). x .exp) (around-shows r (p R) h .0) ∙ stand-exp _ ∙ ap (λ z. z .1 .0) (origin-moves (power (maps (E R) Ω) (F .X i) (p R)) r ∙ defect-eq (S R) F (first R r)))
       ∙ less-over R _ _

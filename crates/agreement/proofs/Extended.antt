@@ -41,7 +41,9 @@ module _ (R : Rung) where
   open Mul (maps (E R) Ω) using (mul as _*′_)
 
   pub scale-zero : {r s : ℕ} {M : Matrix} {A : Map (E R) Ω} → r < N R → Shows m (Φ R) r s M A → scale m 0 M ≡ M
-  scale-zero {r} {s} {M} {A} h sh = shown-unique m pos (Φ R) complete h (shows-scale m pos (Φ R) {A = A} {B = A} 0 sh (λ a e. (refl, sym (ap (λ z. z % m) (add-zero _) ∙ mod-eq-of-lt ((A a) .1 .1))))) sh
+  scale-zero {r} {s} {M} {A} h sh =
+      shown-unique m pos (Φ R) complete h
+      (shows-scale m pos (Φ R) {A = A} {B = A} 0 sh (λ a e. (refl, sym (ap (λ z. z % m) (add-zero _) ∙ mod-eq-of-lt ((A a) .1 .1))))) sh
 
   -- ---- Generator i of extension 0
 
@@ -82,7 +84,8 @@ module _ (R : Rung) where
         let (c, d) = iter-shows R (Fm.topEntry (Sc R) r) (Y (S R) F (𝓢 R)) (top-shows r h f) (suc (P R .w i j .0)) (move R (F .d x) o) b in
         let q : move R (power (maps (E R) Ω) (Y (S R) F (𝓢 R)) (suc (P R .w i j .0))) (move R (F .d x) o) ≡ φ (S R) F (𝓢 R) j ij jn (first R r)
         = sym (move-mul R _ _ o) ∙ ap (λ B. move R B o) (sym (φ-is (S R) F (𝓢 R) j ij jn)) ∙ origin-moves R _ r in
-        (ap (iter (Fm.topEntry (Sc R) r) (suc (P R .w i j .0))) (ap (Fm.walk m (λ g. repOf L r .matrix g) i (P R .w i j .1)) (sym (origin-stands R r)) ∙ a) ∙ c ∙ ap (stand R) q, ap (λ y. rep R (y .0)) (sym q) ∙ d)
+        let walked = ap (Fm.walk m (λ g. repOf L r .matrix g) i (P R .w i j .1)) (sym (origin-stands R r)) ∙ a in
+        (ap (iter (Fm.topEntry (Sc R) r) (suc (P R .w i j .0))) walked ∙ c ∙ ap (stand R) q, ap (λ y. rep R (y .0)) (sym q) ∙ d)
 
     abbrev Xj : Shows m (Φ R) r (F .target j r) (repOf L r .matrix j) (F .X j)
     Xj = stands .intertwines j (omega arith) jn r h
@@ -90,7 +93,8 @@ module _ (R : Rung) where
     pub landing-is : Fm.landing (Sc R) j r ≡ Steps.l (P R) m i L j r
     unfolding Fm.landing
     landing-is =
-        ap₂ (λ x y. less m x y / (m / p R)) left right ∙ ap₂ (_/_) (less-back R _ _) (share-is R) ∙ sym (l-is R j ij jn r h f ∙ log-value m pos (parts (S R) m pos F (ready R)) _ ∙ ap (λ z. z / R .share) (sym q-is))
+        let steps = l-is R j ij jn r h f ∙ log-value m pos (parts (S R) m pos F (ready R)) _ ∙ ap (λ z. z / R .share) (sym q-is) in
+        ap₂ (λ x y. less m x y / (m / p R)) left right ∙ ap₂ (_/_) (less-back R _ _) (share-is R) ∙ sym steps
       where
         a : Ω
         a = first R r
@@ -109,7 +113,8 @@ module _ (R : Rung) where
 
         right : Fm.topEntry (Sc R) (repOf L r .ref j 0) (act m (repOf L r .matrix j) (entry 0 0)) .exp ≡ (((Y (S R) F (𝓢 R) *′ F .X j) a) .1) .0
         right =
-            ap₂ (λ t x. Fm.topEntry (Sc R) t x .exp) (sym (R .literal j r)) (ap (act m (repOf L r .matrix j)) (sym (origin-stands R r)) ∙ act-shows R Xj o ro ∙ ap (stand R) (origin-moves R (F .X j) r))
+            let moved = ap (act m (repOf L r .matrix j)) (sym (origin-stands R r)) ∙ act-shows R Xj o ro ∙ ap (stand R) (origin-moves R (F .X j) r) in
+            ap₂ (λ t x. Fm.topEntry (Sc R) t x .exp) (sym (R .literal j r)) moved
             ∙ ap (λ (x : Entry). x .exp) (top-shows (F .target j r) (target-below R j ij jn r h) (target-fixed R j ij jn r h f) (F .X j a) (Xj .maps-to a (first-rep R r h)) .0) ∙ stand-exp R _
             ∙ ap (λ z. z .1 .0) (move-pair (Y (S R) F (𝓢 R)) (F .X j))
 

@@ -72,7 +72,8 @@ module _ (R : Rung) where
 
         defect-here : defect (S R) F (first R (rep R (z .0))) ≡ defect (S R) F (first R r)
         defect-here =
-            defect-const (S R) F _ _ (first-rep R (rep R (z .0)) (rep-below R (z .0)) ∙ sym (of z e .back) ∙ sym (rep-power F (τ R) (F .X i) (X-maps (S R) F) b (first R r) ∙ ap (iter (τ R) b) (first-rep R r h)))
+            let along = rep-power F (τ R) (F .X i) (X-maps (S R) F) b (first R r) ∙ ap (iter (τ R) b) (first-rep R r h) in
+            defect-const (S R) F _ _ (first-rep R (rep R (z .0)) (rep-below R (z .0)) ∙ sym (of z e .back) ∙ sym along)
             ∙ defect-power (S R) F b (first R r)
 
         go : Dec (suc b < p R) → Fm.shiftOf (Sc R) r b ≡ σ (S R) m pos F (ready R) (rep R (z .0)) .0
@@ -81,7 +82,8 @@ module _ (R : Rung) where
             let q : b ≡ p R - 1 = omega (arith, of z e .below) in
             cond-ge (suc b) (p R) _ _ (omega arith) ∙ shift-is R r h ∙ sym (ap (λ z. z .0) (σ-last (S R) m pos F (ready R) (rep R (z .0)) (of z e .moved) q ∙ ap neg defect-here))
 
-    pub plus-shows : (z : Z R) → leader (O R) (rep R (z .0)) ≡ r → Fm.plus m (Fm.shiftOf (Sc R) r (position (O R) (rep R (z .0)))) (act m (repOf L (rep R (z .0)) .matrix i) (stand R z)) ≡ stand R (move R Yo z)
+    pub plus-shows : (z : Z R) → leader (O R) (rep R (z .0)) ≡ r
+        → Fm.plus m (Fm.shiftOf (Sc R) r (position (O R) (rep R (z .0)))) (act m (repOf L (rep R (z .0)) .matrix i) (stand R z)) ≡ stand R (move R Yo z)
     unfolding Fm.plus stand move
     plus-shows z e =
         let k : Residue m = σ (S R) m pos F (ready R) (rep R (z .0)) in
@@ -190,6 +192,7 @@ module _ (R : Rung) where
       left-same b l =
           let (a, e) = conjugate-entry b l in
           let z : Z R = φo (mem b) in
+          let Xj = stands .intertwines j (omega arith) jn (rep R (z .0)) (rep-below R (z .0)) in
           ap (λ (x : Moved). act m (repOf L (Fm.orbit (Sc R) r (x .block)) .matrix j) (x .at) .exp) a ∙ ap (λ t. act m (repOf L t .matrix j) (stand R z) .exp) (orbit-back z e)
-          ∙ ap (λ (x : Entry). x .exp) (act-shows R (stands .intertwines j (omega arith) jn (rep R (z .0)) (rep-below R (z .0))) z refl) ∙ stand-exp R _ ∙ ap (λ y. y .1 .0) (move-pair (F .X j) φo (mem b))
+          ∙ ap (λ (x : Entry). x .exp) (act-shows R Xj z refl) ∙ stand-exp R _ ∙ ap (λ y. y .1 .0) (move-pair (F .X j) φo (mem b))
           ∙ sym (ap (λ (x : Entry). x .exp) (at-block R j ij jn r h mv own (left-shows R j ij jn r h mv own) b l))

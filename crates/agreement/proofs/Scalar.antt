@@ -11,7 +11,7 @@ use lib.Dec.{eqb}
 use Rattle.definitions.specs.declared.Entry.{Entry}
 use Rattle.definitions.specs.Lists.{iter, least}
 use Rattle.definitions.specs.Presentation.{Mul}
-use Rattle.definitions.specs.Monomial.{entry, col, less, act, repOf}
+use Rattle.definitions.specs.Monomial.{Matrix, entry, col, less, act, repOf}
 use Rattle.definitions.specs.Steps
 use Rattle.formulas.specs.Formulas as Fm
 use Rattle.numbers.proofs.Orbits.{leaderOf, positionOf, leader, position, iter-below, leader-below, leader-leader, leader-moved}
@@ -84,7 +84,9 @@ module _ (R : Rung) where
         in-s = ap (leader (O R)) rz ∙ target-orbit R j ij jn b r h mv
 
         right-of : ℕ → ℕ
-        right-of u = Fm.plus m (Fm.shiftOf (Sc R) (Fm.leader (Sc R) (repOf L u .ref j 0)) (Fm.position (Sc R) (repOf L u .ref j 0))) (act m (repOf L (repOf L u .ref j 0) .matrix i) (act m (repOf L u .matrix j) (entry 0 0))) .exp
+        right-of u =
+            let q : ℕ = repOf L u .ref j 0 in
+            Fm.plus m (Fm.shiftOf (Sc R) (Fm.leader (Sc R) q) (Fm.position (Sc R) q)) (act m (repOf L q .matrix i) (act m (repOf L u .matrix j) (entry 0 0))) .exp
 
         moved-origin : act m (repOf L t .matrix j) (entry 0 0) ≡ stand R z
         moved-origin = ap (act m (repOf L t .matrix j)) (sym (origin-stands R t)) ∙ act-shows R Xj (origin R t) (origin-rep R t ht) ∙ ap (stand R) (origin-moves R (F .X j) t)
@@ -98,9 +100,10 @@ module _ (R : Rung) where
     scalar-same (suc t) =
         let b : ℕ = Fm.blockAt (Sc R) j r t in
         let l : b < p R = subst (λ k. k < p R) (sym (block-is R r h mv own j ij jn t)) (mod-lt _ (omega (arith, T .context .two i))) in
+        let side : Matrix → ℕ → ℕ = λ M k. col M (k * deg R r) .exp in
         sym (less-mod m pos _ _)
         ∙ ap₂ (λ x y. less m (Fm.scalarAt (Sc R) j r t + x) y) (right-same b l) (left-same R r h mv own j ij jn b l)
-        ∙ ap₂ (λ x k. less m (x + col (Steps.rightSide (P R) m i L j r) (k * deg R r) .exp) (col (Steps.leftSide (P R) m i L j r) (k * deg R r) .exp)) (scalar-same t) (block-same R r h mv own j ij jn t)
+        ∙ ap₂ (λ x k. less m (x + side (Steps.rightSide (P R) m i L j r) k) (side (Steps.leftSide (P R) m i L j r) k)) (scalar-same t) (block-same R r h mv own j ij jn t)
 
     pub scalars : (b : ℕ) → Fm.scalar (Sc R) j r b ≡ Steps.c (P R) m i L j r b
     unfolding Fm.scalar Steps.c

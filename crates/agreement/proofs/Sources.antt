@@ -17,7 +17,7 @@ use borrow.Author.Tests.{eq-eqb, le-leb}
 use Rattle.definitions.specs.declared.Entry.{Entry}
 use Rattle.definitions.specs.Lists.{upto, blocks, sum, anyBelow, leastFrom, least, iter}
 use Rattle.definitions.specs.Presentation.{NF}
-use Rattle.definitions.specs.Monomial.{Matrix, entry, col, less, act, scale, Rep, repOf, noRep}
+use Rattle.definitions.specs.Monomial.{Matrix, entry, col, less, act, scale, Rep, Level, repOf, noRep}
 use Rattle.definitions.specs.Steps.{lift}
 use Rattle.definitions.specs.Table.{lineOf, repWords, levelWords}
 use Rattle.formulas.specs.Formulas as Fm
@@ -38,6 +38,23 @@ leastFrom-below (suc n) k q q′ h = ap₂ (λ b x. cond b k x) (h k (omega arit
 least-below : (n : ℕ) (q q′ : ℕ → Bool) → ((j : ℕ) → j < n → q j ≡ q′ j) → least n q ≡ least n q′
 unfolding least
 least-below n q q′ h = leastFrom-below n 0 q q′ (λ j a b. h j (omega arith))
+
+-- ---- By the kind of a generator: below the one on top, that one, or above
+
+by-kind : (g i b : ℕ) {x x′ y y′ : ℕ} → x ≡ x′ → (i < g → y ≡ y′) → cond (ltb g i) b (cond (eqb g i) x y) ≡ cond (ltb g i) b (cond (eqb g i) x′ y′)
+by-kind g i b {x} {x′} {y} {y′} e h = go (decLt i g) (ℕ-discrete g i)
+  where
+    go : Dec (i < g) → Dec (g ≡ i) → cond (ltb g i) b (cond (eqb g i) x y) ≡ cond (ltb g i) b (cond (eqb g i) x′ y′)
+    go (yes a) d = ap₂ (λ x y. cond (ltb g i) b (cond (eqb g i) x y)) e (h a)
+    go (no a) (yes q) = ap (cond (ltb g i) b) (cond-eq g i _ _ q ∙ e ∙ sym (cond-eq g i _ _ q))
+    go (no a) (no q) = cond-lt g i _ _ (omega arith) ∙ sym (cond-lt g i _ _ (omega arith))
+
+not-above : (g i : ℕ) {x x′ y y′ : ℕ} → x ≡ x′ → (i < g → y ≡ y′) → cond (leb g i) x y ≡ cond (leb g i) x′ y′
+not-above g i {x} {x′} {y} {y′} e h = go (decLt i g)
+  where
+    go : Dec (i < g) → cond (leb g i) x y ≡ cond (leb g i) x′ y′
+    go (yes a) = ap₂ (cond (leb g i)) e (h a)
+    go (no a) = cond-true (leb g i) _ _ (le-leb g i (omega arith)) ∙ e ∙ sym (cond-true (leb g i) _ _ (le-leb g i (omega arith)))
 
 pub record Twins : Type 0 where
   pub m : ℕ
@@ -87,7 +104,8 @@ module _ (T : Twins) where
 
   leader-in : (r : ℕ) → r < count → Fm.leader left r < count
   leader-in r h =
-      let a : Fm.leader left r ≤ r = least-least count (λ q. anyBelow p (λ k. eqb (iter (target i) k q) r)) r (anyBelow-intro p (λ k. eqb (iter (target i) k r) r) 0 (T .p-pos) (eq-eqb _ _ (iter-zero (target i) r))) in
+      let own = anyBelow-intro p (λ k. eqb (iter (target i) k r) r) 0 (T .p-pos) (eq-eqb _ _ (iter-zero (target i) r)) in
+      let a : Fm.leader left r ≤ r = least-least count (λ q. anyBelow p (λ k. eqb (iter (target i) k q) r)) r own in
       omega arith
 
   position-same : (r : ℕ) → r < count → Fm.position left r ≡ Fm.position right r
@@ -155,8 +173,9 @@ module _ (T : Twins) where
     conj-same : (k : ℕ) → Fm.conjugateEntry left j r k ≡ Fm.conjugateEntry right j r k
     unfolding Fm.conjugateEntry
     conj-same k =
+        let walked = walk-same (Fm.orbit left r k) i (orbit-in r k h) (omega arith) (w j .1) (entry 0 0) ∙ ap (λ t. Fm.walk m (matrix′ t) i (w j .1) (entry 0 0)) (orbit-same k r h .0) in
         iter-same (Fm.cycleEntry left r) (Fm.cycleEntry right r) (cycle-same r h) (suc (w j .0)) _
-        ∙ ap (iter (Fm.cycleEntry right r) (suc (w j .0))) (λ o. record { block = k; at = (walk-same (Fm.orbit left r k) i (orbit-in r k h) (omega arith) (w j .1) (entry 0 0) ∙ ap (λ t. Fm.walk m (matrix′ t) i (w j .1) (entry 0 0)) (orbit-same k r h .0)) o })
+        ∙ ap (iter (Fm.cycleEntry right r) (suc (w j .0))) (λ o. record { block = k; at = walked o })
         ∙ ap (λ (v : NF (suc i)). iter (Fm.cycleEntry right r) (suc (v .0)) (record { block = k; at = Fm.walk m (matrix′ (Fm.orbit right r k)) i (v .1) (entry 0 0) })) (T .word-same j a b)
 
     left-same : (k : ℕ) → Fm.leftAt left j r k ≡ Fm.leftAt right j r k
@@ -176,8 +195,10 @@ module _ (T : Twins) where
     unfolding Fm.rightAt
     right-same k =
         let q : ℕ = target j (Fm.orbit left r k) in
+        let leaders = leader-same q ∙ ap (Fm.leader right) (to-same k) in
+        let positions = position-same q (to-in k) ∙ ap (Fm.position right) (to-same k) in
         ap₂ (λ c x. Fm.plus m c x .exp)
-        (shiftOf-same (Fm.leader left q) (Fm.position left q) (leader-in q (to-in k)) ∙ ap₂ (Fm.shiftOf right) (leader-same q ∙ ap (Fm.leader right) (to-same k)) (position-same q (to-in k) ∙ ap (Fm.position right) (to-same k)))
+        (shiftOf-same (Fm.leader left q) (Fm.position left q) (leader-in q (to-in k)) ∙ ap₂ (Fm.shiftOf right) leaders positions)
         (ap₂ (λ M N. act m M (act m N (entry 0 0))) (T .matrix-same q i (to-in k) in-range ∙ ap (λ t. matrix′ t i) (to-same k)) (orbit-matrix r k j h b))
 
     pub block-same : (t : ℕ) → Fm.blockAt left j r t ≡ Fm.blockAt right j r t
@@ -205,38 +226,19 @@ module _ (T : Twins) where
 
     extension-ref : (k g c : ℕ) → g < n → Fm.extensionAt left r k .ref g c ≡ Fm.extensionAt right r k .ref g c
     unfolding Fm.extensionAt
-    extension-ref k g c l = go (decLt i g)
-      where
-        go : Dec (i < g) → cond (leb g i) r (Fm.start left (target g r) + (Fm.landing left g r + k * suc (w g .0)) % p) ≡ cond (leb g i) r (Fm.start right (target′ g r) + (Fm.landing right g r + k * suc (w′ g .0)) % p)
-        go (yes a) =
-            let in-t : target g r < count = T .target-below g r (omega arith) l h in
-            ap₂ (λ s d. cond (leb g i) r (s + (d + k * suc (w g .0)) % p)) (start-same (target g r) (omega arith) ∙ ap (Fm.start right) (T .target-same g r (omega arith) l h)) (landing-same g r a l h)
-            ∙ ap (λ (v : NF (suc i)). cond (leb g i) r (Fm.start right (target′ g r) + (Fm.landing right g r + k * suc (v .0)) % p)) (T .word-same g a l)
-        go (no a) = cond-true (leb g i) _ _ (le-leb g i (omega arith)) ∙ sym (cond-true (leb g i) _ _ (le-leb g i (omega arith)))
+    extension-ref k g c l = not-above g i refl (λ a.
+        let in-t : target g r < count = T .target-below g r (omega arith) l h in
+        let starts = start-same (target g r) (omega arith) ∙ ap (Fm.start right) (T .target-same g r (omega arith) l h) in
+        ap₂ (λ s d. s + (d + k * suc (w g .0)) % p) starts (landing-same g r a l h)
+        ∙ ap (λ (v : NF (suc i)). Fm.start right (target′ g r) + (Fm.landing right g r + k * suc (v .0)) % p) (T .word-same g a l))
 
     to-block : (g b : ℕ) → g < n → Fm.blockTo left r g b ≡ Fm.blockTo right r g b
     unfolding Fm.blockTo
-    to-block g b l = go (decLt i g)
-      where
-        go : Dec (i < g) → cond (ltb g i) b (cond (eqb g i) (Fm.nextOf left b) (Fm.position left (target g (Fm.orbit left r b)))) ≡ cond (ltb g i) b (cond (eqb g i) (Fm.nextOf right b) (Fm.position right (target′ g (Fm.orbit right r b))))
-        go (yes a) = ap (λ x. cond (ltb g i) b (cond (eqb g i) (Fm.nextOf left b) x)) (position-same _ (to-in g r a l h b) ∙ ap (Fm.position right) (to-same g r a l h b))
-        go (no a) = low (ℕ-discrete g i)
-          where
-            low : Dec (g ≡ i) → cond (ltb g i) b (cond (eqb g i) (Fm.nextOf left b) (Fm.position left (target g (Fm.orbit left r b)))) ≡ cond (ltb g i) b (cond (eqb g i) (Fm.nextOf right b) (Fm.position right (target′ g (Fm.orbit right r b))))
-            low (yes e) = ap (cond (ltb g i) b) (cond-eq g i _ _ e ∙ sym (cond-eq g i _ _ e))
-            low (no e) = cond-lt g i _ _ (omega arith) ∙ sym (cond-lt g i _ _ (omega arith))
+    to-block g b l = by-kind g i b refl (λ a. position-same _ (to-in g r a l h b) ∙ ap (Fm.position right) (to-same g r a l h b))
 
     by-block : (g b : ℕ) → g < n → Fm.blockBy left r g b ≡ Fm.blockBy right r g b
     unfolding Fm.blockBy
-    by-block g b l = go (decLt i g)
-      where
-        go : Dec (i < g) → cond (ltb g i) 0 (cond (eqb g i) (Fm.shiftOf left r b) (Fm.scalar left g r b)) ≡ cond (ltb g i) 0 (cond (eqb g i) (Fm.shiftOf right r b) (Fm.scalar right g r b))
-        go (yes a) = ap₂ (λ x y. cond (ltb g i) 0 (cond (eqb g i) x y)) (shiftOf-same r b h) (scalar-same g r a l h b)
-        go (no a) = low (ℕ-discrete g i)
-          where
-            low : Dec (g ≡ i) → cond (ltb g i) 0 (cond (eqb g i) (Fm.shiftOf left r b) (Fm.scalar left g r b)) ≡ cond (ltb g i) 0 (cond (eqb g i) (Fm.shiftOf right r b) (Fm.scalar right g r b))
-            low (yes e) = ap (cond (ltb g i) 0) (cond-eq g i _ _ e ∙ shiftOf-same r b h ∙ sym (cond-eq g i _ _ e))
-            low (no e) = cond-lt g i _ _ (omega arith) ∙ sym (cond-lt g i _ _ (omega arith))
+    by-block g b l = by-kind g i 0 (shiftOf-same r b h) (λ a. scalar-same g r a l h b)
 
     induction-matrix : (g : ℕ) → g < n → Fm.inductionAt left r .matrix g ≡ Fm.inductionAt right r .matrix g
     unfolding Fm.inductionAt
@@ -246,16 +248,10 @@ module _ (T : Twins) where
 
     induction-ref : (g c : ℕ) → g < n → Fm.inductionAt left r .ref g c ≡ Fm.inductionAt right r .ref g c
     unfolding Fm.inductionAt
-    induction-ref g c l = go (decLt i g)
-      where
-        go : Dec (i < g) → cond (leb g i) (Fm.orbit left r (c / degree r)) (Fm.start left (Fm.leader left (target g r))) ≡ cond (leb g i) (Fm.orbit right r (c / degree′ r)) (Fm.start right (Fm.leader right (target′ g r)))
-        go (yes a) =
-            let in-t : target g r < count = T .target-below g r (omega arith) l h in
-            let in-l : Fm.leader left (target g r) < count = leader-in (target g r) in-t in
-            ap₂ (cond (leb g i)) (orbit-same (c / degree r) r h .0 ∙ ap (λ d. Fm.orbit right r (c / d)) (T .degree-same r h)) (start-same _ (omega arith) ∙ ap (Fm.start right) (leader-same (target g r) ∙ ap (Fm.leader right) (T .target-same g r (omega arith) l h)))
-        go (no a) =
-            cond-true (leb g i) _ _ (le-leb g i (omega arith)) ∙ orbit-same (c / degree r) r h .0 ∙ ap (λ d. Fm.orbit right r (c / d)) (T .degree-same r h)
-            ∙ sym (cond-true (leb g i) _ _ (le-leb g i (omega arith)))
+    induction-ref g c l = not-above g i (orbit-same (c / degree r) r h .0 ∙ ap (λ d. Fm.orbit right r (c / d)) (T .degree-same r h)) (λ a.
+        let in-t : target g r < count = T .target-below g r (omega arith) l h in
+        let in-l : Fm.leader left (target g r) < count = leader-in (target g r) in-t in
+        start-same _ (omega arith) ∙ ap (Fm.start right) (leader-same (target g r) ∙ ap (Fm.leader right) (T .target-same g r (omega arith) l h)))
 
   -- ---- The level
 
@@ -265,11 +261,15 @@ module _ (T : Twins) where
     mat-same : (g : ℕ) → g < n → D .matrix g ≡ D′ .matrix g
     ref-same : (g c : ℕ) → g < n → D .ref g c ≡ D′ .ref g c
 
+  -- what stands above a representation that is fixed (b), or that leads (c)
+  abbrev given : Source → ℕ → Bool → Bool → Level
+  given S r b c = cond b (map (Fm.extensionAt S r) (upto (S .p))) (cond c (Fm.inductionAt S r ∷ []) [])
+
   given-length : (S : Source) (r : ℕ) → length (Fm.givenAt S r) ≡ Fm.made S r
   unfolding Fm.givenAt Fm.made
   given-length S r = go (Fm.fixed S r) (eqb (Fm.leader S r) r)
     where
-      go : (b c : Bool) → length (cond b (map (Fm.extensionAt S r) (upto (S .p))) (cond c (Fm.inductionAt S r ∷ []) [])) ≡ cond b (S .p) (cond c 1 0)
+      go : (b c : Bool) → length (given S r b c) ≡ cond b (S .p) (cond c 1 0)
       go true c = length-table (Fm.extensionAt S r) (S .p)
       go false true = refl
       go false false = refl
@@ -302,11 +302,10 @@ module _ (T : Twins) where
   given-alike : (s κ : ℕ) → s < count → κ < Fm.made left s → Alike (getD (Fm.givenAt left s) κ noRep) (getD (Fm.givenAt right s) κ noRep)
   unfolding Fm.givenAt Fm.made
   given-alike s κ h l =
-      subst (λ z. Alike (getD (Fm.givenAt left s) κ noRep) (getD z κ noRep)) (ap₂ (λ t q. cond (eqb t s) (map (Fm.extensionAt right s) (upto p)) (cond (eqb q s) (Fm.inductionAt right s ∷ []) [])) (turn-same s h) (leader-same s))
+      subst (λ z. Alike (getD (Fm.givenAt left s) κ noRep) (getD z κ noRep)) (ap₂ (λ t q. given right s (eqb t s) (eqb q s)) (turn-same s h) (leader-same s))
       (go (eqb (target i s) s) (eqb (Fm.leader left s) s) l)
     where
-      go : (b c : Bool) → κ < cond b p (cond c 1 0)
-          → Alike (getD (cond b (map (Fm.extensionAt left s) (upto p)) (cond c (Fm.inductionAt left s ∷ []) [])) κ noRep) (getD (cond b (map (Fm.extensionAt right s) (upto p)) (cond c (Fm.inductionAt right s ∷ []) [])) κ noRep)
+      go : (b c : Bool) → κ < cond b p (cond c 1 0) → Alike (getD (given left s b c) κ noRep) (getD (given right s b c) κ noRep)
       go true c a =
           subst (λ D. Alike D (getD (map (Fm.extensionAt right s) (upto p)) κ noRep)) (sym (getD-table (Fm.extensionAt left s) p κ noRep a))
           (subst (λ D. Alike (Fm.extensionAt left s κ) D) (sym (getD-table (Fm.extensionAt right s) p κ noRep a)) (extension-alike s κ h))
@@ -318,8 +317,10 @@ module _ (T : Twins) where
       let o = owner (Fm.made left) count r (subst (λ z. r < z) (level-length left) l) in
       let κ′ : o .κ < Fm.made right (o .s) = subst (λ z. o .κ < z) (made-same (o .s) (o .s-below)) (o .κ-below) in
       let start : sum (o .s) (Fm.made right) ≡ sum (o .s) (Fm.made left) = sym (sum-below (o .s) _ _ (λ k a. made-same k (omega (arith, o .s-below)))) in
-      subst (λ D. Alike D (repOf (Fm.levelBy right) r)) (sym (ap (repOf (Fm.levelBy left)) (sym (o .is)) ∙ level-at left (o .s) (o .κ) (o .s-below) (o .κ-below)))
-      (subst (λ D. Alike (getD (Fm.givenAt left (o .s)) (o .κ) noRep) D) (sym (ap (repOf (Fm.levelBy right)) (sym (ap (λ z. z + o .κ) start ∙ o .is)) ∙ level-at right (o .s) (o .κ) (o .s-below) κ′)) (given-alike (o .s) (o .κ) (o .s-below) (o .κ-below)))
+      let here = ap (repOf (Fm.levelBy left)) (sym (o .is)) ∙ level-at left (o .s) (o .κ) (o .s-below) (o .κ-below) in
+      let there = ap (repOf (Fm.levelBy right)) (sym (ap (λ z. z + o .κ) start ∙ o .is)) ∙ level-at right (o .s) (o .κ) (o .s-below) κ′ in
+      subst (λ D. Alike D (repOf (Fm.levelBy right) r)) (sym here)
+      (subst (λ D. Alike (getD (Fm.givenAt left (o .s)) (o .κ) noRep) D) (sym there) (given-alike (o .s) (o .κ) (o .s-below) (o .κ-below)))
 
   pub twins-length : length (Fm.levelBy left) ≡ length (Fm.levelBy right)
   twins-length = level-length left ∙ sum-below count _ _ made-same ∙ sym (level-length right)

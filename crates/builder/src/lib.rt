@@ -14,7 +14,7 @@ ghost use Rattle.lines.specs.Lines.{Space};
 ghost use Rattle.survey.specs.Notes.{noteWidth};
 ghost use Rattle.survey.specs.Below.{lowOf, numberIn, Sound, Surveyed};
 ghost use Rattle.builder.specs.Above.{aboveIn, nextWords};
-ghost use Rattle.builder.specs.Level.{ArraysLent, LevelAsked, LevelMade};
+ghost use Rattle.builder.specs.Level.{BlocksLent, LevelAsked, LevelMade};
 use rows::Words;
 use survey::Frame;
 
@@ -29,7 +29,8 @@ fn survey_level(low: &[u32], rows: &Words, notes: &mut [u32], f: Frame) -> u32
     let x = survey::count_numbers(low, notes, f);
     let t = level::up(f.top);
     let u = rows::word(rows, t, t);
-    survey::find_shifts(low, notes, &u, f);
+    let n = rows::top(t, u);
+    survey::find_shifts(low, notes, &u, n, f);
     x
 }
 
@@ -43,26 +44,25 @@ fn append_above(
     at: usize,
     r: u32,
 ) -> usize
-    requires { ⌜ Surveyed f (lowOf f (now words)) (now rows) (now notes) × (r < f .reps) × (2 * f .p ≤ length (now blocks)) ⌝ }
+    requires { ⌜ Surveyed f (lowOf f (now words)) (now rows) (now notes) × (r < f .reps) × BlocksLent f (now blocks) ⌝ }
     requires { ⌜ Space (f .end) at (length (aboveIn f (lowOf f (now words)) (now rows) r)) (now words) ⌝ }
     ensures { λ x. ⌜ Wrote (now (words .entry)) (8 * at) (aboveIn f (lowOf f (now (words .entry))) (now (rows .entry)) r) (now (words .exit)) (8 * x) ⌝ }
 {
+    let l = survey::note(notes, survey::LEADER, r);
+    if l != r {
+        return at;
+    }
     let n = 8 * f.end;
-    let d = survey::listed(&words[..n], notes, f, r);
-    let t = level::target(&words[..n], d, f.top);
+    let t = survey::top_target(&words[..n], notes, f, r);
     if t == r {
         return extend::append_extensions(words, rows, notes, f, at, r);
     }
-    let l = survey::note(notes, survey::LEADER, r);
-    if l == r {
-        return induce::append_induction(words, rows, notes, blocks, f, at, r);
-    }
-    at
+    induce::append_induction(words, rows, notes, blocks, f, at, r)
 }
 
 // Appends the representations above all of them.
 fn append_all(words: &mut [u32], rows: &Words, notes: &[u32], blocks: &mut [u32], f: Frame) -> usize
-    requires { ⌜ Surveyed f (lowOf f (now words)) (now rows) (now notes) × (2 * f .p ≤ length (now blocks)) ⌝ }
+    requires { ⌜ Surveyed f (lowOf f (now words)) (now rows) (now notes) × BlocksLent f (now blocks) ⌝ }
     requires { ⌜ Space (f .end) (f .end) (length (nextWords f (lowOf f (now words)) (now rows))) (now words) ⌝ }
     ensures { λ x. ⌜ Wrote (now (words .entry)) (8 * f .end) (nextWords f (lowOf f (now (words .entry))) (now (rows .entry))) (now (words .exit)) (8 * x) ⌝ }
 {
@@ -89,7 +89,7 @@ pub fn append_level(
     blocks: &mut [u32],
     f: Frame,
 ) -> Written
-    requires { ⌜ LevelAsked f (now words) (now rows) × ArraysLent f (now notes) (now blocks) ⌝ }
+    requires { ⌜ LevelAsked f (now words) (now rows) × (noteWidth * f .reps ≤ length (now notes)) × BlocksLent f (now blocks) ⌝ }
     ensures { λ t. ⌜ LevelMade f (now (words .entry)) (now (rows .entry)) t (now (words .exit)) ⌝ }
 {
     let n = 8 * f.end;

@@ -5,7 +5,9 @@
 --   extends-copies             and what one generator asks for
 --   power-known                the power of the generator on top, read in a word
 --   targets-small              bounds of what is held of targets
+--   factor-top, factor-other, factor-below      the constants of the generators
 --   piece-copied, piece-lines, copy-length     the lines of a generator as a piece, and their length
+--   copy-asked, low-last       what a generator up to the one on top asks, behind those below it; when the last is written
 --   matrixWords                the words of a generator, by the formulas
 --   copy-low, copy-above       what is copied has these words, up to the generator on top and above
 --   extension-words, matrix-length, extension-length     the words of an extension, and lengths
@@ -21,8 +23,8 @@ use native.Mathlib.Nat.{zero-add, mod-lt, le-refl, div-le-self, div-lt-iff-lt-mu
 use lib.ListN.{length, getD}
 use lib.Dec.{eqb, leb}
 use borrow.Author.Tests.{le-leb, lt-leb}
-use mathlib.Core.Bool.{cond}
-use Rattle.numbers.proofs.Bools.{cond-true, cond-false}
+use mathlib.Core.Bool.{Bool, true, false, cond}
+use Rattle.numbers.proofs.Bools.{cond-true, cond-false, cond-eq, cond-ne}
 use Rattle.definitions.specs.declared.Entry.{Entry}
 use Rattle.definitions.specs.Lists.{blocks}
 use Rattle.definitions.specs.Presentation.{maxOrder, maxModulus, toNF, pairNumber}
@@ -35,7 +37,7 @@ use Rattle.level.specs.declared.Listed.{Listed}
 use Rattle.level.specs.Stored.{entryIn, matrixIn, lineIn, Holds}
 use Rattle.level.proofs.Columns.{col-matrixIn, col-scale}
 use Rattle.lines.specs.Lines.{headLine, blockLines, Copied, Space, Appended}
-use Rattle.lines.proofs.Appending.{Going, going-more, space-none}
+use Rattle.lines.proofs.Appending.{Going, going-more, going-even, space-none}
 use Rattle.survey.specs.declared.Frame.{Frame}
 use Rattle.survey.specs.Below.{lowOf, degOf, matrixOf, sourceIn, LevelStands, Fixed, Sound, Surveyed}
 use Rattle.survey.proofs.Counting.{number-fits}
@@ -117,7 +119,21 @@ module _ {f : Frame} {W : List ℕ} {rows : List (List ℕ)} {r : ℕ} {targets 
 
 -- ---- Lines
 
+-- the one on top alone has a constant
+pub factor-top : (f : Frame) (o : Origin) (k : ℕ) → o .root + k * o .step ≡ factorOf f o (f .top) k
+factor-top f o k = sym (cond-eq (f .top) (f .top) _ 0 refl)
+
+pub factor-other : (f : Frame) (o : Origin) (g k : ℕ) → ¬ (g ≡ f .top) → 0 ≡ factorOf f o g k
+factor-other f o g k n = sym (cond-ne g (f .top) _ 0 n)
+
 module _ {f : Frame} {W : List ℕ} {o : Origin} (C : Copies f W o) where
+  pub factor-below : (g k : ℕ) → k < f .p → factorOf f o g k < f .m
+  factor-below g k l = go (eqb g (f .top))
+    where
+      go : (b : Bool) → cond b (o .root + k * o .step) 0 < f .m
+      go true = C .factor-below k l
+      go false = C .located .stands .modulus .0
+
   pub piece-copied : (g : ℕ) → g < f .gens → {src c : ℕ} → src ≡ lineIn (o .source) g → c < f .m
       → Copied (f .m) W (copyPiece o src c)
   piece-copied g l e h =
@@ -140,6 +156,26 @@ piece-lines f W o k g x es ec = ap₂ (λ s t. blockLines (f .m) (copyHead f o k
 pub copy-length : (f : Frame) (W : List ℕ) (o : Origin) (k g x : ℕ) → length (copyWords f W o k g x) ≡ 8 * o .source .deg
 unfolding copyWords blockLines headLine
 copy-length f W o k g x = length-even _ 8 (o .source .deg) (λ c l. refl) ∙ omega arith
+
+pub going-at : {low : ℕ} {f : ℕ → List ℕ} {w₀ : List ℕ} {at₀ g n : ℕ} {w : List ℕ} {at : ℕ} → g ≡ n → Going low f w₀ at₀ g w at → Going low f w₀ at₀ n w at
+going-at {low} {f} {w₀} {at₀} {g} {n} {w} {at} e G = subst (λ n. Going low f w₀ at₀ n w at) e G
+
+-- generator g is asked for behind the generators below it
+pub copy-asked : (f : Frame) (w₀ : List ℕ) (o : Origin) {k g at₀ at c : ℕ} {w : List ℕ} → Copies f (lowOf f w₀) o → k < f .p
+    → Going (f .end) (λ j. copyWords f (lowOf f w₀) o k j (o .rep)) w₀ at₀ g w at → g ≤ f .top → c ≡ factorOf f o g k
+    → Space (f .end) at₀ (8 * ((f .top + 1) * o .source .deg)) w₀
+    → (Copies f (lowOf f w) o × (k < f .p) × (g < f .gens) × (c ≡ factorOf f o g k)) × Space (f .end) at (8 * o .source .deg) w
+copy-asked f w₀ o {k} C l G h e s = (
+  (subst (λ W. Copies f W o) (sym (G .below)) C, l, omega (arith, C .located .stands .gens), e),
+  going-even (f .top + 1) (8 * o .source .deg) (λ j. copy-length f _ o k j (o .rep)) G (omega arith) (omega (arith, s .room)),
+)
+
+-- the generator on top is written behind those below it
+pub low-last : (f : Frame) (w₀ : List ℕ) (o : Origin) (k : ℕ) {at₀ at at′ : ℕ} {w w′ : List ℕ}
+    → Going (f .end) (λ j. copyWords f (lowOf f w₀) o k j (o .rep)) w₀ at₀ (f .top) w at
+    → Appended w at (copyWords f (lowOf f w) o k (f .top) (o .rep)) w′ at′
+    → Going (f .end) (λ j. copyWords f (lowOf f w₀) o k j (o .rep)) w₀ at₀ (f .top + 1) w′ at′
+low-last f w₀ o k {at₀} {at} {at′} {w} {w′} G A = going-more G (subst (λ W. Appended w at (copyWords f W o k (f .top) (o .rep)) w′ at′) (G .below) A)
 
 -- the words of generator g in extension k of r
 unfoldable pub matrixWords : (f : Frame) (W : List ℕ) (rows : List (List ℕ)) (r k g : ℕ) → List ℕ

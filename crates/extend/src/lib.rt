@@ -1,7 +1,6 @@
 // The extensions of a representation that the generator on top fixes, as lines behind the level below.
 //
 //   Origin, find_origin          what the extensions are copied from
-//   factor                       the constant of a generator in an extension
 //   power, reference             the reference of a generator in an extension
 //   append_matrix                one generator of an extension
 //   append_low, append_generators      the generators up to the one on top; all of an extension
@@ -10,7 +9,6 @@
 ghost use mathlib.Core.Path.{_≡_};
 ghost use mathlib.Core.List.{List};
 ghost use Prim.Native.Nat.{ℕ, _+_, _*_, _≤_, _<_};
-ghost use Rattle.definitions.specs.Presentation.{maxModulus};
 ghost use Rattle.lines.specs.Lines.{Space, Appended};
 ghost use Rattle.survey.specs.Below.{lowOf, degOf, Fixed, Sound, Surveyed};
 ghost use Rattle.targets.specs.Reached.{Aimed};
@@ -49,17 +47,6 @@ fn find_origin(low: &[u32], notes: &[u32], f: Frame, r: u32) -> Origin
     }
 }
 
-// The constant of generator g in extension k.
-fn factor(f: Frame, o: Origin, g: u32, k: u32) -> u32
-    requires { ⌜ (f .m ≤ maxModulus) × (o .root + k * o .step < f .m) ⌝ }
-    ensures { λ c. ⌜ (c ≡ factorOf f o g k) × (c < f .m) ⌝ }
-{
-    if g == f.top {
-        return o.root + k * o.step;
-    }
-    0
-}
-
 // The exponent of the generator on top in its conjugate by generator g.
 fn power(rows: &Words, f: Frame, g: u32) -> u32
     requires { ⌜ ((W : List ℕ) × Sound f W (now rows)) × (f .top < g) × (g < f .gens) ⌝ }
@@ -80,14 +67,22 @@ fn reference(rows: &Words, targets: &[u32], f: Frame, g: u32, k: u32) -> u32
     targets::target(targets, START, g) + (l + k * a) % f.p
 }
 
-// Appends generator g of extension k, with reference x, behind the level below. Returns the next line's number.
-fn append_matrix(words: &mut [u32], f: Frame, o: Origin, at: usize, k: u32, g: u32, x: u32) -> usize
-    requires { ⌜ Copies f (lowOf f (now words)) o × (k < f .p) × (g < f .gens) ⌝ }
+// Appends generator g of extension k, with reference x and constant c, behind the level below. Returns the next line's number.
+fn append_matrix(
+    words: &mut [u32],
+    f: Frame,
+    o: Origin,
+    at: usize,
+    k: u32,
+    g: u32,
+    x: u32,
+    c: u32,
+) -> usize
+    requires { ⌜ Copies f (lowOf f (now words)) o × (k < f .p) × (g < f .gens) × (c ≡ factorOf f o g k) ⌝ }
     requires { ⌜ Space (f .end) at (8 * o .source .deg) (now words) ⌝ }
     ensures { λ y. ⌜ Appended (now (words .entry)) at (copyWords f (lowOf f (now (words .entry))) o k g x) (now (words .exit)) y ⌝ }
 {
     let d = o.source;
-    let c = factor(f, o, g, k);
     let h = Head {
         level: f.top + 1,
         rep: o.number + k,
@@ -105,18 +100,19 @@ fn append_matrix(words: &mut [u32], f: Frame, o: Origin, at: usize, k: u32, g: u
     lines::append_block(words, f.end, at, h, b, f.m)
 }
 
-// Appends those generators of extension k that are not above the one on top: the reference of each is the number of what is extended.
+// Appends those generators of extension k that are not above the one on top: the reference of each is the number of what is
+// extended, and the one on top alone has a constant.
 fn append_low(words: &mut [u32], f: Frame, o: Origin, at: usize, k: u32) -> usize
     requires { ⌜ Copies f (lowOf f (now words)) o × (k < f .p) ⌝ }
     requires { ⌜ Space (f .end) at (8 * ((f .top + 1) * o .source .deg)) (now words) ⌝ }
     ensures { λ x. ⌜ Appended (now (words .entry)) at (lowWords f (lowOf f (now (words .entry))) o k) (now (words .exit)) x ⌝ }
 {
     let mut pos = at;
-    let above = f.top + 1;
-    for g in 0..above {
-        pos = append_matrix(words, f, o, pos, k, g, o.rep);
+    let top = f.top;
+    for g in 0..top {
+        pos = append_matrix(words, f, o, pos, k, g, o.rep, 0);
     }
-    pos
+    append_matrix(words, f, o, pos, k, top, o.rep, o.root + k * o.step)
 }
 
 // Appends the generators of extension k, one behind the other.
@@ -138,7 +134,7 @@ fn append_generators(
     let gens = f.gens;
     for g in above..gens {
         let x = reference(rows, targets, f, g, k);
-        pos = append_matrix(words, f, o, pos, k, g, x);
+        pos = append_matrix(words, f, o, pos, k, g, x, 0);
     }
     pos
 }

@@ -43,7 +43,7 @@ pub put-field : (s k r x : ℕ) (a : List ℕ) → Inside s k a r → Put s k r 
 put-field s k r x a I = record {
   len = length-set a (r * s + k) x;
   stored = ext-getD 0 _ _ (long k ∙ sym (length-set (field s k a) r x)) (λ q l. here q (rows k q l) (ℕ-discrete q r));
-  kept = λ j h n. ext-getD 0 _ _ (long j) (λ q l. field-at s j b q (rows j q l) ∙ getD-set-other a (r * s + k) (q * s + j) x 0 (λ e. n (same-field j h q e)) ∙ sym (field-at s j a q (old q (rows j q l))));
+  kept = λ j h n. ext-getD 0 _ _ (long j) (λ q l. elsewhere j q (rows j q l) (λ e. n (same-field j h q e)));
 }
   where
     b : List ℕ
@@ -67,13 +67,14 @@ put-field s k r x a I = record {
     same-row : (q : ℕ) → q * s + k ≡ r * s + k → q ≡ r
     same-row q e = sym (digits-div q (I .fields)) ∙ ap (λ n. n / s) e ∙ digits-div r (I .fields)
 
+    elsewhere : (j q : ℕ) → q < length b / s → ¬ (q * s + j ≡ r * s + k) → getD (field s j b) q 0 ≡ getD (field s j a) q 0
+    elsewhere j q l n = field-at s j b q l ∙ getD-set-other a (r * s + k) (q * s + j) x 0 n ∙ sym (field-at s j a q (old q l))
+
     here : (q : ℕ) → q < length b / s → Dec (q ≡ r) → getD (field s k b) q 0 ≡ getD (set (field s k a) r x) q 0
     here q l (yes e) =
         field-at s k b q l ∙ ap (λ n. getD b (n * s + k) 0) e ∙ getD-set-same a (r * s + k) x 0 (row-inside s k a r I)
         ∙ sym (ap (λ n. getD (set (field s k a) r x) n 0) e ∙ getD-set-same (field s k a) r x 0 (I .rows))
-    here q l (no n) =
-        field-at s k b q l ∙ getD-set-other a (r * s + k) (q * s + k) x 0 (λ e. n (same-row q e)) ∙ sym (field-at s k a q (old q l))
-        ∙ sym (getD-set-other (field s k a) r q x 0 n)
+    here q l (no n) = elsewhere k q l (λ e. n (same-row q e)) ∙ sym (getD-set-other (field s k a) r q x 0 n)
 
 -- ---- Lists filled up to an index
 

@@ -63,7 +63,8 @@ module _ (P : Presentation) (m : ℕ) (pos : 0 < m) where
   landing-zero : (j : ℕ) → landing S j 0 ≡ 0
   unfolding landing walk sourceOf repOf levelZero
   landing-zero j =
-      ap₂ (λ (a b : Entry). less m (a .exp) (b .exp) / (m / p)) (ap (act m (identity 1)) (iter-fix (topEntry S 0) (entry 0 0) top-zero (suc (P .w 0 j .0))) ∙ act-one) (ap (topEntry S 0) act-one ∙ top-zero)
+      let conjugate = ap (act m (identity 1)) (iter-fix (topEntry S 0) (entry 0 0) top-zero (suc (P .w 0 j .0))) ∙ act-one in
+      ap₂ (λ (a b : Entry). less m (a .exp) (b .exp) / (m / p)) conjugate (ap (topEntry S 0) act-one ∙ top-zero)
       ∙ ap (λ x. x / (m / p)) less-zero ∙ zero-div (m / p)
 
   -- ---- The lines

@@ -2,17 +2,19 @@
 --
 --   root-line                  the eight words of a line
 --   rootLine-length, rootWords-length, firstWords-length     eight words for each line
+--   root-room                  there is room for a power where there is room for all
 --   word-read                  an exponent that was read from a word
 --   product-fits               a product of numbers that are at most 4,096 and 16,384
 use mathlib.Core.Path.{_≡_, refl, ap, _∙_}
 use mathlib.Core.List.{List, [], _∷_}
-use Prim.Native.Nat.{ℕ, _+_, _*_, _≤_}
+use Prim.Native.Nat.{ℕ, _+_, _*_, _≤_, _<_}
 use native.Mathlib.Nat.{mul-le-mul-left}
 use native.Mathlib.Numerals.{add-one}
 use native.Mathlib.Omega.{arith}
 use lib.ListN.{length, getD}
 use Rattle.definitions.specs.Presentation.{maxOrder, maxModulus, pairNumber}
 use Rattle.numbers.proofs.Blocks.{length-even}
+use Rattle.lines.proofs.Appending.{Going, going-room}
 use Rattle.first.specs.Roots.{rootRef, rootExp, rootLine, rootWords, firstWords}
 
 module _ (n p m : ℕ) (rows : List (List ℕ)) where
@@ -34,6 +36,12 @@ module _ (n p m : ℕ) (rows : List (List ℕ)) where
     where
       regroup : (n p : ℕ) → p * (n * 8) ≡ 8 * (p * n)
       regroup n p = omega arith
+
+  pub root-room : {w₀ w : List ℕ} {pos k : ℕ} → Going 0 (rootWords n p m rows) w₀ 0 k w pos → k < p → 8 * (p * n) ≤ length w₀ → 8 * pos + 8 * n ≤ length w
+  unfolding firstWords
+  root-room {w₀} {w} {pos} {k} G l h =
+      let whole : 8 * 0 + length (firstWords n p m rows) ≤ length w₀ = omega (arith, firstWords-length) in
+      omega (arith, going-room p G l whole, rootWords-length k)
 
 pub word-read : (rows : List (List ℕ)) (w : List ℕ) (j g : ℕ) → w ≡ getD rows (pairNumber j 0) [] → j ≡ g → getD w 0 0 ≡ getD (getD rows (pairNumber g 0) []) 0 0
 word-read rows w j g a b = ap (λ x. getD x 0 0) (a ∙ ap (λ i. getD rows (pairNumber i 0) []) b)

@@ -6,10 +6,11 @@
 --   act-in                     a matrix on an entry, from its line
 --   col-scale                  a column of a matrix times a power of the root
 --   iter-next, iter-once       one more turn behind the others; one turn
---   iter-rest                  the turns behind the first
+--   turns-none .. turns-all    turns counted as a loop counts them, the first made before it
 --   iter-fixed                 turns that keep the basis index add up their exponents
 --   act-fixed, plus-fixed      a matrix that fixes a basis index, and the same times a power of the root
 --   walk-zero, walk-next       the clauses of `walk`
+--   walk-ends                  a word that ends early is walked as far as it goes
 --   stored-fewer               fewer generators stand where more do
 --   matrix-inside              the lines of a generator stand among those of all
 use mathlib.Core.Path.{_≡_, refl, ap, ap₂, sym, _∙_}
@@ -26,6 +27,7 @@ use Rattle.definitions.specs.Monomial.{Matrix, entry, less, col, act, scale}
 use Rattle.numbers.proofs.Lists.{iter-suc, iter-add, iter-zero}
 use Rattle.numbers.proofs.Blocks.{getD-map, getD-table}
 use Rattle.formulas.specs.Formulas.{walk, plus}
+use Rattle.rows.specs.Rows.{Top}
 use Rattle.level.specs.declared.Listed.{Listed}
 use Rattle.level.specs.Stored.{entryIn, matrixIn, lineIn, Stored}
 
@@ -74,8 +76,21 @@ iter-next f k x = sym (iter-add f k 1 x) ∙ iter-suc f 0 (iter f k x) ∙ iter-
 pub iter-once : {A : Type 0} (f : A → A) (x : A) → iter f 1 x ≡ f x
 iter-once f x = iter-suc f 0 x ∙ iter-zero f (f x)
 
-pub iter-rest : {A : Type 0} (f : A → A) (k : ℕ) (x y : A) → 0 < k → y ≡ f x → iter f (k - 1) y ≡ iter f k x
-iter-rest f k x y l e = let s : suc (k - 1) ≡ k = omega arith in ap (iter f (k - 1)) e ∙ sym (iter-suc f (k - 1) x) ∙ ap (λ n. iter f n x) s
+module _ (f : Entry → Entry) where
+  pub turns-none : {x : Entry} {k : ℕ} → k ≡ 0 → x ≡ iter f k x
+  turns-none {x} e = sym (ap (λ n. iter f n x) e ∙ iter-zero f x)
+
+  pub turns-one : {x y : Entry} {k : ℕ} → k ≡ 1 → y ≡ f x → y ≡ iter f k x
+  turns-one {x} e h = h ∙ sym (ap (λ n. iter f n x) e ∙ iter-once f x)
+
+  -- i turns, of which the first made y, and one more
+  pub turns-more : (y : Entry) {i : ℕ} {r s : Entry} → 1 ≤ i → r ≡ iter f (i - 1) y → s ≡ f r → s ≡ iter f (i + 1 - 1) y
+  turns-more y {i} l e h = let n : i - 1 + 1 ≡ i + 1 - 1 = omega arith in h ∙ ap f e ∙ sym (iter-next f (i - 1) y) ∙ ap (λ n. iter f n y) n
+
+  pub turns-all : {x y : Entry} {i k : ℕ} {r : Entry} → 1 ≤ i → i ≡ k → y ≡ f x → r ≡ iter f (i - 1) y → r ≡ iter f k x
+  turns-all {x} {y} {i} {k} l e h g =
+      let n : suc (i - 1) ≡ k = omega arith in
+      g ∙ ap (iter f (i - 1)) h ∙ sym (iter-suc f (i - 1) x) ∙ ap (λ n. iter f n x) n
 
 pub iter-fixed : (m r e : ℕ) (f : Entry → Entry) → ((t : ℕ) → f (entry r t) ≡ entry r ((t + e) % m)) → (k t : ℕ) → t < m
     → iter f k (entry r t) ≡ entry r ((t + k * e) % m)
@@ -109,6 +124,22 @@ pub walk-next : (m : ℕ) (M : ℕ → Matrix) (w : List ℕ) (k : ℕ) (x : Ent
     → walk m M (k + 1) (toNF (k + 1) w) x ≡ iter (act m (M k)) (getD w k 0) (walk m M k (toNF k w) x)
 unfolding walk toNF
 walk-next m M w k x = ap (λ n. walk m M n (toNF n w) x) (add-one k)
+
+module _ (m : ℕ) (M : ℕ → Matrix) (w : List ℕ) (x : Entry) where
+  abbrev walked-to : ℕ → Entry
+  walked-to i = walk m M i (toNF i w) x
+
+  walk-still : (i : ℕ) → getD w i 0 ≡ 0 → walked-to i ≡ walked-to (suc i)
+  walk-still i z = sym (ap walked-to (sym (add-one i)) ∙ walk-next m M w i x ∙ ap (λ k. iter (act m (M i)) k (walked-to i)) z ∙ iter-zero (act m (M i)) (walked-to i))
+
+  walk-far : (n d : ℕ) → ((k : ℕ) → n ≤ k → k < n + d → getD w k 0 ≡ 0) → walked-to n ≡ walked-to (n + d)
+  walk-far n zero z = let e : n ≡ n + 0 = omega arith in ap walked-to e
+  walk-far n (suc d) z =
+      let e : suc (n + d) ≡ n + suc d = omega arith in
+      walk-far n d (λ k a b. z k a (omega arith)) ∙ walk-still (n + d) (z (n + d) (omega arith) (omega arith)) ∙ ap walked-to e
+
+  pub walk-ends : (i n : ℕ) → Top i w n → walk m M n (toNF n w) x ≡ walk m M i (toNF i w) x
+  walk-ends i n T = let e : n + (i - n) ≡ i = omega (arith, T .less) in walk-far n (i - n) (λ k a b. T .rest k a (omega arith)) ∙ ap walked-to e
 
 -- ---- Representations
 

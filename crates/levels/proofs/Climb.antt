@@ -30,7 +30,7 @@ use Rattle.first.proofs.Lines.{firstWords-length}
 use Rattle.level.specs.Stored.{matrixIn}
 use Rattle.survey.specs.declared.Frame.{Frame}
 use Rattle.survey.specs.Below.{sourceIn, degOf, matrixOf, targetOf, madeIn, numberIn}
-use Rattle.levels.specs.Built.{upTo, frameAt, Placed}
+use Rattle.levels.specs.Built.{upTo, frameAt, Placed, levelOf, modulus}
 use Rattle.levels.proofs.Places.{upTo-suc}
 use Rattle.levels.proofs.Room.{room}
 use Rattle.levels.proofs.Words.{reads}
@@ -56,15 +56,16 @@ module _ (A : Accepted) where
 
   pub next-lines : (i : ℕ) (f : Frame) (W : List ℕ) (rows : List (List ℕ)) {primes : List ℕ}
       → Placed A i f W → Reads (A .C .P) (A .C .P .n) primes rows
-      → levelWords (f .gens) (suc (f .top)) (levelBy (sourceIn f W rows)) ≡ levelWords (A .C .P .n) (suc i) (levels (A .C .P) (order (A .C .P) (A .C .P .n)) (suc i))
+      → levelWords (f .gens) (suc (f .top)) (levelBy (sourceIn f W rows)) ≡ levelWords (A .C .P .n) (suc i) (levelOf A (suc i))
   next-lines i f W rows Q told = ap₂ (λ g t. levelWords g (suc t) (levelBy (sourceIn f W rows))) (Q .gens-is) (Q .top-is) ∙ sym (next-words A i f W rows Q told)
 
   pub next-room : (i : ℕ) (f : Frame) (W : List ℕ) (rows : List (List ℕ)) {primes : List ℕ}
       → Placed A i f W → Reads (A .C .P) (A .C .P .n) primes rows
       → 8 * f .end + length (levelWords (f .gens) (suc (f .top)) (levelBy (sourceIn f W rows))) ≤ buildWords (A .C .P)
   next-room i f W rows Q told =
-      subst (λ x. x ≤ buildWords P) (ap length (upTo-suc A i) ∙ length-append (upTo A i) (levelWords n (suc i) (levels P m (suc i))) ∙ ap₂ (_+_) (sym (Q .end-is)) (ap length (sym (next-lines i f W rows Q told))))
-      (room A (suc i) (Q .below))
+      let long = ap length (upTo-suc A i) ∙ length-append (upTo A i) (levelWords n (suc i) (levelOf A (suc i))) in
+      let named = ap₂ (_+_) (sym (Q .end-is)) (ap length (sym (next-lines i f W rows Q told))) in
+      subst (λ x. x ≤ buildWords P) (long ∙ named) (room A (suc i) (Q .below))
 
   -- ---- Representations
 
@@ -85,7 +86,7 @@ module _ (A : Accepted) where
     unfolding Fm.start
     reps-at = sym (count-at ∙ sum-below (length (levels P m (suc k))) _ _ made-at)
 
-  pub next-reps : (i : ℕ) (f : Frame) (W : List ℕ) → Placed A i f W → numberIn f W (f .reps) ≡ length (levels (A .C .P) (order (A .C .P) (A .C .P .n)) (suc i))
+  pub next-reps : (i : ℕ) (f : Frame) (W : List ℕ) → Placed A i f W → numberIn f W (f .reps) ≡ length (levelOf A (suc i))
   next-reps zero f W Q = absurd (omega (arith, Q .above))
   next-reps (suc k) f W Q = ap₂ (λ f W. numberIn f W (f .reps)) (placed A k f W Q) (Q .words-are) ∙ reps-at k (Q .below)
 
@@ -95,7 +96,9 @@ module _ (A : Accepted) where
   pub next-placed : (i : ℕ) (f : Frame) (W : List ℕ) (rows : List (List ℕ)) {primes : List ℕ}
       → Placed A i f W → Reads (A .C .P) (A .C .P .n) primes rows
       → suc i < A .C .P .n → (end : ℕ) → 8 * end ≡ 8 * f .end + length (levelWords (A .C .P .n) (suc i) (levelBy (sourceIn f W rows)))
-      → Placed A (suc i) (record { m = f .m; top = suc i; gens = f .gens; p = A .C .P .p (suc i); base = f .end; reps = numberIn f W (f .reps); end = end }) (W ++ levelWords (A .C .P .n) (suc i) (levelBy (sourceIn f W rows)))
+      → Placed A (suc i)
+      (record { m = f .m; top = suc i; gens = f .gens; p = A .C .P .p (suc i); base = f .end; reps = numberIn f W (f .reps); end = end })
+      (W ++ levelWords (A .C .P .n) (suc i) (levelBy (sourceIn f W rows)))
   next-placed i f W rows Q told l end e =
       let c : suc i - 1 ≡ i = omega arith in
       record {
@@ -122,13 +125,13 @@ module _ (A : Accepted) where
   unfolding upTo blocks
   upTo-first = refl
 
-  pub one-reps : length (levels (A .C .P) (order (A .C .P) (A .C .P .n)) 1) ≡ A .C .P .p 0
+  pub one-reps : length (levelOf A 1) ≡ A .C .P .p 0
   unfolding levels rung levelZero repOf
   one-reps =
       next-length (rungs A 0 (A .positive)) ∙ sum-suc 0 _ ∙ ap₂ (_+_) (sum-zero _) (made-fixed (rungs A 0 (A .positive)) 0 (rungs A 0 (A .positive) .literal 0 0)) ∙ omega arith
 
   module _ (rows : List (List ℕ)) {primes : List ℕ} (told : Reads (A .C .P) (A .C .P .n) primes rows) where
-    pub one-upTo : firstWords (A .C .P .n) (A .C .P .p 0) (order (A .C .P) (A .C .P .n)) rows ≡ upTo A 1
+    pub one-upTo : firstWords (A .C .P .n) (A .C .P .p 0) (modulus A) rows ≡ upTo A 1
     one-upTo = sym (upTo-first ∙ level-one A rows told)
 
     pub one-length : length (upTo A 1) ≡ 8 * (A .C .P .p 0 * A .C .P .n)
@@ -138,8 +141,8 @@ module _ (A : Accepted) where
     one-room = subst (λ x. x ≤ buildWords P) one-length (room A 1 (A .positive))
 
     pub one-placed : 1 < A .C .P .n
-        → Placed A 1 (record { m = order (A .C .P) (A .C .P .n); top = 1; gens = A .C .P .n; p = A .C .P .p 1; base = 0; reps = A .C .P .p 0; end = A .C .P .p 0 * A .C .P .n })
-        (firstWords (A .C .P .n) (A .C .P .p 0) (order (A .C .P) (A .C .P .n)) rows)
+        → Placed A 1 (record { m = modulus A; top = 1; gens = A .C .P .n; p = A .C .P .p 1; base = 0; reps = A .C .P .p 0; end = A .C .P .p 0 * A .C .P .n })
+        (firstWords (A .C .P .n) (A .C .P .p 0) (modulus A) rows)
     one-placed l =
         let c : 1 - 1 ≡ 0 = omega arith in
         record {

@@ -28,7 +28,7 @@ use Rattle.rows.specs.Rows.{Reads}
 use Rattle.level.specs.Stored.{matrixIn}
 use Rattle.survey.specs.declared.Frame.{Frame}
 use Rattle.survey.specs.Below.{sourceIn, degOf, matrixOf, targetOf, leaderIn, Fixing, Cycling}
-use Rattle.levels.specs.Built.{upTo, frameAt, Placed}
+use Rattle.levels.specs.Built.{upTo, frameAt, Placed, levelOf}
 use Rattle.levels.proofs.Words.{reads, target-of}
 use Rattle.levels.proofs.Standing.{placed}
 
@@ -63,7 +63,7 @@ module _ (A : Accepted) (k : ℕ) (l : suc k < A .C .P .n) (rows : List (List �
   T = twins A (suc k) l (degOf f W) (λ r g. matrixIn W (matrixOf f W g r) (degOf f W r)) (targetOf f W) (reads A k lower)
       (λ j. toNF (suc (suc k)) (getD rows (pairNumber j (suc k)) [])) (λ j a b. sym (told .w-is (suc k) j a b))
 
-  module _ (r : ℕ) (h : r < length (levels (A .C .P) (order (A .C .P) (A .C .P .n)) (suc k))) (mv : ¬ (targetOf (frameAt A k) (upTo A (suc k)) (suc k) r ≡ r)) (own : leaderIn (frameAt A k) (upTo A (suc k)) r ≡ r)
+  module _ (r : ℕ) (h : r < length (levelOf A (suc k))) (mv : ¬ (targetOf (frameAt A k) (upTo A (suc k)) (suc k) r ≡ r)) (own : leaderIn (frameAt A k) (upTo A (suc k)) r ≡ r)
       (j : ℕ) (ij : suc k < j) (jn : j < A .C .P .n) where
     moves : ¬ (repOf L r .ref (suc k) 0 ≡ r)
     moves e = mv (target-of A k lower (suc k) r h l ∙ e)
@@ -102,11 +102,11 @@ module _ (A : Accepted) (k : ℕ) (l : suc k < A .C .P .n) (rows : List (List �
 
 module _ (A : Accepted) (k : ℕ) (l : suc k < A .C .P .n) where
   -- where generator j leads, as the steps say it
-  leads : (j r : ℕ) → r < length (levels (A .C .P) (order (A .C .P) (A .C .P .n)) (suc k)) → j < A .C .P .n → targetOf (frameAt A k) (upTo A (suc k)) j r ≡ rungs A (suc k) l .F .target j r
+  leads : (j r : ℕ) → r < length (levelOf A (suc k)) → j < A .C .P .n → targetOf (frameAt A k) (upTo A (suc k)) j r ≡ rungs A (suc k) l .F .target j r
   unfolding rung
   leads j r h jn = target-of A k (omega arith) j r h jn ∙ sym (rungs A (suc k) l .literal j r)
 
-  pub fixed-at : (r : ℕ) → r < length (levels (A .C .P) (order (A .C .P) (A .C .P .n)) (suc k)) → targetOf (frameAt A k) (upTo A (suc k)) (suc k) r ≡ r → (j : ℕ) → suc k < j → j < A .C .P .n
+  pub fixed-at : (r : ℕ) → r < length (levelOf A (suc k)) → targetOf (frameAt A k) (upTo A (suc k)) (suc k) r ≡ r → (j : ℕ) → suc k < j → j < A .C .P .n
       → targetOf (frameAt A k) (upTo A (suc k)) (suc k) (targetOf (frameAt A k) (upTo A (suc k)) j r) ≡ targetOf (frameAt A k) (upTo A (suc k)) j r
   unfolding rung
   fixed-at r h e j ij jn =

@@ -21,7 +21,7 @@ use Rattle.monomial.proofs.Schur.{intertwiner-inverse}
 use Rattle.clifford.specs.Stands.{frame}
 use Rattle.clifford.specs.Accepted.{Accepted}
 use Rattle.clifford.proofs.Standing.{Standing, standing, setting}
-use Rattle.levels.specs.Built.{degreeIn}
+use Rattle.levels.specs.Built.{degreeIn, levelOf}
 
 module _ (A : Accepted) (k : ℕ) (l : k < A .C .P .n) where
   abbrev n : ℕ
@@ -57,8 +57,8 @@ module _ (A : Accepted) (k : ℕ) (l : k < A .C .P .n) where
   intertwiner-inverse-at j a b =
       intertwiner-inverse (here .F) (here .F .X j) (conjNf (A .C) (suc k) j) (here .F .past j a b) (order (A .C .P) (suc j)) (order-positive (A .C) (suc j)) (conj-period (setting A .T) (suc k) j a b)
 
-  pub rows-distinct : (r g : ℕ) → r < length (levels (A .C .P) (order (A .C .P) (A .C .P .n)) (suc k)) → g < A .C .P .n → (c c′ : ℕ) → c < degreeIn A k r → c′ < degreeIn A k r
-      → col (repOf (levels (A .C .P) (order (A .C .P) (A .C .P .n)) (suc k)) r .matrix g) c .row ≡ col (repOf (levels (A .C .P) (order (A .C .P) (A .C .P .n)) (suc k)) r .matrix g) c′ .row
+  pub rows-distinct : (r g : ℕ) → r < length (levelOf A (suc k)) → g < A .C .P .n → (c c′ : ℕ) → c < degreeIn A k r → c′ < degreeIn A k r
+      → col (repOf (levelOf A (suc k)) r .matrix g) c .row ≡ col (repOf (levelOf A (suc k)) r .matrix g) c′ .row
       → c ≡ c′
   rows-distinct r g h a = go (decLt g (suc k))
     where

@@ -7,9 +7,8 @@ use mathlib.Core.List.{List, []}
 use Prim.Native.Nat.{ℕ, zero, suc, _<_}
 use native.Mathlib.Omega.{arith}
 use lib.ListN.{length, getD}
-use Rattle.definitions.specs.Presentation.{NF, toNF, pairNumber, order}
+use Rattle.definitions.specs.Presentation.{NF, toNF, pairNumber}
 use Rattle.definitions.specs.Table.{levelWords}
-use Rattle.definitions.specs.Steps.{levels}
 use Rattle.formulas.specs.Formulas.{levelBy}
 use Rattle.clifford.specs.Accepted.{Accepted}
 use Rattle.agreement.proofs.Table.{level-told}
@@ -17,25 +16,25 @@ use Rattle.rows.specs.Rows.{Reads}
 use Rattle.level.specs.Stored.{matrixIn}
 use Rattle.survey.specs.declared.Frame.{Frame}
 use Rattle.survey.specs.Below.{Rows, sourceIn, degOf, matrixOf, targetOf}
-use Rattle.levels.specs.Built.{upTo, frameAt, Placed}
+use Rattle.levels.specs.Built.{upTo, frameAt, Placed, levelOf, modulus}
 use Rattle.levels.proofs.Words.{reads}
 use Rattle.levels.proofs.Standing.{placed}
 
 module _ (A : Accepted) where
   pub next-at : (k : ℕ) → suc k < A .C .P .n → (rows : List (List ℕ)) {primes : List ℕ} → Reads (A .C .P) (A .C .P .n) primes rows
-      → levelWords (A .C .P .n) (suc (suc k)) (levels (A .C .P) (order (A .C .P) (A .C .P .n)) (suc (suc k)))
+      → levelWords (A .C .P .n) (suc (suc k)) (levelOf A (suc (suc k)))
       ≡ levelWords (A .C .P .n) (suc (suc k)) (levelBy (sourceIn (frameAt A k) (upTo A (suc k)) rows))
   next-at k l rows told =
       level-told A (suc k) l (degOf (frameAt A k) (upTo A (suc k))) (λ r g. matrixIn (upTo A (suc k)) (matrixOf (frameAt A k) (upTo A (suc k)) g r) (degOf (frameAt A k) (upTo A (suc k)) r))
       (targetOf (frameAt A k) (upTo A (suc k))) (reads A k (omega arith)) (λ j. toNF (suc (suc k)) (getD rows (pairNumber j (suc k)) []))
       (λ j a b. sym (told .w-is (suc k) j a b))
       ∙ ap (λ (u : NF (suc k)). levelWords (A .C .P .n) (suc (suc k)) (levelBy (record {
-        m = order (A .C .P) (A .C .P .n);
+        m = modulus A;
         i = suc k;
         p = A .C .P .p (suc k);
         u = u;
         w = λ j. toNF (suc (suc k)) (getD rows (pairNumber j (suc k)) []);
-        count = length (levels (A .C .P) (order (A .C .P) (A .C .P .n)) (suc k));
+        count = length (levelOf A (suc k));
         degree = degOf (frameAt A k) (upTo A (suc k));
         matrix = λ r g. matrixIn (upTo A (suc k)) (matrixOf (frameAt A k) (upTo A (suc k)) g r) (degOf (frameAt A k) (upTo A (suc k)) r);
         target = targetOf (frameAt A k) (upTo A (suc k));
@@ -52,7 +51,7 @@ module _ (A : Accepted) where
 
   pub next-words : (i : ℕ) (f : Frame) (W : List ℕ) (rows : List (List ℕ)) {primes : List ℕ}
       → Placed A i f W → Reads (A .C .P) (A .C .P .n) primes rows
-      → levelWords (A .C .P .n) (suc i) (levels (A .C .P) (order (A .C .P) (A .C .P .n)) (suc i)) ≡ levelWords (A .C .P .n) (suc i) (levelBy (sourceIn f W rows))
+      → levelWords (A .C .P .n) (suc i) (levelOf A (suc i)) ≡ levelWords (A .C .P .n) (suc i) (levelBy (sourceIn f W rows))
   next-words zero f W rows Q told = absurd (omega (arith, Q .above))
   next-words (suc k) f W rows Q told =
       next-at k (Q .below) rows told ∙ ap₂ (λ f W. levelWords (A .C .P .n) (suc (suc k)) (levelBy (sourceIn f W rows))) (sym (placed A k f W Q)) (sym (Q .words-are))

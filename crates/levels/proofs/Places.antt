@@ -24,7 +24,7 @@ use Rattle.builder.proofs.Above.{repWords-length}
 use Rattle.clifford.specs.Accepted.{Accepted}
 use Rattle.clifford.proofs.Standing.{standing, setting}
 use Rattle.clifford.proofs.Lines.{LevelsListed, table, levelLines, repLines, lineNumber, word-at}
-use Rattle.levels.specs.Built.{upTo, linesTo, degreeIn}
+use Rattle.levels.specs.Built.{upTo, linesTo, degreeIn, levelOf}
 
 pub level-length : (n i : ℕ) (L : Level) → length (levelWords n i L) ≡ 8 * sum (length L) (λ r. n * repOf L r .deg)
 unfolding levelWords
@@ -50,7 +50,7 @@ module _ (A : Accepted) where
 
   -- ---- Lengths
 
-  pub lines-suc : (k : ℕ) → linesTo A (suc k) ≡ linesTo A k + sum (length (levels (A .C .P) (order (A .C .P) (A .C .P .n)) (suc k))) (λ r. A .C .P .n * degreeIn A k r)
+  pub lines-suc : (k : ℕ) → linesTo A (suc k) ≡ linesTo A k + sum (length (levelOf A (suc k))) (λ r. A .C .P .n * degreeIn A k r)
   unfolding linesTo
   lines-suc k = sum-suc k _
 
@@ -64,7 +64,7 @@ module _ (A : Accepted) where
       length-blocks k (λ i. levelWords n (suc i) (level i)) ∙ sum-below k _ (λ i. 8 * sum (length (level i)) (wide i)) (λ i l. level-length n (suc i) (level i))
       ∙ sum-mul k 8 (λ i. sum (length (level i)) (wide i))
 
-  pub upTo-suc : (k : ℕ) → upTo A (suc k) ≡ upTo A k ++ levelWords (A .C .P .n) (suc k) (levels (A .C .P) (order (A .C .P) (A .C .P .n)) (suc k))
+  pub upTo-suc : (k : ℕ) → upTo A (suc k) ≡ upTo A k ++ levelWords (A .C .P .n) (suc k) (levelOf A (suc k))
   unfolding upTo
   upTo-suc k = blocks-suc k _
 
@@ -85,11 +85,11 @@ module _ (A : Accepted) where
   unfolding startOf
   start-suc k r = omega (arith, sum-suc r (wide k))
 
-  pub start-end : (k r : ℕ) → r ≤ length (levels (A .C .P) (order (A .C .P) (A .C .P .n)) (suc k)) → startOf k r ≤ linesTo A (suc k)
+  pub start-end : (k r : ℕ) → r ≤ length (levelOf A (suc k)) → startOf k r ≤ linesTo A (suc k)
   unfolding startOf
   start-end k r h = omega (arith, lines-suc k, sum-mono r (length (level k)) (wide k) h)
 
-  pub line-below : (k r g c : ℕ) → r < length (levels (A .C .P) (order (A .C .P) (A .C .P .n)) (suc k)) → g < A .C .P .n → c < degreeIn A k r → startOf k r + (g * degreeIn A k r + c) < linesTo A (suc k)
+  pub line-below : (k r g c : ℕ) → r < length (levelOf A (suc k)) → g < A .C .P .n → c < degreeIn A k r → startOf k r + (g * degreeIn A k r + c) < linesTo A (suc k)
   line-below k r g c h a b =
       let d : g * degreeIn A k r + c < n * degreeIn A k r = digits-lt a b in
       let e = start-suc k r in
@@ -119,8 +119,8 @@ module _ (A : Accepted) where
       sym (List·getD-append (upTo A k) (blocks (n - k) (λ j. levelWords n (suc (k + j)) (level (k + j)))) 0 (8 * l + w) i)
       ∙ ap (λ W. getD W (8 * l + w) 0) (sym (blocks-split k (n - k) (λ i. levelWords n (suc i) (level i))) ∙ ap (λ x. blocks x (λ i. levelWords n (suc i) (level i))) e)
 
-  pub word-in : (k r g c w : ℕ) → k < A .C .P .n → r < length (levels (A .C .P) (order (A .C .P) (A .C .P .n)) (suc k)) → g < A .C .P .n → c < degreeIn A k r → w < 8
-      → wordAt (upTo A (suc k)) (startOf k r + (g * degreeIn A k r + c)) w ≡ getD (lineOf (suc k) r (repOf (levels (A .C .P) (order (A .C .P) (A .C .P .n)) (suc k)) r) g c) w 0
+  pub word-in : (k r g c w : ℕ) → k < A .C .P .n → r < length (levelOf A (suc k)) → g < A .C .P .n → c < degreeIn A k r → w < 8
+      → wordAt (upTo A (suc k)) (startOf k r + (g * degreeIn A k r + c)) w ≡ getD (lineOf (suc k) r (repOf (levelOf A (suc k)) r) g c) w 0
   unfolding lineWords
   word-in k r g c w a b d e h =
       word-up (suc k) (startOf k r + (g * degreeIn A k r + c)) w a (line-below k r g c b d e) h ∙ ap₂ (λ T x. wordAt T x w) table-is (line-is k r g c)

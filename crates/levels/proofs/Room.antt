@@ -21,7 +21,7 @@ use Rattle.numbers.proofs.Sums.{sum-le, sum-mul, sum-const, sum-below, term-le}
 use Rattle.group.proofs.Order.{order-positive}
 use Rattle.clifford.specs.Accepted.{Accepted}
 use Rattle.clifford.proofs.Standing.{standing, setting, order-split}
-use Rattle.levels.specs.Built.{upTo, linesTo, degreeIn, WithinCeilings}
+use Rattle.levels.specs.Built.{upTo, linesTo, degreeIn, WithinCeilings, levelOf, modulus}
 use Rattle.levels.proofs.Places.{upTo-length, upTo-all}
 
 self-square : (d : ℕ) → d ≤ d * d
@@ -61,17 +61,17 @@ module _ (A : Accepted) where
       let b = order-step (k + i) in
       subst (λ x. order P i ≤ order P x) e (omega arith)
 
-  pub order-le : (i : ℕ) → i ≤ A .C .P .n → order (A .C .P) i ≤ order (A .C .P) (A .C .P .n)
+  pub order-le : (i : ℕ) → i ≤ A .C .P .n → order (A .C .P) i ≤ modulus A
   order-le i l = let e : n - i + i ≡ n = omega arith in subst (λ x. order P i ≤ order P x) e (order-more i (n - i))
 
-  pub prime-le : (i : ℕ) → i < A .C .P .n → A .C .P .p i ≤ order (A .C .P) (A .C .P .n)
+  pub prime-le : (i : ℕ) → i < A .C .P .n → A .C .P .p i ≤ modulus A
   unfolding order
   prime-le i l =
       let a : P .p i * 1 ≤ P .p i * order P i = mul-le-mul-left (P .p i) (order-positive (A .C) i) in
       let b : P .p i * order P i ≤ order P n = order-le (suc i) l in
       omega arith
 
-  pub whole : (i : ℕ) → i < A .C .P .n → order (A .C .P) (A .C .P .n) ≡ A .C .P .p i * (order (A .C .P) (A .C .P .n) / A .C .P .p i)
+  pub whole : (i : ℕ) → i < A .C .P .n → modulus A ≡ A .C .P .p i * (modulus A / A .C .P .p i)
   whole i l =
       let (s, q) = order-split P n i l in
       let two = A .C .two i in
@@ -84,20 +84,20 @@ module _ (A : Accepted) where
     squares : sum (length (level k)) (λ r. d k r * d k r) ≡ order P (suc k)
     squares = standing (setting A) (suc k) l .stands .squares
 
-    pub degree-pos : (r : ℕ) → r < length (levels (A .C .P) (order (A .C .P) (A .C .P .n)) (suc k)) → 0 < degreeIn A k r
+    pub degree-pos : (r : ℕ) → r < length (levelOf A (suc k)) → 0 < degreeIn A k r
     degree-pos r h = standing (setting A) (suc k) l .stands .degree-pos r h
 
-    pub degree-le : (r : ℕ) → r < length (levels (A .C .P) (order (A .C .P) (A .C .P .n)) (suc k)) → degreeIn A k r ≤ order (A .C .P) (suc k)
+    pub degree-le : (r : ℕ) → r < length (levelOf A (suc k)) → degreeIn A k r ≤ order (A .C .P) (suc k)
     degree-le r h =
         let a = self-square (d k r) in
         let b = term-le (λ r. d k r * d k r) (length (level k)) r h in
         let e = squares in
         omega arith
 
-    pub columns-le : sum (length (levels (A .C .P) (order (A .C .P) (A .C .P .n)) (suc k))) (degreeIn A k) ≤ order (A .C .P) (suc k)
+    pub columns-le : sum (length (levelOf A (suc k))) (degreeIn A k) ≤ order (A .C .P) (suc k)
     columns-le = subst (λ x. sum (length (level k)) (d k) ≤ x) squares (sum-le (length (level k)) (d k) (λ r. d k r * d k r) (λ r h. self-square (d k r)))
 
-    pub reps-le : length (levels (A .C .P) (order (A .C .P) (A .C .P .n)) (suc k)) ≤ order (A .C .P) (suc k)
+    pub reps-le : length (levelOf A (suc k)) ≤ order (A .C .P) (suc k)
     reps-le =
         let a = sum-le (length (level k)) (λ r. 1) (d k) (λ r h. degree-pos r h) in
         let e = sum-const (length (level k)) 1 in

@@ -14,9 +14,8 @@ use native.Mathlib.Numerals.{add-one}
 use native.Mathlib.Nat.{zero-add}
 use lib.ListN.{length, getD, take}
 use lib.Seq.{take-append-seam}
-use Rattle.definitions.specs.Presentation.{maxGenerators, maxOrder, maxModulus, order}
+use Rattle.definitions.specs.Presentation.{maxGenerators, maxOrder, maxModulus}
 use Rattle.definitions.specs.Table.{levelWords}
-use Rattle.definitions.specs.Steps.{levels}
 use Rattle.clifford.specs.Accepted.{Accepted}
 use Rattle.formulas.specs.Formulas.{levelBy}
 use Rattle.text.specs.Writing.{put, Wrote}
@@ -26,7 +25,7 @@ use Rattle.survey.specs.declared.Frame.{Frame}
 use Rattle.survey.specs.Below.{lowOf, sourceIn}
 use Rattle.builder.specs.declared.Written.{Written}
 use Rattle.builder.specs.Level.{LevelAsked, LevelMade}
-use Rattle.levels.specs.Built.{upTo, Placed}
+use Rattle.levels.specs.Built.{upTo, Placed, levelOf}
 use Rattle.levels.proofs.Standing.{stands}
 use Rattle.levels.proofs.Next.{rows-below}
 use Rattle.levels.proofs.Cycles.{visited, fixing}
@@ -38,13 +37,13 @@ use Rattle.levels.specs.Given.{Given}
 pub record BuiltTo (A : Accepted) (i base reps end : ℕ) (w₀ w : List ℕ) : Type 0 where
   pub wrote : Wrote w₀ 0 (upTo A i) w (8 * end)
   pub base-is : i < A .C .P .n → 8 * base ≡ length (upTo A (i - 1))
-  pub reps-is : reps ≡ length (levels (A .C .P) (order (A .C .P) (A .C .P .n)) i)
+  pub reps-is : reps ≡ length (levelOf A i)
 
 take-wrote : (b s c : List ℕ) (next : ℕ) → Wrote b 0 s c next → take next c ≡ s
 unfolding put
 take-wrote b s c next q = ap₂ take (q .end ∙ zero-add _) (q .content) ∙ take-append-seam s _
 
-module _ (A : Accepted) (rows : List (List ℕ)) (primes : List ℕ) (n m have : ℕ) (G : Given rows primes n m have A) where
+module _ {A : Accepted} {rows : List (List ℕ)} {primes : List ℕ} {n m have : ℕ} (G : Given rows primes n m have A) where
   -- ---- Level 1
 
   pub first-asks : (p : ℕ) → p ≡ getD primes 0 0 → (n ≤ maxGenerators) × (p ≤ maxOrder) × (m ≤ maxModulus) × WordsBelow n p rows × (8 * (p * n) ≤ have)
@@ -58,8 +57,8 @@ module _ (A : Accepted) (rows : List (List ℕ)) (primes : List ℕ) (n m have :
         omega (arith, ap₂ (λ x y. 8 * (x * y)) q N, one-room A rows (G .reads), G .room),
       )
 
-  pub stage-one : (p : ℕ) → p ≡ getD primes 0 0 → (w₀ w : List ℕ) (end : ℕ) → Wrote w₀ 0 (firstWords n p m rows) w (8 * end) → BuiltTo A 1 0 p end w₀ w
-  stage-one p e w₀ w end W =
+  pub stage-one : {p : ℕ} → p ≡ getD primes 0 0 → {w₀ w : List ℕ} {end : ℕ} → Wrote w₀ 0 (firstWords n p m rows) w (8 * end) → BuiltTo A 1 0 p end w₀ w
+  stage-one {p} e {w₀} {w} {end} W =
       let q : p ≡ A .C .P .p 0 = e ∙ G .reads .p-is 0 (A .positive) in
       record {
         wrote = wrote-as W ((λ o. firstWords (G .n-is o) (q o) (G .m-is o) rows) ∙ one-upTo A rows (G .reads));
@@ -69,7 +68,7 @@ module _ (A : Accepted) (rows : List (List ℕ)) (primes : List ℕ) (n m have :
 
   -- ---- The next
 
-  module _ (i base reps end p : ℕ) (w₀ w : List ℕ) (above : 0 < i) (below : i < n) (known : p ≡ getD primes i 0) (S : BuiltTo A i base reps end w₀ w) where
+  module _ {i base reps end p : ℕ} {w₀ w : List ℕ} (above : 0 < i) (below : i < n) (known : p ≡ getD primes i 0) (S : BuiltTo A i base reps end w₀ w) where
     abbrev pub frame : Frame
     frame = record { m = m; top = i; gens = n; p = p; base = base; reps = reps; end = end }
 
@@ -110,5 +109,5 @@ module _ (A : Accepted) (rows : List (List ℕ)) (primes : List ℕ) (n m have :
           wrote = wrote-as (wrote-more (S .wrote) (M .wrote)) (named ∙ next-upTo A i frame (lowOf frame w) rows Q (G .reads) ∙ ap (upTo A) (sym (add-one i)));
           base-is = λ l. Q .end-is ∙ ap (λ x. length (upTo A x)) (sym next);
           reps-is = M .reps-is ∙ next-reps A i frame (lowOf frame w) Q
-              ∙ ap (λ x. length (levels (A .C .P) (order (A .C .P) (A .C .P .n)) x)) (sym (add-one i));
+              ∙ ap (λ x. length (levelOf A x)) (sym (add-one i));
         }

@@ -26,7 +26,7 @@ use Rattle.agreement.proofs.Table.{rungs}
 use Rattle.level.specs.Stored.{Below, Holds, entryIn}
 use Rattle.survey.specs.declared.Frame.{Frame}
 use Rattle.survey.specs.Below.{LevelStands, firstOf, degOf, matrixOf, targetOf}
-use Rattle.levels.specs.Built.{upTo, linesTo, degreeIn, frameAt, WithinCeilings, Placed}
+use Rattle.levels.specs.Built.{upTo, linesTo, degreeIn, frameAt, WithinCeilings, Placed, levelOf, modulus}
 use Rattle.levels.proofs.Places.{upTo-length, startOf, start-suc, start-end}
 use Rattle.levels.proofs.Room.{order-le, whole, degree-pos, degree-le, reps-le, lines-small}
 use Rattle.levels.proofs.Distinct.{rows-distinct}
@@ -68,15 +68,15 @@ module _ (A : Accepted) (k : ℕ) where
     abbrev standsHere : Standing (setting A) (suc k) L
     standsHere = standing (setting A) (suc k) l
 
-    pub ref-in : (j r : ℕ) → suc k ≤ j → j < A .C .P .n → r < length (levels (A .C .P) (order (A .C .P) (A .C .P .n)) (suc k))
-        → repOf (levels (A .C .P) (order (A .C .P) (A .C .P .n)) (suc k)) r .ref j 0 < length (levels (A .C .P) (order (A .C .P) (A .C .P .n)) (suc k))
+    pub ref-in : (j r : ℕ) → suc k ≤ j → j < A .C .P .n → r < length (levelOf A (suc k))
+        → repOf (levelOf A (suc k)) r .ref j 0 < length (levelOf A (suc k))
     ref-in j r a b h = subst (λ s. s < length L) (standsHere .literal j r) (target-listed (A .C) n m (order-positive (A .C) n) (suc k) L (standsHere .F) (standsHere .stands) j a b r h)
 
-    pub target-in : (j r : ℕ) → suc k ≤ j → j < A .C .P .n → r < length (levels (A .C .P) (order (A .C .P) (A .C .P .n)) (suc k))
-        → targetOf (frameAt A k) (upTo A (suc k)) j r < length (levels (A .C .P) (order (A .C .P) (A .C .P .n)) (suc k))
+    pub target-in : (j r : ℕ) → suc k ≤ j → j < A .C .P .n → r < length (levelOf A (suc k))
+        → targetOf (frameAt A k) (upTo A (suc k)) j r < length (levelOf A (suc k))
     target-in j r a b h = subst (λ s. s < length L) (sym (target-of A k l j r h b)) (ref-in j r a b h)
 
-    pub target-degree : (j r : ℕ) → suc k ≤ j → j < A .C .P .n → r < length (levels (A .C .P) (order (A .C .P) (A .C .P .n)) (suc k))
+    pub target-degree : (j r : ℕ) → suc k ≤ j → j < A .C .P .n → r < length (levelOf A (suc k))
         → degOf (frameAt A k) (upTo A (suc k)) (targetOf (frameAt A k) (upTo A (suc k)) j r) ≡ degOf (frameAt A k) (upTo A (suc k)) r
     target-degree j r a b h =
         ap (degOf f W) (target-of A k l j r h b) ∙ deg-of A k l (repOf L r .ref j 0) (ref-in j r a b h) ∙ ap d (sym (standsHere .literal j r))
@@ -84,14 +84,16 @@ module _ (A : Accepted) (k : ℕ) where
 
     -- ---- Lines
 
-    pub inside : (r : ℕ) → r < length (levels (A .C .P) (order (A .C .P) (A .C .P .n)) (suc k)) → firstOf (frameAt A k) (upTo A (suc k)) (suc r) ≤ linesTo A (suc k)
+    pub inside : (r : ℕ) → r < length (levelOf A (suc k)) → firstOf (frameAt A k) (upTo A (suc k)) (suc r) ≤ linesTo A (suc k)
     inside r h = subst (λ x. x ≤ linesTo A (suc k)) (sym (first-of A k l (suc r) h)) (start-end A k (suc r) h)
 
-    pub holds : order (A .C .P) (A .C .P .n) ≤ maxOrder → (r : ℕ) → r < length (levels (A .C .P) (order (A .C .P) (A .C .P .n)) (suc k)) → (g : ℕ) → g < A .C .P .n
-        → Holds (order (A .C .P) (A .C .P .n)) (upTo A (suc k)) (matrixOf (frameAt A k) (upTo A (suc k)) g r) (degOf (frameAt A k) (upTo A (suc k)) r)
+    pub holds : modulus A ≤ maxOrder → (r : ℕ) → r < length (levelOf A (suc k)) → (g : ℕ) → g < A .C .P .n
+        → Holds (modulus A) (upTo A (suc k)) (matrixOf (frameAt A k) (upTo A (suc k)) g r) (degOf (frameAt A k) (upTo A (suc k)) r)
     holds low r h g a = record {
       small = omega arith;
-      fits = subst (λ x. 8 * x ≤ length W) (sym (line-of A k l g r (degOf f W r) h ∙ ap (λ x. startOf A k r + (g * d r + x)) (deg-of A k l r h))) (subst (λ x. 8 * (startOf A k r + (g * d r + d r)) ≤ x) (sym (upTo-length A (suc k))) lines);
+      fits =
+          let line = line-of A k l g r (degOf f W r) h ∙ ap (λ x. startOf A k r + (g * d r + x)) (deg-of A k l r h) in
+          omega (arith, line, lines, upTo-length A (suc k));
       valid = λ c b.
           let e : c < d r = subst (λ x. c < x) (deg-of A k l r h) b in
           subst (λ x. Below m x (entryIn W (matrixOf f W g r + c))) (sym (deg-of A k l r h)) (subst (Below m (d r)) (sym (entry-of A k l g r c h a e)) (column-below A k l r g c h a e));
@@ -119,10 +121,11 @@ module _ (A : Accepted) (k : ℕ) where
     home : (r : ℕ) → r < length L → iter (λ r. repOf L r .ref (suc k) 0) p r ≡ r
     unfolding rung
     home r h =
-        iter-agree (length L) (λ r. repOf L r .ref (suc k) 0) (rungs A (suc k) l .F .target (suc k)) (λ r a. sym (rungs A (suc k) l .literal (suc k) r)) (λ r a. ref-in lower (suc k) r (omega arith) l a) p r h
-        ∙ O (rungs A (suc k) l) .home r h
+        let R = rungs A (suc k) l in
+        iter-agree (length L) (λ r. repOf L r .ref (suc k) 0) (R .F .target (suc k)) (λ r a. sym (R .literal (suc k) r)) (λ r a. ref-in lower (suc k) r (omega arith) l a) p r h
+        ∙ O R .home r h
 
-    pub cycle : (r : ℕ) → r < length (levels (A .C .P) (order (A .C .P) (A .C .P .n)) (suc k)) → iter (targetOf (frameAt A k) (upTo A (suc k)) (suc k)) (A .C .P .p (suc k)) r ≡ r
+    pub cycle : (r : ℕ) → r < length (levelOf A (suc k)) → iter (targetOf (frameAt A k) (upTo A (suc k)) (suc k)) (A .C .P .p (suc k)) r ≡ r
     cycle r h =
         iter-agree (length L) (targetOf f W (suc k)) (λ r. repOf L r .ref (suc k) 0) (λ r a. target-of A k lower (suc k) r a l) (λ r a. target-in lower (suc k) r (omega arith) l a) p r h
         ∙ home r h
@@ -133,10 +136,10 @@ module _ (A : Accepted) (k : ℕ) where
     unfolding order
     prime-order = order-le A (suc (suc k)) l
 
-    -- no level below has more representations than half the order, and no prime above the first is greater
-    halved : 2 * order P (suc k) ≤ m
-    halved = let a : 2 * order P (suc k) ≤ p * order P (suc k) = mul-le-mul-right (order P (suc k)) (A .C .two (suc k)) in omega (arith, prime-order)
+    listed-order : p * length L ≤ m
+    listed-order = let a : p * length L ≤ p * order P (suc k) = mul-le-mul-left p (reps-le A k lower) in omega (arith, prime-order)
 
+    -- no prime above the first is greater than half the order
     doubled : 2 * p ≤ m
     unfolding order
     doubled =
@@ -148,8 +151,7 @@ module _ (A : Accepted) (k : ℕ) where
     stands-at S =
         let few = S .few in
         let low = S .low in
-        let reps = reps-le A k lower in
-        let half = halved in
+        let listed = listed-order in
         let double = doubled in
         let end = lines-small A S (suc k) (omega arith) in
         let len = upTo-length A (suc k) in

@@ -27,7 +27,7 @@ use Rattle.agreement.proofs.Table.{ReadsLevel}
 use Rattle.level.specs.Stored.{Below, entryIn, matrixIn}
 use Rattle.survey.specs.declared.Frame.{Frame}
 use Rattle.survey.specs.Below.{firstOf, degOf, matrixOf, targetOf}
-use Rattle.levels.specs.Built.{upTo, degreeIn, frameAt}
+use Rattle.levels.specs.Built.{upTo, degreeIn, frameAt, levelOf, modulus}
 use Rattle.levels.proofs.Places.{startOf, start-zero, start-suc, word-in}
 use Rattle.levels.proofs.Room.{degree-pos}
 
@@ -61,33 +61,33 @@ module _ (A : Accepted) (k : ℕ) (l : k < A .C .P .n) where
       let e : startOf A k r ≡ startOf A k r + (0 * d r + 0) = omega arith in
       ap (λ x. wordAt W x DEG) e ∙ word-in A k r 0 0 DEG l h (A .positive) (degree-pos A k l r h) (omega arith)
 
-  pub first-of : (r : ℕ) → r ≤ length (levels (A .C .P) (order (A .C .P) (A .C .P .n)) (suc k)) → firstOf (frameAt A k) (upTo A (suc k)) r ≡ startOf A k r
+  pub first-of : (r : ℕ) → r ≤ length (levelOf A (suc k)) → firstOf (frameAt A k) (upTo A (suc k)) r ≡ startOf A k r
   unfolding firstOf
   first-of zero h = sym (start-zero A k)
   first-of (suc r) h =
       ap (λ x. x + n * wordAt W x DEG) (first-of r (omega arith)) ∙ ap (λ x. startOf A k r + n * x) (degree-at r (omega arith)) ∙ sym (start-suc A k r)
 
-  pub deg-of : (r : ℕ) → r < length (levels (A .C .P) (order (A .C .P) (A .C .P .n)) (suc k)) → degOf (frameAt A k) (upTo A (suc k)) r ≡ degreeIn A k r
+  pub deg-of : (r : ℕ) → r < length (levelOf A (suc k)) → degOf (frameAt A k) (upTo A (suc k)) r ≡ degreeIn A k r
   deg-of r h = ap (λ x. wordAt W x DEG) (first-of r (omega arith)) ∙ degree-at r h
 
-  pub line-of : (g r c : ℕ) → r < length (levels (A .C .P) (order (A .C .P) (A .C .P .n)) (suc k)) → matrixOf (frameAt A k) (upTo A (suc k)) g r + c ≡ startOf A k r + (g * degreeIn A k r + c)
+  pub line-of : (g r c : ℕ) → r < length (levelOf A (suc k)) → matrixOf (frameAt A k) (upTo A (suc k)) g r + c ≡ startOf A k r + (g * degreeIn A k r + c)
   line-of g r c h = ap₂ (λ x y. x + g * y + c) (first-of r (omega arith)) (deg-of r h) ∙ omega arith
 
   -- ---- Words
 
-  pub word-of : (g r c w : ℕ) → r < length (levels (A .C .P) (order (A .C .P) (A .C .P .n)) (suc k)) → g < A .C .P .n → c < degreeIn A k r → w < 8
-      → wordAt (upTo A (suc k)) (matrixOf (frameAt A k) (upTo A (suc k)) g r + c) w ≡ getD (lineOf (suc k) r (repOf (levels (A .C .P) (order (A .C .P) (A .C .P .n)) (suc k)) r) g c) w 0
+  pub word-of : (g r c w : ℕ) → r < length (levelOf A (suc k)) → g < A .C .P .n → c < degreeIn A k r → w < 8
+      → wordAt (upTo A (suc k)) (matrixOf (frameAt A k) (upTo A (suc k)) g r + c) w ≡ getD (lineOf (suc k) r (repOf (levelOf A (suc k)) r) g c) w 0
   word-of g r c w h a b e = ap (λ x. wordAt W x w) (line-of g r c h) ∙ word-in A k r g c w l h a b e
 
-  pub target-of : (j r : ℕ) → r < length (levels (A .C .P) (order (A .C .P) (A .C .P .n)) (suc k)) → j < A .C .P .n
-      → targetOf (frameAt A k) (upTo A (suc k)) j r ≡ repOf (levels (A .C .P) (order (A .C .P) (A .C .P .n)) (suc k)) r .ref j 0
+  pub target-of : (j r : ℕ) → r < length (levelOf A (suc k)) → j < A .C .P .n
+      → targetOf (frameAt A k) (upTo A (suc k)) j r ≡ repOf (levelOf A (suc k)) r .ref j 0
   unfolding lineOf
   target-of j r h a =
       let e : matrixOf f W j r ≡ matrixOf f W j r + 0 = omega arith in
       ap (λ x. wordAt W x REF) e ∙ word-of j r 0 REF h a (degree-pos A k l r h) (omega arith)
 
-  pub entry-of : (g r c : ℕ) → r < length (levels (A .C .P) (order (A .C .P) (A .C .P .n)) (suc k)) → g < A .C .P .n → c < degreeIn A k r
-      → entryIn (upTo A (suc k)) (matrixOf (frameAt A k) (upTo A (suc k)) g r + c) ≡ col (repOf (levels (A .C .P) (order (A .C .P) (A .C .P .n)) (suc k)) r .matrix g) c
+  pub entry-of : (g r c : ℕ) → r < length (levelOf A (suc k)) → g < A .C .P .n → c < degreeIn A k r
+      → entryIn (upTo A (suc k)) (matrixOf (frameAt A k) (upTo A (suc k)) g r + c) ≡ col (repOf (levelOf A (suc k)) r .matrix g) c
   unfolding lineOf
   entry-of g r c h a b = ap₂ entry (word-of g r c ROW h a b (omega arith)) (word-of g r c EXP h a b (omega arith))
 
@@ -109,24 +109,26 @@ module _ (A : Accepted) (k : ℕ) (l : k < A .C .P .n) where
         exp = (B a) .1 .1;
       })
 
-  pub size-of : (r g : ℕ) → r < length (levels (A .C .P) (order (A .C .P) (A .C .P .n)) (suc k)) → g < A .C .P .n
-      → length (repOf (levels (A .C .P) (order (A .C .P) (A .C .P .n)) (suc k)) r .matrix g) ≡ degreeIn A k r
+  pub size-of : (r g : ℕ) → r < length (levelOf A (suc k)) → g < A .C .P .n
+      → length (repOf (levelOf A (suc k)) r .matrix g) ≡ degreeIn A k r
   size-of r g h a = go (decLt g (suc k))
     where
       go : Dec (g < suc k) → length (repOf L r .matrix g) ≡ d r
       go (yes b) = standsHere .stands .represents g b r h .size
       go (no b) = standsHere .stands .intertwines g (omega arith) a r h .size
 
-  pub column-below : (r g c : ℕ) → r < length (levels (A .C .P) (order (A .C .P) (A .C .P .n)) (suc k)) → g < A .C .P .n → c < degreeIn A k r
-      → Below (order (A .C .P) (A .C .P .n)) (degreeIn A k r) (col (repOf (levels (A .C .P) (order (A .C .P) (A .C .P .n)) (suc k)) r .matrix g) c)
+  pub column-below : (r g c : ℕ) → r < length (levelOf A (suc k)) → g < A .C .P .n → c < degreeIn A k r
+      → Below (modulus A) (degreeIn A k r) (col (repOf (levelOf A (suc k)) r .matrix g) c)
   column-below r g c h a e = go (decLt g (suc k))
     where
       go : Dec (g < suc k) → Below m (d r) (col (repOf L r .matrix g) c)
       go (yes b) = shown-below r r c (repOf L r .matrix g) _ h refl e (standsHere .stands .represents g b r h)
-      go (no b) = shown-below r (standsHere .F .target g r) c (repOf L r .matrix g) _ h (standsHere .stands .degree-target g (omega arith) a r h) e (standsHere .stands .intertwines g (omega arith) a r h)
+      go (no b) =
+          let S = standsHere .stands in
+          shown-below r (standsHere .F .target g r) c (repOf L r .matrix g) _ h (S .degree-target g (omega arith) a r h) e (S .intertwines g (omega arith) a r h)
 
-  pub matrix-of : (r g : ℕ) → r < length (levels (A .C .P) (order (A .C .P) (A .C .P .n)) (suc k)) → g < A .C .P .n
-      → repOf (levels (A .C .P) (order (A .C .P) (A .C .P .n)) (suc k)) r .matrix g
+  pub matrix-of : (r g : ℕ) → r < length (levelOf A (suc k)) → g < A .C .P .n
+      → repOf (levelOf A (suc k)) r .matrix g
       ≡ matrixIn (upTo A (suc k)) (matrixOf (frameAt A k) (upTo A (suc k)) g r) (degOf (frameAt A k) (upTo A (suc k)) r)
   unfolding col
   matrix-of r g h a =

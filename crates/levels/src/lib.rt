@@ -12,9 +12,10 @@ use rows::Row;
 use rows::Words;
 use survey::Frame;
 
-// Appends the level above the one that the frame shows, with arrays for 16 representations and blocks.
+// Appends the level above the one that the frame shows, with arrays for 16 representations and blocks: an orbit that moves has
+// no more blocks than there are representations.
 fn tiny_level(words: &mut [u32], rows: &Words, f: Frame) -> Written
-    requires { ⌜ LevelAsked f (now words) (now rows) × (f .reps ≤ 16) × (f .p ≤ 16) ⌝ }
+    requires { ⌜ LevelAsked f (now words) (now rows) × (f .reps ≤ 16) ⌝ }
     ensures { λ t. ⌜ LevelMade f (now (words .entry)) (now (rows .entry)) t (now (words .exit)) ⌝ }
 {
     let mut notes = [0u32; 80];
@@ -24,7 +25,7 @@ fn tiny_level(words: &mut [u32], rows: &Words, f: Frame) -> Written
 
 // Appends it with arrays for 64 representations and blocks. Sixteen rows more, so that no two arrays lie whole pages apart.
 fn small_level(words: &mut [u32], rows: &Words, f: Frame) -> Written
-    requires { ⌜ LevelAsked f (now words) (now rows) × (f .reps ≤ 64) × (f .p ≤ 64) ⌝ }
+    requires { ⌜ LevelAsked f (now words) (now rows) × (f .reps ≤ 64) ⌝ }
     ensures { λ t. ⌜ LevelMade f (now (words .entry)) (now (rows .entry)) t (now (words .exit)) ⌝ }
 {
     let mut notes = [0u32; 400];
@@ -32,23 +33,25 @@ fn small_level(words: &mut [u32], rows: &Words, f: Frame) -> Written
     builder::append_level(words, rows, &mut notes, &mut blocks, f)
 }
 
-// Appends it with arrays for 512.
+// Appends it with arrays for 512 representations and for 64 blocks, which suffice for every level: where an orbit moves, the
+// square of the prime is at most the order.
 fn middle_level(words: &mut [u32], rows: &Words, f: Frame) -> Written
-    requires { ⌜ LevelAsked f (now words) (now rows) × (f .reps ≤ 512) × (f .p ≤ 512) ⌝ }
+    requires { ⌜ LevelAsked f (now words) (now rows) × (f .reps ≤ 512) ⌝ }
     ensures { λ t. ⌜ LevelMade f (now (words .entry)) (now (rows .entry)) t (now (words .exit)) ⌝ }
 {
     let mut notes = [0u32; 2640];
-    let mut blocks = [0u32; 1056];
+    let mut blocks = [0u32; 160];
     builder::append_level(words, rows, &mut notes, &mut blocks, f)
 }
 
-// Appends it with arrays for 2048, which suffice for every level: the level below has at most half the order of representations.
+// Appends it with arrays for 2048, which suffice for every level: the level below has at most half the order of
+// representations.
 fn large_level(words: &mut [u32], rows: &Words, f: Frame) -> Written
     requires { ⌜ LevelAsked f (now words) (now rows) ⌝ }
     ensures { λ t. ⌜ LevelMade f (now (words .entry)) (now (rows .entry)) t (now (words .exit)) ⌝ }
 {
     let mut notes = [0u32; 10320];
-    let mut blocks = [0u32; 4128];
+    let mut blocks = [0u32; 160];
     builder::append_level(words, rows, &mut notes, &mut blocks, f)
 }
 
@@ -58,19 +61,13 @@ fn next_level(words: &mut [u32], rows: &Words, f: Frame) -> Written
     ensures { λ t. ⌜ LevelMade f (now (words .entry)) (now (rows .entry)) t (now (words .exit)) ⌝ }
 {
     if f.reps <= 16 {
-        if f.p <= 16 {
-            return tiny_level(words, rows, f);
-        }
+        return tiny_level(words, rows, f);
     }
     if f.reps <= 64 {
-        if f.p <= 64 {
-            return small_level(words, rows, f);
-        }
+        return small_level(words, rows, f);
     }
     if f.reps <= 512 {
-        if f.p <= 512 {
-            return middle_level(words, rows, f);
-        }
+        return middle_level(words, rows, f);
     }
     large_level(words, rows, f)
 }

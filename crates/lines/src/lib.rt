@@ -3,9 +3,10 @@
 //   Head                         what the lines of one matrix share
 //   Piece                        a matrix as a block of a greater one
 //   put_line                     one line
-//   append_block                 the lines of a block
+//   shifted, block_entry         an exponent, and a column of a piece, as they stand in the greater matrix
+//   append_line, append_block    the line of a piece of degree 1; the lines of a piece
 ghost use mathlib.Core.Path.{_≡_};
-ghost use Prim.Native.Nat.{_+_, _*_, _≤_, _<_};
+ghost use Prim.Native.Nat.{_+_, _*_, _%_, _≤_, _<_};
 ghost use lib.ListN.{length, take};
 ghost use Rattle.lines.specs.Lines.{headLine, blockEntry, blockLines, Copied, Space, Appended};
 use definitions::Entry;
@@ -46,6 +47,17 @@ pub fn put_line(words: &mut [u32], at: usize, h: Head, k: u32, x: Entry) -> usiz
     at + 1
 }
 
+// The sum modulo m of an exponent and the power of the root that a piece is multiplied by; most are multiplied by none.
+fn shifted(e: u32, by: u32, m: u32) -> u32
+    requires { ⌜ (e < m) × (by < m) × (m ≤ 2147483648) ⌝ }
+    ensures { λ r. ⌜ r ≡ (e + by) % m ⌝ }
+{
+    if by == 0 {
+        return e;
+    }
+    level::add_mod(e, by, m)
+}
+
 // Column k of a piece, its row and its exponent as they stand in the greater matrix.
 fn block_entry(words: &[u32], b: Piece, k: u32, m: u32) -> Entry
     requires { ⌜ Copied m (now words) b × (k < b .deg) ⌝ }
@@ -54,7 +66,7 @@ fn block_entry(words: &[u32], b: Piece, k: u32, m: u32) -> Entry
     let e = level::column(words, b.src, b.deg, k, m);
     Entry {
         row: b.row + e.row,
-        exp: level::add_mod(e.exp, b.by, m),
+        exp: shifted(e.exp, b.by, m),
     }
 }
 
@@ -67,7 +79,7 @@ fn append_line(words: &mut [u32], low: usize, at: usize, h: Head, b: Piece, m: u
     let e = level::word_at(&words[..n], b.src, level::EXP);
     let x = Entry {
         row: b.row,
-        exp: level::add_mod(e, b.by, m),
+        exp: shifted(e, b.by, m),
     };
     put_line(words, at, h, b.col, x)
 }

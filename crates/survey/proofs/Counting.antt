@@ -4,7 +4,8 @@
 --   number-zero, number-next, number-small      numbers
 --   around-zero, around-next   an entry along an orbit
 --   leading-least, leading-other, leading-below     the constants that are kept
-use mathlib.Core.Path.{_≡_, refl, ap, sym, _∙_}
+--   closing-walked, closing-empty      a constant by as much of the power word as there is
+use mathlib.Core.Path.{_≡_, refl, ap, ap₂, sym, _∙_}
 use mathlib.Core.List.{List, []}
 use mathlib.Core.Bool.{Bool, true, false, cond}
 use Prim.Native.Nat.{ℕ, zero, suc, _+_, _*_, _<_, _≤_}
@@ -13,12 +14,18 @@ use native.Mathlib.Numerals.{add-one}
 use native.Mathlib.Nat.{mul-le-mul-right, mod-lt}
 use lib.Dec.{eqb}
 use Rattle.definitions.specs.Lists.{sum, iter}
+use Rattle.definitions.specs.declared.Entry.{Entry}
 use Rattle.definitions.specs.Monomial.{entry, less, act}
-use Rattle.definitions.specs.Presentation.{maxOrder}
+use Rattle.definitions.specs.Presentation.{toNF}
 use Rattle.numbers.proofs.Bools.{cond-eq, cond-ne}
-use Rattle.formulas.specs.Formulas.{made, start, around}
+use Rattle.formulas.specs.Formulas.{made, start, around, walk}
+use Rattle.rows.specs.Rows.{Top}
+use Rattle.level.specs.declared.Listed.{Listed}
+use Rattle.level.specs.Stored.{generatorIn}
+use Rattle.level.proofs.Columns.{walk-zero, walk-ends}
 use Rattle.survey.specs.declared.Frame.{Frame}
-use Rattle.survey.specs.Below.{targetOf, sourceIn, leaderIn, madeIn, numberIn, aroundIn, closingIn, leadingIn, LevelStands}
+use Rattle.survey.specs.Below.{targetOf, sourceIn, leaderIn, madeIn, numberIn, aroundIn, closingIn, leadingIn, LevelStands, Located}
+use Rattle.survey.proofs.Marking.{lead-fixed}
 
 module _ (f : Frame) (W : List ℕ) where
   abbrev τ : ℕ → ℕ
@@ -34,9 +41,9 @@ module _ (f : Frame) (W : List ℕ) where
   unfolding made
   made-leader r n e = sym (cond-ne (τ r) r (f .p) _ n ∙ cond-eq (leaderIn f W r) r 1 0 e)
 
-  pub made-none : (r : ℕ) → ¬ (τ r ≡ r) → ¬ (leaderIn f W r ≡ r) → 0 ≡ madeIn f W r
+  pub made-none : LevelStands f W → (r : ℕ) → r < f .reps → ¬ (leaderIn f W r ≡ r) → 0 ≡ madeIn f W r
   unfolding made
-  made-none r n n′ = sym (cond-ne (τ r) r (f .p) _ n ∙ cond-ne (leaderIn f W r) r 1 0 n′)
+  made-none S r h n = sym (cond-ne (τ r) r (f .p) _ (λ e. n (lead-fixed f W S r h e)) ∙ cond-ne (leaderIn f W r) r 1 0 n)
 
   pub leading-least : (u : List ℕ) (r : ℕ) → leaderIn f W r ≡ r → leadingIn f W u r ≡ closingIn f W u r
   unfolding leadingIn
@@ -53,6 +60,23 @@ module _ (f : Frame) (W : List ℕ) where
       go : (b : Bool) → cond b (closingIn f W u r) 0 < f .m
       go true = mod-lt _ h
       go false = h
+
+  -- ---- The power word, which ends before generator n
+
+  module _ (u : List ℕ) (n r : ℕ) (T : Top (f .top) u n) where
+    walk-end : walk (f .m) (sourceIn f W [] .matrix r) n (toNF n u) (entry 0 0) ≡ walk (f .m) (sourceIn f W [] .matrix r) (f .top) (toNF (f .top) u) (entry 0 0)
+    walk-end = walk-ends (f .m) (sourceIn f W [] .matrix r) u (entry 0 0) (f .top) n T
+
+    pub closing-walked : {D : Listed} {x y : Entry} {e : ℕ} → Located f W r D → x ≡ walk (f .m) (generatorIn W D) n (toNF n u) (entry 0 0) → y ≡ aroundIn f W r (f .p)
+        → e ≡ less (f .m) (x .exp) (y .exp) → e ≡ closingIn f W u r
+    unfolding closingIn
+    closing-walked L a b e = e ∙ ap₂ (λ (x y : Entry). less (f .m) (x .exp) (y .exp)) (a ∙ (λ o. walk (f .m) (generatorIn W (L .is o)) n (toNF n u) (entry 0 0)) ∙ walk-end) b
+
+    pub closing-empty : n ≡ 0 → {y : Entry} {e : ℕ} → y ≡ aroundIn f W r (f .p) → e ≡ less (f .m) 0 (y .exp) → e ≡ closingIn f W u r
+    unfolding closingIn
+    closing-empty z b e =
+        let w = sym (walk-zero (f .m) (sourceIn f W [] .matrix r) u (entry 0 0)) ∙ ap (λ k. walk (f .m) (sourceIn f W [] .matrix r) k (toNF k u) (entry 0 0)) (sym z) ∙ walk-end in
+        e ∙ ap₂ (λ (x y : Entry). less (f .m) (x .exp) (y .exp)) w b
 
   pub number-zero : 0 ≡ numberIn f W 0
   unfolding start sum
@@ -77,8 +101,8 @@ module _ (f : Frame) (W : List ℕ) where
 
   pub number-fits : LevelStands f W → (r : ℕ) → r ≤ f .reps → numberIn f W r ≤ 268435456
   number-fits S r l =
-      let a : r * f .p ≤ maxOrder * f .p = mul-le-mul-right (f .p) (omega (arith, S .few)) in
-      omega (arith, number-small (S .prime .0) r, S .prime .1, a)
+      let a : r * f .p ≤ f .reps * f .p = mul-le-mul-right (f .p) l in
+      omega (arith, number-small (S .prime .0) r, S .few, a)
 
   -- ---- Along an orbit
 

@@ -7,19 +7,25 @@
 --   located-degree, located-matrix, located-column      its degree, a matrix, column 0
 --   located-target             where an intertwiner leads it
 --   orbits                     the orbits of the generator on top
+--   moved-many, moved-prime    an orbit that moves has p members, so that p is no more than there are representations, and small
+--   reps-half                  representations are few
 use mathlib.Core.Path.{_≡_, refl, ap, sym, _∙_, subst}
 use Prim.Native.Nat.{ℕ, _+_, _*_, _<_, _≤_}
 use native.Mathlib.Numerals.{add-one}
 use native.Mathlib.Omega.{arith}
-use native.Mathlib.Nat.{mul-le-mul-right}
+use native.Mathlib.Nat.{mul-le-mul-left, mul-le-mul-right}
+use native.Mathlib.Decide.{decLt}
 use mathlib.Core.List.{List}
 use lib.ListN.{length}
-use Rattle.numbers.proofs.Orbits.{Orbits}
+use Rattle.definitions.specs.Lists.{iter}
+use Rattle.definitions.specs.Presentation.{maxOrder}
+use Rattle.numbers.proofs.Pigeonhole.{injects-le}
+use Rattle.numbers.proofs.Orbits.{Orbits, iter-below, moved-distinct}
 use Rattle.level.specs.declared.Listed.{Listed}
 use Rattle.level.specs.Stored.{matrixIn, Below, lineIn, generatorIn, targetIn, Stored}
 use Rattle.definitions.specs.Monomial.{entry}
 use Rattle.survey.specs.declared.Frame.{Frame}
-use Rattle.survey.specs.Below.{firstOf, degOf, matrixOf, targetOf, LevelStands, Located}
+use Rattle.survey.specs.Below.{firstOf, degOf, matrixOf, targetOf, Fixed, LevelStands, Located}
 
 module _ (f : Frame) (W : List ℕ) where
   pub first-zero : firstOf f W 0 ≡ f .base
@@ -51,6 +57,29 @@ module _ (f : Frame) (W : List ℕ) where
       inside = λ r l. S .target r l (f .top) (omega arith) (S .gens .0) .0;
       home = S .cycle;
     }
+
+    -- an orbit that moves has as many members as the prime says
+    pub moved-many : (r : ℕ) → r < f .reps → ¬ Fixed f W r → f .p ≤ f .reps
+    unfolding orbits
+    moved-many r h v = injects-le (f .p) (f .reps) (λ k. iter (targetOf f W (f .top)) k r) (record {
+      below = λ k l. iter-below orbits k r h;
+      injective = λ j k a b e. moved-distinct orbits r h v j k a b e;
+    })
+
+    -- no level has more representations than half the order
+    pub reps-half : 2 * f .reps ≤ maxOrder
+    reps-half = let a : 2 * f .reps ≤ f .p * f .reps = mul-le-mul-right (f .reps) (S .prime .0) in omega (arith, S .few)
+
+    -- the square of the prime of an orbit that moves is at most the order
+    pub moved-prime : f .p ≤ f .reps → f .p ≤ 64
+    moved-prime l = go (decLt 64 (f .p))
+      where
+        go : Dec (64 < f .p) → f .p ≤ 64
+        go (yes h) =
+            let a : f .p * f .p ≤ f .p * f .reps = mul-le-mul-left (f .p) l in
+            let b : f .p * 65 ≤ f .p * f .p = mul-le-mul-left (f .p) h in
+            absurd (omega (arith, S .few))
+        go (no h) = omega arith
 
 -- ---- The representation that D is
 

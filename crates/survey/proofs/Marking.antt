@@ -67,6 +67,9 @@ module _ (f : Frame) (W : List ℕ) (S : LevelStands f W) where
   unfolding orbits
   orbit-inside r k l = iter-below (orbits f W S) k r l
 
+  pub orbit-member : (r k q : ℕ) → r < f .reps → q ≡ iter τ k r → q < f .reps
+  orbit-member r k q l e = subst (λ x. x < f .reps) (sym e) (orbit-inside r k l)
+
   -- ---- The marks
 
   pub marking-none : (a b : List ℕ) → f .reps ≤ length a → f .reps ≤ length b → ((k : ℕ) → k < f .reps → getD a k 0 ≡ f .reps) → MarkedTo f W a b 0 0

@@ -5,15 +5,16 @@
 --   inside-orbited             the same where orbits are noted
 --   beside-none, beside-put    nothing is stored; one more number in a field
 --   orbited-beside             orbits stay noted where another field is stored
+--   noted-led, noted-other     the leader that is noted is the representation itself, or another
 use mathlib.Core.Path.{_≡_, refl, sym, _∙_, subst}
 use mathlib.Core.List.{List}
 use Prim.Native.Nat.{ℕ, _<_, _≤_}
 use native.Mathlib.Omega.{arith}
-use lib.ListN.{length}
+use lib.ListN.{length, getD}
 use Rattle.fields.specs.Fields.{field, Inside, Put}
 use Rattle.fields.proofs.Rows.{field-long}
 use Rattle.survey.specs.declared.Frame.{Frame}
-use Rattle.survey.specs.Notes.{Beside}
+use Rattle.survey.specs.Notes.{leaders, Beside}
 use Rattle.survey.specs.Below.{leaderIn, positionIn, Array, Lines, Orbited}
 
 pub rows-stay : (n j k : ℕ) (a b : List ℕ) → length b ≡ length a → n ≤ length (field 5 j a) → n ≤ length (field 5 k b)
@@ -45,3 +46,12 @@ orbited-beside {f} {W} {a} {b} k h B O = record {
   leaders-are = subst (λ x. Array f W x (leaderIn f W)) (sym (B .kept 1 (omega arith) (λ e. omega (arith, e)))) (O .leaders-are);
   places-are = subst (λ x. Array f W x (positionIn f W)) (sym (B .kept 2 (omega arith) (λ e. omega (arith, e)))) (O .places-are);
 }
+
+-- ---- Leaders, read off the notes
+
+module _ {f : Frame} {W notes : List ℕ} {r x : ℕ} (O : Orbited f W notes) (h : r < f .reps) (e : x ≡ getD (leaders notes) r 0) where
+  pub noted-led : x ≡ r → leaderIn f W r ≡ r
+  noted-led l = sym (O .leaders-are .at r h) ∙ sym e ∙ l
+
+  pub noted-other : ¬ (x ≡ r) → ¬ (leaderIn f W r ≡ r)
+  noted-other n l = n (e ∙ O .leaders-are .at r h ∙ l)

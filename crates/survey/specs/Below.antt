@@ -16,7 +16,8 @@
 --   Sound                      what is asked of a level before the next is made
 --   madeIn, numberIn, aroundIn, closingIn, leadingIn      the formulas, of this level
 --   Lines, Orbited, Surveyed   notes that hold the first lines; and the orbits; and all that the next level is made with
---   MarkedTo, Marking, CarriedOn       orbits while they are marked; a step along one
+--   MarkedTo, Marking          orbits while they are marked
+--   CarriedAt, CarriedOn       an entry at a representation; a step along an orbit
 use mathlib.Core.Path.{_≡_}
 use Prim.Native.Nat.{ℕ, zero, suc, _+_, _*_, _/_, _≤_, _<_}
 use mathlib.Core.List.{List, []}
@@ -101,7 +102,7 @@ module _ (f : Frame) (W : List ℕ) where
   leadingIn u r = cond (eqb (leaderIn r) r) (closingIn u r) 0
 
   pub record LevelStands : Type 0 where
-    pub few : 2 * f .reps ≤ maxOrder
+    pub few : f .p * f .reps ≤ maxOrder
     pub gens : (f .top < f .gens) × (f .gens ≤ maxGenerators)
     pub prime : (1 < f .p) × (2 * f .p ≤ maxOrder)
     pub units : Units (f .p)
@@ -190,10 +191,14 @@ module _ (f : Frame) (W : List ℕ) where
     pub lines : firsts notes ≡ firsts notes₀
     pub len : length notes ≡ length notes₀
 
+-- an entry at a representation of degree d
+pub record CarriedAt (f : Frame) (W : List ℕ) (d : ℕ) (s : Carried) : Type 0 where
+  pub rep-below : s .rep < f .reps
+  pub same-degree : d ≡ degOf f W (s .rep)
+  pub entry-below : Below (f .m) d (s .x)
+
 -- an entry taken one step along the orbit
 pub record CarriedOn (f : Frame) (W : List ℕ) (d : ℕ) (s t : Carried) : Type 0 where
   pub rep-is : t .rep ≡ targetOf f W (f .top) (s .rep)
-  pub rep-below : t .rep < f .reps
-  pub same-degree : d ≡ degOf f W (t .rep)
   pub entry-is : t .x ≡ act (f .m) (sourceIn f W [] .matrix (s .rep) (f .top)) (s .x)
-  pub entry-below : Below (f .m) d (t .x)
+  pub carried : CarriedAt f W d t

@@ -6,6 +6,7 @@
 //   Frame                        what a level is made with
 //   note, put_note               reads and stores a field
 //   listed, member               a representation by its first line
+//   top_target                   where the generator on top leads it
 //   find_lines                   notes the first lines
 //   mark, mark_orbit, mark_from, clear, mark_orbits      note leaders and positions
 //   made, count_numbers          note the numbers
@@ -16,8 +17,9 @@ ghost use Prim.Native.Nat.{_+_, _*_, _≤_, _<_};
 ghost use lib.ListN.{length, getD};
 ghost use Rattle.fields.specs.Fields.{field, Inside, Put};
 ghost use Rattle.survey.specs.Notes.{noteWidth, firsts, leaders, positions, numbers, shifts, Beside, Cleared, Marked};
-ghost use Rattle.survey.specs.Below.{degOf, leaderIn, madeIn, numberIn, aroundIn, closingIn, leadingIn, LevelStands, Located, Array, Lines, Orbited, MarkedTo, Marking, CarriedOn};
+ghost use Rattle.survey.specs.Below.{degOf, targetOf, leaderIn, madeIn, numberIn, aroundIn, closingIn, leadingIn, LevelStands, Located, Array, Lines, Orbited, MarkedTo, Marking, CarriedAt, CarriedOn};
 ghost use Rattle.level.specs.Stored.{Below};
+ghost use Rattle.rows.specs.Rows.{Top};
 use definitions::Entry;
 use level::Listed;
 use rows::Row;
@@ -87,6 +89,15 @@ pub fn member(low: &[u32], notes: &[u32], f: Frame, d: u32, r: u32) -> Listed
         line: level::up(s),
         deg: d,
     }
+}
+
+// Where the intertwiner of the generator on top leads representation r.
+pub fn top_target(low: &[u32], notes: &[u32], f: Frame, r: u32) -> u32
+    requires { ⌜ LevelStands f (now low) × Lines f (now low) (firsts (now notes)) × (r < f .reps) ⌝ }
+    ensures { λ x. ⌜ x ≡ targetOf f (now (low .entry)) (f .top) r ⌝ }
+{
+    let d = listed(low, notes, f, r);
+    level::target(low, d, f.top)
 }
 
 // Notes the first lines.
@@ -168,14 +179,13 @@ fn made(low: &[u32], notes: &[u32], f: Frame, r: u32) -> u32
     requires { ⌜ LevelStands f (now low) × Orbited f (now low) (now notes) × (r < f .reps) ⌝ }
     ensures { λ x. ⌜ x ≡ madeIn f (now (low .entry)) r ⌝ }
 {
-    let d = listed(low, notes, f, r);
-    if level::target(low, d, f.top) == r {
+    if note(notes, LEADER, r) != r {
+        return 0;
+    }
+    if top_target(low, notes, f, r) == r {
         return f.p;
     }
-    if note(notes, LEADER, r) == r {
-        return 1;
-    }
-    0
+    1
 }
 
 // Notes the numbers: of the first representation that each gives. Returns how many all give.
@@ -201,7 +211,7 @@ pub struct Carried {
 
 // An entry taken one step along the orbit.
 fn carry(low: &[u32], notes: &[u32], f: Frame, d: u32, s: Carried) -> Carried
-    requires { ⌜ LevelStands f (now low) × Lines f (now low) (firsts (now notes)) × (s .rep < f .reps) × (d ≡ degOf f (now low) (s .rep)) × Below (f .m) d (s .x) ⌝ }
+    requires { ⌜ LevelStands f (now low) × Lines f (now low) (firsts (now notes)) × CarriedAt f (now low) d s ⌝ }
     ensures { λ t. ⌜ CarriedOn f (now (low .entry)) d s t ⌝ }
 {
     let e = member(low, notes, f, d, s.rep);
@@ -227,38 +237,41 @@ fn around(low: &[u32], notes: &[u32], f: Frame, d: Listed, r: u32) -> Entry
     s.x
 }
 
-// The constant that closes the orbit of r: an exponent of the power word u less that of the intertwiners around it.
-fn closing(low: &[u32], notes: &[u32], u: &Row, f: Frame, r: u32) -> u32
-    requires { ⌜ LevelStands f (now low) × Lines f (now low) (firsts (now notes)) × (r < f .reps) ⌝ }
+// The constant that closes the orbit of r: an exponent of the power word u, which ends before generator n, less that of the
+// intertwiners around it.
+fn closing(low: &[u32], notes: &[u32], u: &Row, n: usize, f: Frame, r: u32) -> u32
+    requires { ⌜ LevelStands f (now low) × Lines f (now low) (firsts (now notes)) × (r < f .reps) × Top (f .top) (now u) n ⌝ }
     ensures { λ x. ⌜ (x ≡ closingIn f (now (low .entry)) (now (u .entry)) r) × (x < f .m) ⌝ }
 {
     let d = listed(low, notes, f, r);
     let a = around(low, notes, f, d, r);
-    let t = level::up(f.top);
-    let b = level::walked(low, d, u, t, Entry { row: 0, exp: 0 }, f.m);
+    if n == 0 {
+        return level::sub_mod(0, a.exp, f.m);
+    }
+    let b = level::walked(low, d, u, n, Entry { row: 0, exp: 0 }, f.m);
     level::sub_mod(b.exp, a.exp, f.m)
 }
 
 // This constant if r is the least of its orbit, and 0 else.
-fn leading(low: &[u32], notes: &[u32], u: &Row, f: Frame, r: u32) -> u32
-    requires { ⌜ LevelStands f (now low) × Orbited f (now low) (now notes) × (r < f .reps) ⌝ }
+fn leading(low: &[u32], notes: &[u32], u: &Row, n: usize, f: Frame, r: u32) -> u32
+    requires { ⌜ LevelStands f (now low) × Orbited f (now low) (now notes) × (r < f .reps) × Top (f .top) (now u) n ⌝ }
     ensures { λ x. ⌜ (x ≡ leadingIn f (now (low .entry)) (now (u .entry)) r) × (x < f .m) ⌝ }
 {
     if note(notes, LEADER, r) != r {
         return 0;
     }
-    closing(low, notes, u, f, r)
+    closing(low, notes, u, n, f, r)
 }
 
 // Notes these constants.
-pub fn find_shifts(low: &[u32], notes: &mut [u32], u: &Row, f: Frame)
-    requires { ⌜ LevelStands f (now low) × Orbited f (now low) (now notes) ⌝ }
+pub fn find_shifts(low: &[u32], notes: &mut [u32], u: &Row, n: usize, f: Frame)
+    requires { ⌜ LevelStands f (now low) × Orbited f (now low) (now notes) × Top (f .top) (now u) n ⌝ }
     ensures { λ _. ⌜ Array f (now (low .entry)) (shifts (now (notes .exit))) (leadingIn f (now (low .entry)) (now (u .entry))) ⌝ }
     ensures { λ _. ⌜ Beside 4 (now (notes .entry)) (now (notes .exit)) ⌝ }
 {
     let reps = f.reps;
     for r in 0..reps {
-        let x = leading(low, notes, u, f, r);
+        let x = leading(low, notes, u, n, f, r);
         put_note(notes, SHIFT, r, x);
     }
 }

@@ -9,6 +9,7 @@ use borrow.Author.Needs.{needs}
 use Rattle.lines.proofs.Appending.{Going, going-none, going-more}
 use Rattle.survey.specs.Below.{lowOf, sourceIn}
 use Rattle.builder.specs.Above.{aboveIn}
+use Rattle.builder.specs.Level.{BlocksLent}
 use Rattle.builder.proofs.Above.{above-space}
 use Rattle.builder.proofs.InWords.{all-wrote}
 use Rattle.builder.proofs.append_all.Statement.{statement}
@@ -32,7 +33,8 @@ append-above-requires c κs = let z = c .before .before .before .before .before 
     let less-than : l .r < f .reps = search needs in
     let S = sourceIn f (lowOf f (now (z .args .words))) (now (z .args .rows)) in
     let room = above-space (f .gens) S (l .r) G less-than (z .pre .1 .room) in
-    rw (G .below) ((z .pre .0 .0, less-than, omega (arith, l .inv .2, z .pre .0 .1)), record { from = G .from; room = room })
+    let lent : BlocksLent f (l .blocks) = λ h. omega (arith, l .inv .2, z .pre .0 .1 h) in
+    rw (G .below) ((z .pre .0 .0, less-than, lent), record { from = G .from; room = room })
 
 add-r : tie.Need-add-r Inv-loop μ-loop
 add-r c = search needs
@@ -58,7 +60,4 @@ returns c = let z = c .before .before .before .before .before in
     all-wrote (z .args .f) (lowOf (z .args .f) (now (z .args .words))) (now (z .args .rows)) (l .inv .3) e
 
 pub append-all-spec : {M : Type 1} → statement M
-append-all-spec =
-    tie.close
-    (tie.spec
-    Inv-loop μ-loop loop-holds append-above-requires add-r loop-less loop-again same-length same-length-2 returns)
+append-all-spec = tie.close (tie.spec Inv-loop μ-loop loop-holds append-above-requires add-r loop-less loop-again same-length same-length-2 returns)

@@ -15,13 +15,15 @@ slice-reshare-prefix-survey-level : tie.Need-slice-reshare-prefix-survey-level
 slice-reshare-prefix-survey-level c = omega (arith, c .before .before .before .before .pre .0 .room)
 
 slice-aggregate-survey-level : tie.Need-slice-aggregate-survey-level
-slice-aggregate-survey-level c = sym (length-take-le _ (now (c .before .before .before .before .before .args .words)) (omega (arith, c .before .before .before .before .before .pre .0 .room)))
+slice-aggregate-survey-level c = let z = c .before .before .before .before .before in sym (length-take-le _ (now (z .args .words)) (omega (arith, z .pre .0 .room)))
 
 survey-level-requires : tie.Need-survey-level-requires
-survey-level-requires c κs = (c .before .before .before .before .before .before .pre .0 .sound, c .before .before .before .before .before .before .pre .1 .notes-long)
+survey-level-requires c κs = let z = c .before .before .before .before .before .before in (z .pre .0 .sound, z .pre .1)
 
 append-all-requires : tie.Need-append-all-requires
-append-all-requires c κs = let z = c .before .before .before .before .before .before .before .before .before .before .before .before in ((c .before .before .before .before .before .survey-level .ensures .1, z .pre .1 .blocks-long), record { from = le-refl _; room = z .pre .0 .room })
+append-all-requires c κs = let s = c .before .before .before .before .before in
+    let z = s .before .before .before .before .before .before .before in
+    ((s .survey-level .ensures .1, z .pre .2), record { from = le-refl _; room = z .pre .0 .room })
 
 same-length : tie.Need-same-length
 same-length c = search needs
@@ -33,7 +35,9 @@ same-length-3 : tie.Need-same-length-3
 same-length-3 c = search needs
 
 returns : tie.Need-returns
-returns c = record { wrote = c .before .before .before .before .append-all .ensures; reps-is = c .before .before .before .before .before .before .before .before .before .before .survey-level .ensures .0 }
+returns c = let a = c .before .before .before .before in
+    let s = a .before .before .before .before .before .before in
+    record { wrote = a .append-all .ensures; reps-is = s .survey-level .ensures .0 }
 
 pub append-level-spec : {M : Type 1} → statement M
 append-level-spec =

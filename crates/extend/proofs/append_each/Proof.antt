@@ -57,15 +57,4 @@ returns c = let z = c .before .before .before .before in
     wrote-as (l .inv .2 .wrote) (ap (λ n. blocks n (extensionWords f W (now (z .args .rows)) (z .args .o .rep))) e)
 
 pub append-each-spec : {M : Type 1} → statement M
-append-each-spec =
-    tie.close
-    (tie.spec
-    Inv-loop
-    μ-loop
-    loop-holds
-    append-extension-requires
-    add-k
-    loop-less
-    loop-again
-    same-length
-    returns)
+append-each-spec = tie.close (tie.spec Inv-loop μ-loop loop-holds append-extension-requires add-k loop-less loop-again same-length returns)

@@ -33,7 +33,4 @@ returns-2 : tie.Need-returns-2
 returns-2 c = search needs
 
 pub append-extension-spec : {M : Type 1} → statement M
-append-extension-spec =
-    tie.close
-    (tie.spec
-    append-generators-requires same-length returns append-generators-requires-2 same-length-2 returns-2)
+append-extension-spec = tie.close (tie.spec append-generators-requires same-length returns append-generators-requires-2 same-length-2 returns-2)

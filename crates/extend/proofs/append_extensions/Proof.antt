@@ -71,15 +71,6 @@ pub append-extensions-spec : {M : Type 1} → statement M
 append-extensions-spec =
     tie.close
     (tie.spec
-    mul-n
-    slice-reshare-prefix-find-targets
-    slice-aggregate-find-targets
-    slice-aggregate-find-targets-2
-    find-targets-requires
-    slice-reshare-prefix-find-origin
-    slice-aggregate-find-origin
-    find-origin-requires
-    slice-aggregate-append-each
-    append-each-requires
-    same-length
+    mul-n slice-reshare-prefix-find-targets slice-aggregate-find-targets slice-aggregate-find-targets-2 find-targets-requires
+    slice-reshare-prefix-find-origin slice-aggregate-find-origin find-origin-requires slice-aggregate-append-each append-each-requires same-length
     returns)

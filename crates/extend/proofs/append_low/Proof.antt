@@ -1,42 +1,37 @@
 -- `append_low` appends the generators up to the one on top, one behind the other.
-use mathlib.Core.Path.{_≡_, sym, ap, subst}
-use Prim.Native.Nat.{suc, _+_, _*_, _-_, _≤_, _<_}
+use mathlib.Core.Path.{_≡_, ap}
+use Prim.Native.Nat.{_-_, _≤_, _<_}
 use native.Mathlib.Omega.{arith}
+use native.Mathlib.Numerals.{add-one}
+use native.Mathlib.Nat.{le-refl}
 use denote.Ref.{now}
 use borrow.Author.Needs.{needs}
 use Rattle.definitions.specs.Lists.{blocks}
 use Rattle.text.proofs.Writing.{wrote-as}
-use Rattle.lines.proofs.Appending.{Going, going-more, going-even, space-none}
+use Rattle.lines.proofs.Appending.{Going, going-more, space-none}
 use Rattle.survey.specs.Below.{lowOf}
-use Rattle.extend.specs.Extending.{Copies, copyWords}
-use Rattle.extend.proofs.Extensions.{copy-length}
+use Rattle.extend.specs.Extending.{copyWords}
+use Rattle.extend.proofs.Extensions.{factor-top, factor-other, going-at, copy-asked, low-last}
 use Rattle.extend.proofs.append_low.Statement.{statement}
 use Rattle.extend.proofs.append_low.Tie as tie
 
 abbrev Inv-loop : tie.InvT-loop
-Inv-loop words₀ f o at k pos₀ above g₀ words pos g =
-    (g ≤ above) × (above ≡ f .top + 1) × Going (f .end) (λ j. copyWords f (lowOf f words₀) o k j (o .rep)) words₀ at g words pos
+Inv-loop words₀ f o at k pos₀ top g₀ words pos g =
+    (g ≤ top) × (top ≡ f .top) × Going (f .end) (λ j. copyWords f (lowOf f words₀) o k j (o .rep)) words₀ at g words pos
 
 abbrev μ-loop : tie.MeasureT-loop
-μ-loop words₀ f o at k pos₀ above g₀ words pos g = above - g
-
-add-above : tie.Need-add-above Inv-loop μ-loop
-add-above c = omega (arith, c .before .before .pre .0 .0 .located .stands .gens)
+μ-loop words₀ f o at k pos₀ top g₀ words pos g = top - g
 
 loop-holds : tie.Need-loop-holds Inv-loop μ-loop
-loop-holds c = let z = c .before .before in (search needs, search needs, space-none (z .pre .1))
+loop-holds c = (search needs, search needs, space-none (c .before .pre .1))
 
 append-matrix-requires : tie.Need-append-matrix-requires Inv-loop μ-loop
-append-matrix-requires c κs = let z = c .before .before .before .before .before in
-    let l = c .before .before .loop in
-    let f = z .args .f in
-    let o = z .args .o in
-    let C = z .pre .0 .0 in
-    let G = l .inv .2 in
-    let less : l .g < f .top + 1 = search needs in (
-      (subst (λ W. Copies f W o) (sym (G .below)) C, z .pre .0 .1, omega (arith, C .located .stands .gens)),
-      going-even (f .top + 1) (8 * o .source .deg) (λ j. copy-length f _ o (z .args .k) j (o .rep)) G less (omega (arith, z .pre .1 .room)),
-    )
+append-matrix-requires c κs = let l = c .before .before .loop in
+    let z = c .before .before .before .before in
+    let a = z .args in
+    let less : l .g < a .f .top = search needs in
+    let none = factor-other (a .f) (a .o) (l .g) (a .k) (λ e. omega (arith, e)) in
+    copy-asked (a .f) _ (a .o) (z .pre .0 .0) (z .pre .0 .1) (l .inv .2) (omega arith) none (z .pre .1)
 
 add-g : tie.Need-add-g Inv-loop μ-loop
 add-g c = search needs
@@ -48,18 +43,38 @@ loop-again : tie.Need-loop-again Inv-loop μ-loop
 loop-again c = let G = c .before .before .before .before .before .loop .inv .2 in
     (search needs, search needs, going-more G (rw (G .below) at (c .before .before .append-matrix .ensures)))
 
+mul-append-matrix : tie.Need-mul-append-matrix Inv-loop μ-loop
+mul-append-matrix c = let z = c .before .before .before .before .before in
+    let C = z .pre .0 .0 in
+    omega (arith, C .factor-below (z .args .k) (z .pre .0 .1), C .located .stands .modulus)
+
+add-append-matrix : tie.Need-add-append-matrix Inv-loop μ-loop
+add-append-matrix c = let z = c .before .before .before .before .before .before in
+    let C = z .pre .0 .0 in
+    omega (arith, C .factor-below (z .args .k) (z .pre .0 .1), C .located .stands .modulus)
+
+append-matrix-requires-2 : tie.Need-append-matrix-requires-2 Inv-loop μ-loop
+append-matrix-requires-2 c κs = let t = c .before .before .before .before in
+    let z = t .before .before in
+    let a = z .args in
+    let e : t .loop .g ≡ a .f .top = omega arith in
+    copy-asked (a .f) _ (a .o) (z .pre .0 .0) (z .pre .0 .1) (going-at e (t .loop .inv .2)) (le-refl _) (factor-top (a .f) (a .o) (a .k)) (z .pre .1)
+
 same-length : tie.Need-same-length Inv-loop μ-loop
-same-length c = c .before .loop .inv .2 .len
+same-length c = let t = c .before .before .before .before .before .before .before in
+    let a = t .before .before .args in
+    let e : t .loop .g ≡ a .f .top = omega arith in
+    low-last (a .f) _ (a .o) (a .k) (going-at e (t .loop .inv .2)) (c .before .before .append-matrix2 .ensures) .len
 
 returns : tie.Need-returns Inv-loop μ-loop
-returns c = let z = c .before .before .before .before in
-    let l = c .before .loop in
-    let a = z .args in
-    let e : l .g ≡ suc (a .f .top) = omega arith in
-    wrote-as (l .inv .2 .wrote) (ap (λ n. blocks n (λ j. copyWords (a .f) (lowOf (a .f) (now (a .words))) (a .o) (a .k) j (a .o .rep))) e)
+returns c = let t = c .before .before .before .before .before .before .before in
+    let a = t .before .before .args in
+    let e : t .loop .g ≡ a .f .top = omega arith in
+    let G = low-last (a .f) _ (a .o) (a .k) (going-at e (t .loop .inv .2)) (c .before .before .append-matrix2 .ensures) in
+    wrote-as (G .wrote) (ap (λ n. blocks n (λ j. copyWords (a .f) (lowOf (a .f) (now (a .words))) (a .o) (a .k) j (a .o .rep))) (add-one (a .f .top)))
 
 pub append-low-spec : {M : Type 1} → statement M
 append-low-spec =
     tie.close
     (tie.spec
-    Inv-loop μ-loop add-above loop-holds append-matrix-requires add-g loop-less loop-again same-length returns)
+    Inv-loop μ-loop loop-holds append-matrix-requires add-g loop-less loop-again mul-append-matrix add-append-matrix append-matrix-requires-2 same-length returns)

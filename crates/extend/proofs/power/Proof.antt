@@ -40,8 +40,4 @@ returns c = let z = c .before .before .before .before in
     power-known (z .pre .0 .1) (z .args .g) (z .pre .1) (z .pre .2) at (c .before .before .up2 .ensures) (c .before .before .before .up .ensures)
 
 pub power-spec : {M : Type 1} → statement M
-power-spec =
-    tie.close
-    (tie.spec
-    up-requires up-requires-2 pair-requires mul-result mul-result-2 index-1-result index-2-result add-result
-    returns)
+power-spec = tie.close (tie.spec up-requires up-requires-2 pair-requires mul-result mul-result-2 index-1-result index-2-result add-result returns)

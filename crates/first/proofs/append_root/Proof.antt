@@ -32,8 +32,10 @@ add-t14 : tie.Need-add-t14 Inv-loop μ-loop
 add-t14 c = search needs
 
 put-line-requires : tie.Need-put-line-requires Inv-loop μ-loop
-put-line-requires c κs = let z = c .before .before .before .before .before .before in
-    going-line (z .args .n) (λ g. rootLine-length (z .args .n) (z .args .p) (z .args .m) (now (z .args .rows)) (z .args .k) g) (c .before .before .before .before .loop .inv .1) (search needs) (z .pre .5)
+put-line-requires c κs = let t = c .before .before .before .before in
+    let z = t .before .before in
+    let long = rootLine-length (z .args .n) (z .args .p) (z .args .m) (now (z .args .rows)) (z .args .k) in
+    going-line (z .args .n) long (t .loop .inv .1) (search needs) (z .pre .5)
 
 add-g : tie.Need-add-g Inv-loop μ-loop
 add-g c = search needs
@@ -43,9 +45,11 @@ loop-less c = search needs
 
 loop-again : tie.Need-loop-again Inv-loop μ-loop
 unfolding headLine
-loop-again c = let z = c .before .before .before .before .before .before .before .before .before in
-    let l = c .before .before .before .before .before .before .before .loop in
-    (search needs, going-more (l .inv .1) (wrote-as (c .before .before .put-line .ensures) (root-line (z .args .n) (z .args .p) (z .args .m) (now (z .args .rows)) (z .args .k) (l .g) _ _ (c .before .before .before .before .before .reference .ensures) (c .before .before .before .before .exponent .ensures))))
+loop-again c = let e = c .before .before .before .before in
+    let z = e .before .before .before .before .before in
+    let l = e .before .before .before .loop in
+    let line = root-line (z .args .n) (z .args .p) (z .args .m) (now (z .args .rows)) (z .args .k) (l .g) _ _ (e .before .reference .ensures) (e .exponent .ensures) in
+    (search needs, going-more (l .inv .1) (wrote-as (c .before .before .put-line .ensures) line))
 
 same-length : tie.Need-same-length Inv-loop μ-loop
 same-length c = c .before .loop .inv .1 .len
@@ -61,15 +65,4 @@ pub append-root-spec : {M : Type 1} → statement M
 append-root-spec =
     tie.close
     (tie.spec
-    Inv-loop
-    μ-loop
-    loop-holds
-    reference-requires
-    exponent-requires
-    add-t14
-    put-line-requires
-    add-g
-    loop-less
-    loop-again
-    same-length
-    returns)
+    Inv-loop μ-loop loop-holds reference-requires exponent-requires add-t14 put-line-requires add-g loop-less loop-again same-length returns)

@@ -1,15 +1,14 @@
 -- `first_level` appends the powers of the root one behind the other.
 use mathlib.Core.Path.{_≡_, ap}
-use Prim.Native.Nat.{_+_, _*_, _-_, _≤_, _<_}
+use Prim.Native.Nat.{_-_, _≤_, _<_}
 use native.Mathlib.Omega.{arith}
-use lib.ListN.{length}
 use denote.Ref.{now}
 use borrow.Author.Needs.{needs}
 use Rattle.definitions.specs.Lists.{blocks}
 use Rattle.text.proofs.Writing.{wrote-as}
-use Rattle.lines.proofs.Appending.{Going, going-none, going-more, going-room}
+use Rattle.lines.proofs.Appending.{Going, going-none, going-more}
 use Rattle.first.specs.Roots.{rootWords, firstWords}
-use Rattle.first.proofs.Lines.{rootWords-length, firstWords-length}
+use Rattle.first.proofs.Lines.{root-room}
 use Rattle.first.proofs.first_level.Statement.{statement}
 use Rattle.first.proofs.first_level.Tie as tie
 
@@ -23,13 +22,11 @@ loop-holds : tie.Need-loop-holds Inv-loop μ-loop
 loop-holds c = (search needs, going-none (omega arith) (omega arith))
 
 append-root-requires : tie.Need-append-root-requires Inv-loop μ-loop
-unfolding firstWords
 append-root-requires c κs = let z = c .before .before .before .before in
+    let a = z .args in
     let l = c .before .before .loop in
-    let less-than : l .k < z .args .p = search needs in
-    let whole : 8 * 0 + length (firstWords (z .args .n) (z .args .p) (z .args .m) (now (z .args .rows))) ≤ length (now (z .args .words)) = omega (arith, firstWords-length (z .args .n) (z .args .p) (z .args .m) (now (z .args .rows)), z .pre .4) in
-    let room : 8 * l .pos + 8 * z .args .n ≤ length (l .words) = omega (arith, going-room (z .args .p) (l .inv .1) less-than whole, rootWords-length (z .args .n) (z .args .p) (z .args .m) (now (z .args .rows)) (l .k)) in
-    (z .pre .0, z .pre .1, z .pre .2, less-than, z .pre .3, room)
+    let less-than : l .k < a .p = search needs in
+    (z .pre .0, z .pre .1, z .pre .2, less-than, z .pre .3, root-room (a .n) (a .p) (a .m) (now (a .rows)) (l .inv .1) less-than (z .pre .4))
 
 add-k : tie.Need-add-k Inv-loop μ-loop
 add-k c = search needs
@@ -52,15 +49,4 @@ returns c = let z = c .before .before .before in
     wrote-as (l .inv .1 .wrote) (ap (λ k. blocks k (rootWords (z .args .n) (z .args .p) (z .args .m) (now (z .args .rows)))) e)
 
 pub first-level-spec : {M : Type 1} → statement M
-first-level-spec =
-    tie.close
-    (tie.spec
-    Inv-loop
-    μ-loop
-    loop-holds
-    append-root-requires
-    add-k
-    loop-less
-    loop-again
-    same-length
-    returns)
+first-level-spec = tie.close (tie.spec Inv-loop μ-loop loop-holds append-root-requires add-k loop-less loop-again same-length returns)

@@ -77,16 +77,5 @@ pub append-below-spec : {M : Type 1} → statement M
 append-below-spec =
     tie.close
     (tie.spec
-    Inv-loop
-    μ-loop
-    mul-n
-    loop-holds
-    slice-reshare-prefix-find-still
-    slice-aggregate-find-still
-    find-still-requires
-    append-cell-requires
-    add-b
-    loop-less
-    loop-again
-    same-length
-    returns)
+    Inv-loop μ-loop mul-n loop-holds slice-reshare-prefix-find-still slice-aggregate-find-still find-still-requires append-cell-requires add-b
+    loop-less loop-again same-length returns)

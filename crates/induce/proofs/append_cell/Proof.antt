@@ -74,14 +74,4 @@ pub append-cell-spec : {M : Type 1} → statement M
 append-cell-spec =
     tie.close
     (tie.spec
-    add-t11
-    mul-t12
-    add-t13
-    append-block-requires
-    same-length
-    returns
-    mul-t11
-    mul-t12-2
-    append-block-requires-2
-    same-length-2
-    returns-2)
+    add-t11 mul-t12 add-t13 append-block-requires same-length returns mul-t11 mul-t12-2 append-block-requires-2 same-length-2 returns-2)

@@ -79,16 +79,5 @@ pub append-cells-spec : {M : Type 1} → statement M
 append-cells-spec =
     tie.close
     (tie.spec
-    Inv-loop
-    μ-loop
-    mul-n
-    loop-holds
-    slice-reshare-prefix-find-cell
-    slice-aggregate-find-cell
-    find-cell-requires
-    append-cell-requires
-    add-b
-    loop-less
-    loop-again
-    same-length
-    returns)
+    Inv-loop μ-loop mul-n loop-holds slice-reshare-prefix-find-cell slice-aggregate-find-cell find-cell-requires append-cell-requires add-b loop-less
+    loop-again same-length returns)

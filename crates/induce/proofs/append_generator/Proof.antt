@@ -90,18 +90,6 @@ pub append-generator-spec : {M : Type 1} → statement M
 append-generator-spec =
     tie.close
     (tie.spec
-    append-below-requires
-    same-length
-    same-length-2
-    returns
-    mul-n
-    slice-reshare-prefix-induced-target
-    slice-aggregate-induced-target
-    induced-target-requires
-    slice-reshare-prefix-find-scalars
-    slice-aggregate-find-scalars
-    find-scalars-requires
-    append-cells-requires
-    same-length-3
-    same-length-4
-    returns-2)
+    append-below-requires same-length same-length-2 returns mul-n slice-reshare-prefix-induced-target slice-aggregate-induced-target
+    induced-target-requires slice-reshare-prefix-find-scalars slice-aggregate-find-scalars find-scalars-requires append-cells-requires same-length-3
+    same-length-4 returns-2)

@@ -99,17 +99,5 @@ pub append-induction-spec : {M : Type 1} → statement M
 append-induction-spec =
     tie.close
     (tie.spec
-    Inv-loop
-    μ-loop
-    mul-n
-    slice-reshare-prefix-find-induction
-    slice-aggregate-find-induction
-    find-induction-requires
-    loop-holds
-    append-generator-requires
-    add-g
-    loop-less
-    loop-again
-    same-length
-    same-length-2
-    returns)
+    Inv-loop μ-loop mul-n slice-reshare-prefix-find-induction slice-aggregate-find-induction find-induction-requires loop-holds
+    append-generator-requires add-g loop-less loop-again same-length same-length-2 returns)

@@ -77,14 +77,4 @@ pub add-times-spec : {M : Type 1} → statement M
 add-times-spec =
     tie.close
     (tie.spec
-    add-mod-requires
-    returns
-    up-requires
-    up-requires-2
-    up-requires-3
-    mul-result
-    add-result
-    up-requires-4
-    rem-result
-    cast-result
-    returns-2)
+    add-mod-requires returns up-requires up-requires-2 up-requires-3 mul-result add-result up-requires-4 rem-result cast-result returns-2)

@@ -17,10 +17,11 @@ add-mod-requires c κs = search needs
 
 returns : tie.Need-returns
 returns c = let z = c .before .before .before in
-    let e = c .before .column .ensures .0 in (
-      ap₂ entry (ap (λ (x : Entry). x .row) e) (c .add-mod .ensures .0 ∙ ap (λ (x : Entry). (x .exp + z .args .x .exp) % z .args .m) e) ∙ sym (act-in (z .args .m) (now (z .args .words)) (z .args .at) (z .args .d) (z .args .x) (z .pre .1 .row)),
-      search needs,
-    )
+    let x = z .args .x in
+    let m = z .args .m in
+    let e = c .before .column .ensures .0 in
+    let s = c .add-mod .ensures .0 ∙ ap (λ (y : Entry). (y .exp + x .exp) % m) e in
+    (ap₂ entry (ap (λ (y : Entry). y .row) e) s ∙ sym (act-in m (now (z .args .words)) (z .args .at) (z .args .d) x (z .pre .1 .row)), search needs)
 
 pub apply-spec : {M : Type 1} → statement M
 apply-spec = tie.close (tie.spec column-requires add-mod-requires returns)

@@ -7,8 +7,8 @@ use Rattle.definitions.specs.declared.Entry.{Entry}
 use Rattle.definitions.specs.Lists.{iter}
 use Rattle.definitions.specs.Monomial.{entry, act}
 use Rattle.numbers.proofs.Lists.{iter-zero}
-use Rattle.level.specs.Stored.{entryIn, matrixIn, Below}
-use Rattle.level.proofs.Columns.{iter-next, iter-once, iter-rest, iter-fixed, act-in, act-fixed}
+use Rattle.level.specs.Stored.{matrixIn, Below}
+use Rattle.level.proofs.Columns.{turns-none, turns-one, turns-more, turns-all, iter-fixed, act-in, act-fixed}
 use borrow.Author.Needs.{needs}
 use Rattle.level.proofs.apply_times.Statement.{statement}
 use Rattle.level.proofs.apply_times.Tie as tie
@@ -20,21 +20,16 @@ abbrev μ-loop : tie.MeasureT-loop
 μ-loop words at d k m r₀ i₀ r i = k - i
 
 returns : tie.Need-returns Inv-loop μ-loop
-returns c = let z = c .before .before in (
-  sym (ap (λ n. iter (act (z .args .m) (matrixIn (now (z .args .words)) (z .args .at) (z .args .d))) n (z .args .x)) (c .if1 .taken)
-      ∙ iter-zero _ _),
-  z .pre .1,
-)
+returns c = let z = c .before .before in
+    (turns-none (act (z .args .m) (matrixIn (now (z .args .words)) (z .args .at) (z .args .d))) (c .if1 .taken), z .pre .1)
 
 apply-requires : tie.Need-apply-requires Inv-loop μ-loop
 apply-requires c κs = let z = c .before .before in (z .pre .0, z .pre .1)
 
 returns-2 : tie.Need-returns-2 Inv-loop μ-loop
-returns-2 c = let z = c .before .before .before .before in (
-  c .before .apply .ensures .0 ∙ sym (ap (λ n. iter (act (z .args .m) (matrixIn (now (z .args .words)) (z .args .at) (z .args .d))) n
-      (z .args .x)) (c .if2 .taken) ∙ iter-once _ _),
-  c .before .apply .ensures .1,
-)
+returns-2 c = let z = c .before .before .before .before in
+    let A = c .before .apply .ensures in
+    (turns-one (act (z .args .m) (matrixIn (now (z .args .words)) (z .args .at) (z .args .d))) (c .if2 .taken) (A .0), A .1)
 
 column-requires : tie.Need-column-requires Inv-loop μ-loop
 column-requires c κs = let z = c .before .before .before .before .before .before .before in (z .pre .0, z .pre .1 .row)
@@ -44,18 +39,19 @@ add-times-requires c κs = let z = c .before .before .before .before .before .be
     (z .pre .1 .exp, c .column .ensures .1 .exp, z .pre .0 .small)
 
 returns-3 : tie.Need-returns-3 Inv-loop μ-loop
-returns-3 c = let apply′ = c .before .before .before .before .before .before .apply in
-    let z = c .before .before .before .before .before .before .before .before .before in
+returns-3 c = let i = c .before .before in
+    let a = i .before .before .before .before in
+    let z = a .before .before .before in
     let W = now (z .args .words) in
     let x = z .args .x in
-    let e = c .before .column .ensures .0 in
-    let y : apply′ .result .row ≡ entryIn W (z .args .at + x .row) .row = ap (λ (t : Entry). t .row) (apply′ .ensures .0
-    ∙ act-in (z .args .m) W (z .args .at) (z .args .d) x (z .pre .1 .row)) in
-    let row : entryIn W (z .args .at + x .row) .row ≡ x .row = sym y ∙ c .before .before .if3 .taken in (
-      ap (entry (x .row)) (c .add-times .ensures .0 ∙ ap (λ (t : Entry). (x .exp + z .args .k * t .exp) % z .args .m) e)
-          ∙ sym (iter-fixed (z .args .m) (x .row) (entryIn W (z .args .at + x .row) .exp) (act (z .args .m) (matrixIn W (z .args .at) (z .args .d)))
-          (act-fixed (z .args .m) W (z .args .at) (z .args .d) (x .row) (z .pre .1 .row) row) (z .args .k) (x .exp) (z .pre .1 .exp)),
-      record { row = z .pre .1 .row; exp = c .add-times .ensures .1 },
+    let m = z .args .m in
+    let X = z .pre .1 in
+    let y = ap (λ (t : Entry). t .row) (a .apply .ensures .0 ∙ act-in m W (z .args .at) (z .args .d) x (X .row)) in
+    let fixed = act-fixed m W (z .args .at) (z .args .d) (x .row) (X .row) (sym y ∙ i .if3 .taken) in
+    let E = c .add-times .ensures in (
+      ap (entry (x .row)) (E .0 ∙ ap (λ (t : Entry). (x .exp + z .args .k * t .exp) % m) (c .before .column .ensures .0))
+          ∙ sym (iter-fixed m (x .row) _ _ fixed (z .args .k) (x .exp) (X .exp)),
+      record { row = X .row; exp = E .1 },
     )
 
 loop-holds : tie.Need-loop-holds Inv-loop μ-loop
@@ -71,44 +67,23 @@ loop-less : tie.Need-loop-less Inv-loop μ-loop
 loop-less c = search needs
 
 loop-again : tie.Need-loop-again Inv-loop μ-loop
-loop-again c = let z = c .before .before .before .before .before .before .before .before .before .before in
-    let l = c .before .before .loop in
+loop-again c = let t = c .before .before in
+    let l = t .loop in
+    let z = t .before .before .before .before .before .before .before .before in
     let f = act (z .args .m) (matrixIn (now (z .args .words)) (z .args .at) (z .args .d)) in
-    let s : l .i - 1 + 1 ≡ l .i + 1 - 1 = omega arith in (
-      search needs,
-      omega arith,
-      c .apply2 .ensures .0 ∙ ap f (l .inv .2)
-          ∙ sym (iter-next f (l .i - 1) (c .before .before .before .before .before .before .before .apply .result))
-          ∙ ap (λ n. iter f n (c .before .before .before .before .before .before .before .apply .result)) s,
-      c .apply2 .ensures .1,
-    )
+    (search needs, omega arith, turns-more f _ (l .inv .1) (l .inv .2) (c .apply2 .ensures .0), c .apply2 .ensures .1)
 
 returns-4 : tie.Need-returns-4 Inv-loop μ-loop
-returns-4 c = let apply′ = c .before .before .before .before .before .before .apply in
-    let z = c .before .before .before .before .before .before .before .before .before in
+returns-4 c = let a = c .before .before .before .before .before .before in
+    let z = a .before .before .before in
     let l = c .before .loop in
     let f = act (z .args .m) (matrixIn (now (z .args .words)) (z .args .at) (z .args .d)) in
-    let e : l .i - 1 ≡ z .args .k - 1 = omega arith in (
-      l .inv .2 ∙ ap (λ n. iter f n (apply′ .result)) e
-          ∙ iter-rest f (z .args .k) (z .args .x) (apply′ .result) (omega arith) (apply′ .ensures .0),
-      l .inv .3,
-    )
+    let e : l .i ≡ z .args .k = omega arith in
+    (turns-all f (l .inv .1) e (a .apply .ensures .0) (l .inv .2), l .inv .3)
 
 pub apply-times-spec : {M : Type 1} → statement M
 apply-times-spec =
     tie.close
     (tie.spec
-    Inv-loop
-    μ-loop
-    returns
-    apply-requires
-    returns-2
-    column-requires
-    add-times-requires
-    returns-3
-    loop-holds
-    apply-requires-2
-    add-i
-    loop-less
-    loop-again
-    returns-4)
+    Inv-loop μ-loop returns apply-requires returns-2 column-requires add-times-requires returns-3 loop-holds apply-requires-2 add-i loop-less
+    loop-again returns-4)

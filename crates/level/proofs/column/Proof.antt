@@ -1,5 +1,5 @@
 -- `column` reads a line of a matrix.
-use mathlib.Core.Path.{_≡_, ap, sym, _∙_, subst}
+use mathlib.Core.Path.{ap, sym, _∙_, subst}
 use Prim.Native.Nat.{_+_}
 use denote.Ref.{now}
 use Rattle.level.specs.Stored.{entryIn, Below}
@@ -18,7 +18,7 @@ entry-at-requires c κs = search needs
 
 returns : tie.Need-returns
 returns c = let z = c .before .before .before in
-    let e : c .entry-at .result ≡ entryIn (now (z .args .words)) (z .args .at + z .args .k) = c .entry-at .ensures ∙ ap (λ k. entryIn (now (z .args .words)) (z .args .at + k)) (c .before .up .ensures) in
+    let e = c .entry-at .ensures ∙ ap (λ k. entryIn (now (z .args .words)) (z .args .at + k)) (c .before .up .ensures) in
     (e, subst (Below (z .args .m) (z .args .d)) (sym e) (z .pre .0 .valid (z .args .k) (z .pre .1)))
 
 pub column-spec : {M : Type 1} → statement M

@@ -11,7 +11,7 @@ use Rattle.definitions.specs.Monomial.{entry, act}
 use Rattle.numbers.proofs.Lists.{iter-zero}
 use Rattle.formulas.specs.Formulas.{plus}
 use Rattle.level.specs.Stored.{entryIn, matrixIn, Below, Holds, lineIn, generatorIn}
-use Rattle.level.proofs.Columns.{iter-next, iter-once, iter-rest, iter-fixed, act-in, plus-fixed}
+use Rattle.level.proofs.Columns.{turns-none, turns-one, turns-more, turns-all, iter-fixed, act-in, plus-fixed}
 use borrow.Author.Needs.{needs}
 use Rattle.level.proofs.scaled_times.Statement.{statement}
 use Rattle.level.proofs.scaled_times.Tie as tie
@@ -25,7 +25,7 @@ abbrev μ-loop : tie.MeasureT-loop
 returns : tie.Need-returns Inv-loop μ-loop
 returns c = let z = c .before .before in
     let f : Entry → Entry = λ y. plus (z .args .m) (z .args .c) (act (z .args .m) (generatorIn (now (z .args .words)) (z .args .d) (z .args .g)) y) in
-    (sym (ap (λ n. iter f n (z .args .x)) (c .if1 .taken) ∙ iter-zero f (z .args .x)), z .pre .1)
+    (turns-none f (c .if1 .taken), z .pre .1)
 
 scaled-requires : tie.Need-scaled-requires Inv-loop μ-loop
 scaled-requires c κs = c .before .before .pre
@@ -33,7 +33,7 @@ scaled-requires c κs = c .before .before .pre
 returns-2 : tie.Need-returns-2 Inv-loop μ-loop
 returns-2 c = let z = c .before .before .before .before in
     let f : Entry → Entry = λ y. plus (z .args .m) (z .args .c) (act (z .args .m) (generatorIn (now (z .args .words)) (z .args .d) (z .args .g)) y) in
-    (c .before .scaled .ensures .0 ∙ sym (ap (λ n. iter f n (z .args .x)) (c .if2 .taken) ∙ iter-once f (z .args .x)), c .before .scaled .ensures .1)
+    (turns-one f (c .if2 .taken) (c .before .scaled .ensures .0), c .before .scaled .ensures .1)
 
 matrix-line-requires : tie.Need-matrix-line-requires Inv-loop μ-loop
 matrix-line-requires c κs = let z = c .before .before .before .before .before .before .before in
@@ -53,16 +53,17 @@ add-mod-requires c κs = let z = c .before .before .before .before .before .befo
     (c .column .ensures .1 .exp, z .pre .2, z .pre .0 .holds (z .args .g) (le-refl _) .small)
 
 add-times-requires : tie.Need-add-times-requires Inv-loop μ-loop
-add-times-requires c κs = let z = c .before .before .before .before .before .before .before .before .before .before in
+add-times-requires c κs = let i = c .before .before .before in
+    let z = i .before .before .before .before .before .before .before in
     (z .pre .1 .exp, c .add-mod .ensures .1, z .pre .0 .holds (z .args .g) (le-refl _) .small)
 
 returns-3 : tie.Need-returns-3 Inv-loop μ-loop
 unfolding plus
 returns-3 c = let column′ = c .before .before .column in
     let matrix-line′ = c .before .before .before .matrix-line in
-    let if3′ = c .before .before .before .before .if3 in
-    let scaled′ = c .before .before .before .before .before .before .before .before .scaled in
-    let z = c .before .before .before .before .before .before .before .before .before .before .before in
+    let i = c .before .before .before .before in
+    let scaled′ = i .before .before .before .before .scaled in
+    let z = i .before .before .before .before .before .before .before in
     let W = now (z .args .words) in
     let m = z .args .m in
     let d = z .args .d in
@@ -71,7 +72,7 @@ returns-3 c = let column′ = c .before .before .column in
     let e : column′ .result ≡ entryIn W (at + x .row) = column′ .ensures .0 ∙ ap (λ l. entryIn W (l + x .row)) (matrix-line′ .ensures) in
     let y : scaled′ .result .row ≡ entryIn W (at + x .row) .row = ap (λ (t : Entry). t .row) (scaled′ .ensures .0
     ∙ ap (plus m (z .args .c)) (act-in m W at (d .deg) x (z .pre .1 .row))) in
-    let row : entryIn W (at + x .row) .row ≡ x .row = sym y ∙ if3′ .taken in
+    let row : entryIn W (at + x .row) .row ≡ x .row = sym y ∙ i .if3 .taken in
     let s = c .before .add-mod .ensures .0 ∙ ap (λ (t : Entry). (t .exp + z .args .c) % m) e in
     let f : Entry → Entry = λ y. plus m (z .args .c) (act m (matrixIn W at (d .deg)) y) in (
       ap (entry (x .row)) (c .add-times .ensures .0 ∙ ap (λ t. (x .exp + z .args .k * t) % m) s)
@@ -84,11 +85,7 @@ loop-holds : tie.Need-loop-holds Inv-loop μ-loop
 loop-holds c = (search needs, omega arith, sym (iter-zero _ _), c .before .before .before .before .scaled .ensures .1)
 
 scaled-requires-2 : tie.Need-scaled-requires-2 Inv-loop μ-loop
-scaled-requires-2 c κs = (
-  c .before .before .before .before .before .before .before .before .before .pre .0,
-  c .before .loop .inv .3,
-  c .before .before .before .before .before .before .before .before .before .pre .2,
-)
+scaled-requires-2 c κs = let z = c .before .before .before .before .before .before .before .before .before in (z .pre .0, c .before .loop .inv .3, z .pre .2)
 
 add-i : tie.Need-add-i Inv-loop μ-loop
 add-i c = search needs
@@ -97,46 +94,23 @@ loop-less : tie.Need-loop-less Inv-loop μ-loop
 loop-less c = search needs
 
 loop-again : tie.Need-loop-again Inv-loop μ-loop
-loop-again c = let z = c .before .before .before .before .before .before .before .before .before .before in
-    let l = c .before .before .loop in
+loop-again c = let t = c .before .before in
+    let l = t .loop in
+    let z = t .before .before .before .before .before .before .before .before in
     let f : Entry → Entry = λ y. plus (z .args .m) (z .args .c) (act (z .args .m) (generatorIn (now (z .args .words)) (z .args .d) (z .args .g)) y) in
-    let s : l .i - 1 + 1 ≡ l .i + 1 - 1 = omega arith in (
-      search needs,
-      omega arith,
-      c .scaled2 .ensures .0 ∙ ap f (l .inv .2)
-          ∙ sym (iter-next f (l .i - 1) (c .before .before .before .before .before .before .before .scaled .result))
-          ∙ ap (λ n. iter f n (c .before .before .before .before .before .before .before .scaled .result)) s,
-      c .scaled2 .ensures .1,
-    )
+    (search needs, omega arith, turns-more f _ (l .inv .1) (l .inv .2) (c .scaled2 .ensures .0), c .scaled2 .ensures .1)
 
 returns-4 : tie.Need-returns-4 Inv-loop μ-loop
-returns-4 c = let scaled′ = c .before .before .before .before .before .before .scaled in
-    let z = c .before .before .before .before .before .before .before .before .before in
+returns-4 c = let s = c .before .before .before .before .before .before in
+    let z = s .before .before .before in
     let l = c .before .loop in
     let f : Entry → Entry = λ y. plus (z .args .m) (z .args .c) (act (z .args .m) (generatorIn (now (z .args .words)) (z .args .d) (z .args .g)) y) in
-    let e : l .i - 1 ≡ z .args .k - 1 = omega arith in (
-      l .inv .2 ∙ ap (λ n. iter f n (scaled′ .result)) e
-          ∙ iter-rest f (z .args .k) (z .args .x) (scaled′ .result) (omega arith) (scaled′ .ensures .0),
-      l .inv .3,
-    )
+    let e : l .i ≡ z .args .k = omega arith in
+    (turns-all f (l .inv .1) e (s .scaled .ensures .0) (l .inv .2), l .inv .3)
 
 pub scaled-times-spec : {M : Type 1} → statement M
 scaled-times-spec =
     tie.close
     (tie.spec
-    Inv-loop
-    μ-loop
-    returns
-    scaled-requires
-    returns-2
-    matrix-line-requires
-    column-requires
-    add-mod-requires
-    add-times-requires
-    returns-3
-    loop-holds
-    scaled-requires-2
-    add-i
-    loop-less
-    loop-again
-    returns-4)
+    Inv-loop μ-loop returns scaled-requires returns-2 matrix-line-requires column-requires add-mod-requires add-times-requires returns-3 loop-holds
+    scaled-requires-2 add-i loop-less loop-again returns-4)

@@ -55,7 +55,9 @@ loop-again c = let z = c .before .before .before .before .before in
     let W = now (z .args .words) in
     let F : ℕ → Matrix = λ j. matrixIn W (z .args .at + j * 1) 1 in
     let i : z .args .at + l .k ≡ z .args .at + l .k * 1 = omega arith in
-    (search needs, c .single-times .ensures .0 ∙ ap₂ (λ g (x : Entry). iter (act (z .args .m) (matrixIn W g 1)) (getD (now (z .args .w)) (l .k) 0) x) i (l .inv .1) ∙ sym (walk-next (z .args .m) F (now (z .args .w)) (l .k) (entry 0 (z .args .e))), c .single-times .ensures .1)
+    let T = c .single-times .ensures in
+    let step = ap₂ (λ g (x : Entry). iter (act (z .args .m) (matrixIn W g 1)) (getD (now (z .args .w)) (l .k) 0) x) i (l .inv .1) in
+    (search needs, T .0 ∙ step ∙ sym (walk-next (z .args .m) F (now (z .args .w)) (l .k) (entry 0 (z .args .e))), T .1)
 
 returns : tie.Need-returns Inv-loop μ-loop
 returns c = let e : c .before .loop .k ≡ c .before .before .before .args .n = omega arith in
@@ -65,14 +67,5 @@ pub single-word-spec : {M : Type 1} → statement M
 single-word-spec =
     tie.close
     (tie.spec
-    Inv-loop
-    μ-loop
-    loop-holds
-    add-single-times
-    mul-single-times
-    element-copy-out-single-times
-    single-times-requires
-    add-k
-    loop-less
-    loop-again
+    Inv-loop μ-loop loop-holds add-single-times mul-single-times element-copy-out-single-times single-times-requires add-k loop-less loop-again
     returns)

@@ -71,15 +71,4 @@ pub walk-word-spec : {M : Type 1} → statement M
 walk-word-spec =
     tie.close
     (tie.spec
-    Inv-loop
-    μ-loop
-    loop-holds
-    mul-apply-times
-    element-copy-out-apply-times
-    apply-times-requires
-    up-requires
-    add-g
-    add-k
-    loop-less
-    loop-again
-    returns)
+    Inv-loop μ-loop loop-holds mul-apply-times element-copy-out-apply-times apply-times-requires up-requires add-g add-k loop-less loop-again returns)

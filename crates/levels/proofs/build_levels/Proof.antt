@@ -27,7 +27,7 @@ element-copy-out-reps : tie.Need-element-copy-out-reps Inv-loop μ-loop
 element-copy-out-reps c = search needs
 
 first-level-requires : tie.Need-first-level-requires Inv-loop μ-loop
-first-level-requires c κs = let z = c .before .before .before in first-asks (z .pre .0) (now (z .args .rows)) (now (z .args .primes)) (z .args .n) (z .args .m) (length (now (z .args .words))) (z .pre .1) _ refl
+first-level-requires c κs = first-asks (c .before .before .before .pre .1) _ refl
 
 loop-holds : tie.Need-loop-holds Inv-loop μ-loop
 loop-holds c = let z = c .before .before .before .before .before .before in (search needs, omega (arith, z .pre .0 .positive, z .pre .1 .n-is), refl, λ A h G w S. S)
@@ -36,23 +36,22 @@ up-requires : tie.Need-up-requires Inv-loop μ-loop
 up-requires c κs = search needs
 
 mul-t19 : tie.Need-mul-t19 Inv-loop μ-loop
-mul-t19 c = let z = c .before .before .before .before .before .before .before .before .before in let l = c .before .before .loop in omega (arith, c .up .ensures, z .pre .1 .n-is, z .pre .0 .positive, z .pre .1 .small .few)
+mul-t19 c = let z = c .before .before .before .before .before .before .before .before .before in
+    let l = c .before .before .loop in
+    omega (arith, c .up .ensures, z .pre .1 .n-is, z .pre .0 .positive, z .pre .1 .small .few)
 
 element-copy-out-t22 : tie.Need-element-copy-out-t22 Inv-loop μ-loop
 element-copy-out-t22 c = let z = c .before .before .before .before .before .before .before .before .before in omega (arith, c .up .ensures, z .pre .1 .n-is, z .pre .1 .small .few)
 
 next-level-requires : tie.Need-next-level-requires Inv-loop μ-loop
-next-level-requires c κs = let z = c .before .before .before .before .before .before .before .before .before .before .before in
-    let l = c .before .before .before .before .loop in
-    let A = z .pre .0 in
+next-level-requires c κs = let t = c .before .before .before .before in
+    let l = t .loop in
+    let f = t .before .before .before in
+    let z = f .before .before .before .before in
     let G = z .pre .1 in
-    let rows = now (z .args .rows) in
-    let primes = now (z .args .primes) in
-    let w = now (z .args .words) in
     let below : l .i < z .args .n = search needs in
-    let p = ap (λ t. getD primes t 0) (c .before .before .up .ensures) in
-    let S = l .inv .3 A _ G w (stage-one A rows primes (z .args .n) (z .args .m) (length w) G _ refl w _ _ (c .before .before .before .before .before .before .before .first-level .ensures)) in
-    stage-asks A rows primes (z .args .n) (z .args .m) (length w) G (l .i) (l .base) (l .reps) (l .end) _ w (l .words) (l .inv .0) below p S (le-refl _)
+    let p = ap (λ t. getD (now (z .args .primes)) t 0) (c .before .before .up .ensures) in
+    stage-asks G (l .inv .0) below p (l .inv .3 _ _ G _ (stage-one G refl (f .first-level .ensures))) (le-refl _)
 
 add-i : tie.Need-add-i Inv-loop μ-loop
 add-i c = search needs
@@ -61,32 +60,24 @@ loop-less : tie.Need-loop-less Inv-loop μ-loop
 loop-less c = search needs
 
 loop-again : tie.Need-loop-again Inv-loop μ-loop
-loop-again c = let z = c .before .before .before .before .before .before .before .before .before .before .before .before .before .before in
-    let l = c .before .before .before .before .before .before .before .loop in
-    let rows = now (z .args .rows) in
-    let primes = now (z .args .primes) in
-    let below : l .i < z .args .n = search needs in
-    let p = ap (λ t. getD primes t 0) (c .before .before .before .before .before .up .ensures) in (
-      search needs,
-      search needs,
-      search needs,
-      λ A h G w S. stage-next A rows primes (z .args .n) (z .args .m) h G (l .i) (l .base) (l .reps) (l .end) _ w (l .words) (l .inv .0) below p
-          (l .inv .3 A h G w S) _ _ (c .before .before .next-level .ensures),
-    )
+loop-again c = let t = c .before .before .before .before .before .before .before in
+    let l = t .loop in
+    let a = t .before .before .before .before .before .before .before .args in
+    let below : l .i < a .n = search needs in
+    let p = ap (λ t. getD (now (a .primes)) t 0) (c .before .before .before .before .before .up .ensures) in
+    let M = c .before .before .next-level .ensures in
+    (search needs, search needs, search needs, λ A h G w S. stage-next G (l .inv .0) below p (l .inv .3 A h G w S) _ _ M)
 
 same-length : tie.Need-same-length Inv-loop μ-loop
 same-length c = c .before .loop .inv .2 ∙ wrote-length (c .before .before .before .before .first-level .ensures)
 
 returns : tie.Need-returns Inv-loop μ-loop
-returns c = let z = c .before .before .before .before .before .before .before .before in
+returns c = let f = c .before .before .before .before in
+    let z = f .before .before .before .before in
     let l = c .before .loop in
-    let rows = now (z .args .rows) in
-    let primes = now (z .args .primes) in
     let w = now (z .args .words) in
     let e : l .i ≡ z .args .n = omega (arith, l .inv .1) in
-    λ A G.
-    let S = stage-one A rows primes (z .args .n) (z .args .m) (length w) G _ refl w _ _ (c .before .before .before .before .first-level .ensures) in
-    subst (λ k. Wrote w 0 (upTo A k) (l .words) (8 * l .end)) (e ∙ G .n-is) (l .inv .3 A _ G w S .wrote)
+    λ A G. subst (λ k. Wrote w 0 (upTo A k) (l .words) (8 * l .end)) (e ∙ G .n-is) (l .inv .3 A _ G w (stage-one G refl (f .first-level .ensures)) .wrote)
 
 pub build-levels-spec : {M : Type 1} → statement M
 build-levels-spec =

@@ -1,6 +1,7 @@
 -- `large_level` makes arrays for every level.
 use native.Mathlib.Omega.{arith}
 use borrow.Author.Needs.{needs}
+use Rattle.survey.proofs.Level.{reps-half, moved-prime}
 use Rattle.levels.proofs.large_level.Statement.{statement}
 use Rattle.levels.proofs.large_level.Tie as tie
 
@@ -13,7 +14,7 @@ slice-aggregate-append-level-2 c = search needs
 append-level-requires : tie.Need-append-level-requires
 append-level-requires c κs = let z = c .before .before .before .before in
     let S = z .pre .sound .stands in
-    (z .pre, record { notes-long = omega (arith, S .few); blocks-long = omega (arith, S .prime .1) })
+    (z .pre, omega (arith, reps-half (z .args .f) _ S), λ h. omega (arith, moved-prime (z .args .f) _ S h))
 
 same-length : tie.Need-same-length
 same-length c = search needs
@@ -22,7 +23,4 @@ returns : tie.Need-returns
 returns c = search needs
 
 pub large-level-spec : {M : Type 1} → statement M
-large-level-spec =
-    tie.close
-    (tie.spec
-    slice-aggregate-append-level slice-aggregate-append-level-2 append-level-requires same-length returns)
+large-level-spec = tie.close (tie.spec slice-aggregate-append-level slice-aggregate-append-level-2 append-level-requires same-length returns)

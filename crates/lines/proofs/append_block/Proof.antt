@@ -82,20 +82,5 @@ pub append-block-spec : {M : Type 1} → statement M
 append-block-spec =
     tie.close
     (tie.spec
-    Inv-loop
-    μ-loop
-    append-line-requires
-    same-length
-    returns
-    mul-n
-    loop-holds
-    slice-reshare-prefix-block-entry
-    slice-aggregate-block-entry
-    block-entry-requires
-    add-put-line
-    put-line-requires
-    add-k
-    loop-less
-    loop-again
-    same-length-2
-    returns-2)
+    Inv-loop μ-loop append-line-requires same-length returns mul-n loop-holds slice-reshare-prefix-block-entry slice-aggregate-block-entry
+    block-entry-requires add-put-line put-line-requires add-k loop-less loop-again same-length-2 returns-2)

@@ -105,31 +105,6 @@ pub put-line-spec : {M : Type 1} → statement M
 put-line-spec =
     tie.close
     (tie.spec
-    mul-i
-    add-words
-    mul-words
-    slice-write-words
-    add-words-2
-    mul-words-2
-    slice-write-words-2
-    add-words-3
-    mul-words-3
-    slice-write-words-3
-    add-words-4
-    mul-words-4
-    slice-write-words-4
-    add-words-5
-    mul-words-5
-    slice-write-words-5
-    add-words-6
-    mul-words-6
-    slice-write-words-6
-    add-words-7
-    mul-words-7
-    slice-write-words-7
-    add-words-8
-    mul-words-8
-    slice-write-words-8
-    add-result
-    same-length
-    returns)
+    mul-i add-words mul-words slice-write-words add-words-2 mul-words-2 slice-write-words-2 add-words-3 mul-words-3 slice-write-words-3 add-words-4
+    mul-words-4 slice-write-words-4 add-words-5 mul-words-5 slice-write-words-5 add-words-6 mul-words-6 slice-write-words-6 add-words-7 mul-words-7
+    slice-write-words-7 add-words-8 mul-words-8 slice-write-words-8 add-result same-length returns)

@@ -62,14 +62,4 @@ returns c = let z = c .before .before .before .before .before .before .before .b
     subst (λ y. EntryIs f W (z .args .r) y (c .cycle-times .result)) e (c .cycle-times .ensures)
 
 pub conjugate-spec : {M : Type 1} → statement M
-conjugate-spec =
-    tie.close
-    (tie.spec
-    of-block-requires
-    up-requires
-    walked-requires
-    mul-k
-    element-copy-out-k
-    add-cycle-times
-    cycle-times-requires
-    returns)
+conjugate-spec = tie.close (tie.spec of-block-requires up-requires walked-requires mul-k element-copy-out-k add-cycle-times cycle-times-requires returns)

@@ -96,15 +96,4 @@ pub list-orbit-spec : {M : Type 1} → statement M
 list-orbit-spec =
     tie.close
     (tie.spec
-    Inv-loop
-    μ-loop
-    listed-requires
-    loop-holds
-    put-block-requires
-    member-requires
-    target-requires
-    add-k
-    loop-less
-    loop-again
-    same-length
-    returns)
+    Inv-loop μ-loop listed-requires loop-holds put-block-requires member-requires target-requires add-k loop-less loop-again same-length returns)

@@ -70,15 +70,4 @@ pub list-scalars-spec : {M : Type 1} → statement M
 list-scalars-spec =
     tie.close
     (tie.spec
-    Inv-loop
-    μ-loop
-    put-block-requires
-    sub-last
-    loop-holds
-    next-scalar-requires
-    put-block-requires-2
-    add-k
-    loop-less
-    loop-again
-    same-length
-    returns)
+    Inv-loop μ-loop put-block-requires sub-last loop-holds next-scalar-requires put-block-requires-2 add-k loop-less loop-again same-length returns)

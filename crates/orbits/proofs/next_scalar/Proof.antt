@@ -77,13 +77,4 @@ pub next-scalar-spec : {M : Type 1} → statement M
 next-scalar-spec =
     tie.close
     (tie.spec
-    up-requires
-    up-requires-2
-    word-requires
-    note-requires
-    conjugate-requires
-    left-requires
-    right-requires
-    add-mod-requires
-    sub-mod-requires
-    returns)
+    up-requires up-requires-2 word-requires note-requires conjugate-requires left-requires right-requires add-mod-requires sub-mod-requires returns)

@@ -52,12 +52,4 @@ returns c = let z = c .before .before .before .before .before .before .before .b
     (c .through .ensures .0 ∙ (λ o. throughIn (f .m) W (D .is o) (z .args .j) (e o) (f .top) (k o)), c .through .ensures .1)
 
 pub right-spec : {M : Type 1} → statement M
-right-spec =
-    tie.close
-    (tie.spec
-    of-block-requires
-    target-requires
-    member-requires
-    constant-requires
-    through-requires
-    returns)
+right-spec = tie.close (tie.spec of-block-requires target-requires member-requires constant-requires through-requires returns)

@@ -1,7 +1,7 @@
 -- `around`: after k steps the entry is that of the formulas.
 use mathlib.Core.Path.{_≡_, sym, ap, ap₂, _∙_, subst}
 use mathlib.Core.List.{[]}
-use Prim.Native.Nat.{ℕ, _-_, _≤_, _<_}
+use Prim.Native.Nat.{ℕ, _-_, _≤_}
 use native.Mathlib.Omega.{arith}
 use denote.Ref.{now}
 use Rattle.definitions.specs.declared.Entry.{Entry}
@@ -10,7 +10,7 @@ use Rattle.definitions.specs.Monomial.{act}
 use Rattle.numbers.proofs.Lists.{iter-zero}
 use Rattle.level.specs.Stored.{Below}
 use Rattle.level.proofs.Columns.{iter-next}
-use Rattle.survey.specs.Below.{degOf, targetOf, sourceIn, aroundIn}
+use Rattle.survey.specs.Below.{targetOf, sourceIn, aroundIn, CarriedAt}
 use Rattle.survey.proofs.Level.{located-degree, located-column}
 use Rattle.survey.proofs.Counting.{around-zero, around-next}
 use borrow.Author.Needs.{needs}
@@ -18,8 +18,8 @@ use Rattle.survey.proofs.around.Statement.{statement}
 use Rattle.survey.proofs.around.Tie as tie
 
 abbrev Inv-loop : tie.InvT-loop
-Inv-loop low first f d r s₀ p k₀ s k = (k ≤ p) × (p ≡ f .p) × (s .rep ≡ iter (targetOf f low (f .top)) k r) × (s .rep < f .reps) ×
-    (d .deg ≡ degOf f low (s .rep)) × (s .x ≡ aroundIn f low r k) × Below (f .m) (d .deg) (s .x)
+Inv-loop low first f d r s₀ p k₀ s k = (k ≤ p) × (p ≡ f .p) × (s .rep ≡ iter (targetOf f low (f .top)) k r) × (s .x ≡ aroundIn f low r k)
+    × CarriedAt f low (d .deg) s
 
 abbrev μ-loop : tie.MeasureT-loop
 μ-loop low first f d r s₀ p k₀ s k = p - k
@@ -30,16 +30,12 @@ loop-holds c = let z = c .before .before in
       search needs,
       search needs,
       sym (iter-zero _ (z .args .r)),
-      L .listed,
-      located-degree L,
       around-zero (z .args .f) (now (z .args .low)) (z .args .r),
-      located-column L,
+      record { rep-below = L .listed; same-degree = located-degree L; entry-below = located-column L },
     )
 
 carry-requires : tie.Need-carry-requires Inv-loop μ-loop
-carry-requires c κs = let z = c .before .before .before .before in
-    let l = c .before .loop in
-    (z .pre .0 .stands, z .pre .1, l .inv .3, l .inv .4, l .inv .6)
+carry-requires c κs = let z = c .before .before .before .before in (z .pre .0 .stands, z .pre .1, c .before .loop .inv .4)
 
 add-k : tie.Need-add-k Inv-loop μ-loop
 add-k c = search needs
@@ -56,29 +52,17 @@ loop-again c = let z = c .before .before .before .before .before in
       search needs,
       search needs,
       t .rep-is ∙ ap τ (l .inv .2) ∙ sym (iter-next τ (l .k) (z .args .r)),
-      t .rep-below,
-      t .same-degree,
-      t .entry-is ∙ ap₂ F (l .inv .2) (l .inv .5) ∙ sym (around-next (z .args .f) (now (z .args .low)) (z .args .r) (l .k)),
-      t .entry-below,
+      t .entry-is ∙ ap₂ F (l .inv .2) (l .inv .3) ∙ sym (around-next (z .args .f) (now (z .args .low)) (z .args .r) (l .k)),
+      t .carried,
     )
 
 returns : tie.Need-returns Inv-loop μ-loop
 returns c = let z = c .before .before .before .before .before in
     let l = c .before .before .loop in
     let e : l .k ≡ z .args .f .p = omega arith in (
-      l .inv .5 ∙ ap (aroundIn (z .args .f) (now (z .args .low)) (z .args .r)) e,
-      subst (λ d. Below (z .args .f .m) d (l .s .x)) (located-degree (z .pre .0)) (l .inv .6),
+      l .inv .3 ∙ ap (aroundIn (z .args .f) (now (z .args .low)) (z .args .r)) e,
+      subst (λ d. Below (z .args .f .m) d (l .s .x)) (located-degree (z .pre .0)) (l .inv .4 .entry-below),
     )
 
 pub around-spec : {M : Type 1} → statement M
-around-spec =
-    tie.close
-    (tie.spec
-    Inv-loop
-    μ-loop
-    loop-holds
-    carry-requires
-    add-k
-    loop-less
-    loop-again
-    returns)
+around-spec = tie.close (tie.spec Inv-loop μ-loop loop-holds carry-requires add-k loop-less loop-again returns)

@@ -36,8 +36,9 @@ made-requires c κs = let z = c .before .before .before .before .before .before 
     (z .pre .0, orbited-beside 3 (omega arith) (beside-put (l .inv .2) (c .before .before .before .put-note .ensures)) (z .pre .1), search needs)
 
 add-c : tie.Need-add-c Inv-loop μ-loop
-add-c c = let z = c .before .before .before .before .before .before .before .before .before .before in
-    let l = c .before .before .before .before .before .before .before .loop in
+add-c c = let t = c .before .before .before .before .before .before .before in
+    let z = t .before .before .before in
+    let l = t .loop in
     let W = now (z .args .low) in
     let fits = number-fits (z .args .f) W (z .pre .0) (l .r + 1) (search needs) in
     omega (arith, l .inv .3, c .made .ensures, number-next (z .args .f) W (l .r), fits)
@@ -49,8 +50,9 @@ loop-less : tie.Need-loop-less Inv-loop μ-loop
 loop-less c = search needs
 
 loop-again : tie.Need-loop-again Inv-loop μ-loop
-loop-again c = let z = c .before .before .before .before .before .before .before .before .before .before in
-    let l = c .before .before .before .before .before .before .before .loop in
+loop-again c = let t = c .before .before .before .before .before .before .before in
+    let z = t .before .before .before in
+    let l = t .loop in
     let P = c .before .before .before .before .put-note .ensures in
     let I = inside-orbited 3 (omega arith) (z .pre .1) (l .inv .2 .len) (l .r) (search needs) in (
       search needs,
@@ -73,7 +75,4 @@ returns c = let z = c .before .before .before .before in
     )
 
 pub count-numbers-spec : {M : Type 1} → statement M
-count-numbers-spec =
-    tie.close
-    (tie.spec
-    Inv-loop μ-loop loop-holds put-note-requires made-requires add-c add-r loop-less loop-again same-length returns)
+count-numbers-spec = tie.close (tie.spec Inv-loop μ-loop loop-holds put-note-requires made-requires add-c add-r loop-less loop-again same-length returns)

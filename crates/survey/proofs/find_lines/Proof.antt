@@ -62,8 +62,9 @@ loop-less : tie.Need-loop-less Inv-loop μ-loop
 loop-less c = search needs
 
 loop-again : tie.Need-loop-again Inv-loop μ-loop
-loop-again c = let z = c .before .before .before .before .before .before .before .before .before .before in
-    let l = c .before .before .before .before .before .before .before .loop in
+loop-again c = let t = c .before .before .before .before .before .before .before in
+    let z = t .before .before .before in
+    let l = t .loop in
     let F : Listed → ℕ = λ d. d .line + z .args .f .gens * d .deg in
     let e = c .before .representation .ensures ∙ ap (λ s. record { line = s; deg = wordAt (now (z .args .low)) s DEG }) (l .inv .3) in
     let P = c .before .before .before .before .put-note .ensures in

@@ -12,10 +12,10 @@ use Rattle.survey.proofs.find_shifts.Statement.{statement}
 use Rattle.survey.proofs.find_shifts.Tie as tie
 
 abbrev Inv-loop : tie.InvT-loop
-Inv-loop low notes₀ u f reps r₀ notes r = (r ≤ reps) × (reps ≡ f .reps) × Beside 4 notes₀ notes × Filled (shifts notes) (leadingIn f low u) r
+Inv-loop low notes₀ u n f reps r₀ notes r = (r ≤ reps) × (reps ≡ f .reps) × Beside 4 notes₀ notes × Filled (shifts notes) (leadingIn f low u) r
 
 abbrev μ-loop : tie.MeasureT-loop
-μ-loop low notes₀ u f reps r₀ notes r = reps - r
+μ-loop low notes₀ u n f reps r₀ notes r = reps - r
 
 loop-holds : tie.Need-loop-holds Inv-loop μ-loop
 loop-holds c = let z = c .before .before in
@@ -25,7 +25,7 @@ loop-holds c = let z = c .before .before in
 leading-requires : tie.Need-leading-requires Inv-loop μ-loop
 leading-requires c κs = let z = c .before .before .before .before .before in
     let l = c .before .before .loop in
-    (z .pre .0, orbited-beside 4 (omega arith) (l .inv .2) (z .pre .1), search needs)
+    (z .pre .0, orbited-beside 4 (omega arith) (l .inv .2) (z .pre .1), search needs, z .pre .2)
 
 put-note-requires : tie.Need-put-note-requires Inv-loop μ-loop
 put-note-requires c κs = let z = c .before .before .before .before .before .before .before in
@@ -39,8 +39,9 @@ loop-less : tie.Need-loop-less Inv-loop μ-loop
 loop-less c = search needs
 
 loop-again : tie.Need-loop-again Inv-loop μ-loop
-loop-again c = let z = c .before .before .before .before .before .before .before .before .before .before in
-    let l = c .before .before .before .before .before .before .before .loop in
+loop-again c = let t = c .before .before .before .before .before .before .before in
+    let z = t .before .before .before in
+    let l = t .loop in
     let P = c .before .before .put-note .ensures in
     let I = inside-orbited 4 (omega arith) (z .pre .1) (l .inv .2 .len) (l .r) (search needs) in
     let g = leadingIn (z .args .f) (now (z .args .low)) (now (z .args .u)) in
@@ -57,7 +58,4 @@ returns c = let z = c .before .before .before .before in
     (record { long = long; at = λ k h. l .inv .3 k (omega (arith, e)) }, l .inv .2)
 
 pub find-shifts-spec : {M : Type 1} → statement M
-find-shifts-spec =
-    tie.close
-    (tie.spec
-    Inv-loop μ-loop loop-holds leading-requires put-note-requires add-r loop-less loop-again same-length returns)
+find-shifts-spec = tie.close (tie.spec Inv-loop μ-loop loop-holds leading-requires put-note-requires add-r loop-less loop-again same-length returns)

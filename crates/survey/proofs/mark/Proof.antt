@@ -15,16 +15,19 @@ put-note-requires : tie.Need-put-note-requires
 put-note-requires c κs = search needs
 
 put-note-requires-2 : tie.Need-put-note-requires-2
-put-note-requires-2 c κs = let z = c .before .before .before .before .before .before .before .before .before in inside-other 1 2 (z .args .q) (now (z .args .notes)) _ (omega arith) (c .before .before .before .put-note .ensures .len) (z .pre)
+put-note-requires-2 c κs = let s = c .before .before .before in
+    let z = s .before .before .before .before .before .before in
+    inside-other 1 2 (z .args .q) (now (z .args .notes)) _ (omega arith) (s .put-note .ensures .len) (z .pre)
 
 same-length : tie.Need-same-length
 same-length c = search needs
 
 returns : tie.Need-returns
-returns c = let P = c .before .before .before .before .before .before .put-note .ensures in
+returns c = let s = c .before .before .before .before .before .before in
+    let i = s .before .before in
+    let z = i .before .before .before .before in
+    let P = s .put-note .ensures in
     let Q = c .before .before .put-note2 .ensures in
-    let z = c .before .before .before .before .before .before .before .before .before .before .before .before in
-    let is = sym (c .before .before .before .before .before .before .before .before .before .note .ensures) ∙ c .before .before .before .before .before .before .before .before .if1 .taken in
     record {
       len = Q .len ∙ P .len;
       lines = Q .kept 0 (omega arith) (λ e. omega (arith, e)) ∙ P .kept 0 (omega arith) (λ e. omega (arith, e));
@@ -32,7 +35,7 @@ returns c = let P = c .before .before .before .before .before .before .put-note 
         Q .kept 1 (omega arith) (λ e. omega (arith, e)) ∙ P .stored,
         Q .stored ∙ ap (λ a. set a (z .args .q) (z .args .k)) (P .kept 2 (omega arith) (λ e. omega (arith, e))),
       );
-      stale = λ n. absurd (n is);
+      stale = λ n. absurd (n (sym (i .before .note .ensures) ∙ i .if1 .taken));
     }
 
 same-length-2 : tie.Need-same-length-2

@@ -22,9 +22,10 @@ same-length : tie.Need-same-length
 same-length c = search needs
 
 returns : tie.Need-returns
-returns c = let z = c .before .before .before .before .before .before .before .before .before .before in
+returns c = let i = c .before .before .before .before in
+    let z = i .before .before .before .before .before .before in
     let e = c .before .before .mark-orbit .ensures in
-    let u = sym (c .before .before .before .before .before .before .note .ensures) ∙ c .before .before .before .before .if1 .taken in
+    let u = sym (i .before .before .note .ensures) ∙ i .if1 .taken in
     let own = marking-own (z .args .f) (now (z .args .low)) (z .pre .0 .0) (z .args .r) _ _ (z .pre .0 .2) u (z .pre .1) in
     let M = marking-done (z .args .f) (now (z .args .low)) (z .pre .0 .0) (z .args .r) (z .pre .0 .2) own _ _ (e .marks) in
     record { marks = M; lines = e .lines; len = e .len }

@@ -1,6 +1,6 @@
 -- `mark_orbit`: q is member k of the orbit, and the members before it are marked.
 use mathlib.Core.Path.{_≡_, refl, sym, ap, _∙_, subst}
-use Prim.Native.Nat.{suc, _-_, _≤_, _<_}
+use Prim.Native.Nat.{suc, _-_, _≤_}
 use native.Mathlib.Omega.{arith}
 use native.Mathlib.Nat.{le-refl}
 use denote.Ref.{now}
@@ -10,7 +10,7 @@ use Rattle.level.proofs.Columns.{iter-next}
 use Rattle.survey.specs.Below.{degOf, targetOf, Lines, Marking}
 use Rattle.survey.proofs.Notes.{inside-below}
 use Rattle.survey.proofs.Level.{located-stored, located-degree, located-target}
-use Rattle.survey.proofs.Marking.{marking-step, orbit-inside}
+use Rattle.survey.proofs.Marking.{marking-step, orbit-member}
 use borrow.Author.Needs.{needs}
 use Rattle.survey.proofs.mark_orbit.Statement.{statement}
 use Rattle.survey.proofs.mark_orbit.Tie as tie
@@ -37,20 +37,20 @@ loop-holds c = (
 mark-requires : tie.Need-mark-requires Inv-loop μ-loop
 mark-requires c κs = let z = c .before .before .before .before .before .before .before in
     let l = c .before .before .loop in
-    let h : l .q < z .args .f .reps = subst (λ x. x < z .args .f .reps) (sym (l .inv .2)) (orbit-inside (z .args .f) (now (z .args .low))
-    (z .pre .0 .0) (z .args .r) (l .k) (z .pre .0 .2)) in
+    let h = orbit-member (z .args .f) (now (z .args .low)) (z .pre .0 .0) (z .args .r) (l .k) (l .q) (z .pre .0 .2) (l .inv .2) in
     inside-below 1 (z .args .f .reps) (l .notes) (l .q) (omega arith) (l .inv .3 .marks .long .0) h
 
 member-requires : tie.Need-member-requires Inv-loop μ-loop
-member-requires c κs = let z = c .before .before .before .before .before .before .before .before .before .before .before in
-    let l = c .before .before .before .before .before .before .loop in
-    let h : l .q < z .args .f .reps = subst (λ x. x < z .args .f .reps) (sym (l .inv .2)) (orbit-inside (z .args .f) (now (z .args .low))
-    (z .pre .0 .0) (z .args .r) (l .k) (z .pre .0 .2)) in
-    let e = c .before .before .before .mark .ensures .lines ∙ l .inv .3 .lines in
+member-requires c κs = let s = c .before .before .before in
+    let z = s .before .before .before .before .before .before .before .before in
+    let l = s .before .before .before .loop in
+    let h = orbit-member (z .args .f) (now (z .args .low)) (z .pre .0 .0) (z .args .r) (l .k) (l .q) (z .pre .0 .2) (l .inv .2) in
+    let e = s .mark .ensures .lines ∙ l .inv .3 .lines in
     (z .pre .0 .0, subst (Lines (z .args .f) (now (z .args .low))) (sym e) (z .pre .0 .1), h, l .inv .4)
 
 target-requires : tie.Need-target-requires Inv-loop μ-loop
-target-requires c κs = let z = c .before .before .before .before .before .before .before .before .before .before .before .before in
+target-requires c κs = let s = c .before .before .before .before in
+    let z = s .before .before .before .before .before .before .before .before in
     (z .args .f .m, located-stored (c .member .ensures) (suc (z .args .f .top)) (z .pre .0 .0 .gens .0))
 
 add-k : tie.Need-add-k Inv-loop μ-loop
@@ -60,11 +60,12 @@ loop-less : tie.Need-loop-less Inv-loop μ-loop
 loop-less c = search needs
 
 loop-again : tie.Need-loop-again Inv-loop μ-loop
-loop-again c = let z = c .before .before .before .before .before .before .before .before .before .before .before .before .before in
-    let l = c .before .before .before .before .before .before .before .before .loop in
+loop-again c = let s = c .before .before .before .before .before in
+    let z = s .before .before .before .before .before .before .before .before in
+    let l = s .before .before .before .loop in
     let τ = targetOf (z .args .f) (now (z .args .low)) (z .args .f .top) in
     let t = located-target (c .before .member .ensures) (z .args .f .top) _ (le-refl _) (z .pre .0 .0 .gens .0) (c .target .ensures) in
-    let N = c .before .before .before .before .before .mark .ensures in (
+    let N = s .mark .ensures in (
       search needs,
       search needs,
       t .0 ∙ ap τ (l .inv .2) ∙ sym (iter-next τ (l .k) (z .args .r)),
@@ -90,5 +91,4 @@ pub mark-orbit-spec : {M : Type 1} → statement M
 mark-orbit-spec =
     tie.close
     (tie.spec
-    Inv-loop μ-loop listed-requires loop-holds mark-requires member-requires target-requires add-k loop-less
-    loop-again same-length returns)
+    Inv-loop μ-loop listed-requires loop-holds mark-requires member-requires target-requires add-k loop-less loop-again same-length returns)

@@ -65,7 +65,4 @@ returns c = let z = c .before .before .before .before .before .before .before .b
     (record { lines = subst (Lines f W) (sym first) (z .pre .1); leaders-are = A .0; places-are = A .1 }, M .len ∙ C .len)
 
 pub mark-orbits-spec : {M : Type 1} → statement M
-mark-orbits-spec =
-    tie.close
-    (tie.spec
-    Inv-loop μ-loop clear-requires loop-holds mark-from-requires add-r loop-less loop-again same-length returns)
+mark-orbits-spec = tie.close (tie.spec Inv-loop μ-loop clear-requires loop-holds mark-from-requires add-r loop-less loop-again same-length returns)

@@ -53,13 +53,4 @@ returns c = let up′ = c .before .before .before .up in
     (c .scaled-times .ensures .0 ∙ ap₂ (λ i x. iter F i x) (ap (λ i. i + 1) k ∙ add-one _) x, c .scaled-times .ensures .1)
 
 pub conjugated-spec : {M : Type 1} → statement M
-conjugated-spec =
-    tie.close
-    (tie.spec
-    up-requires
-    walked-requires
-    mul-k
-    element-copy-out-k
-    add-scaled-times
-    scaled-times-requires
-    returns)
+conjugated-spec = tie.close (tie.spec up-requires walked-requires mul-k element-copy-out-k add-scaled-times scaled-times-requires returns)

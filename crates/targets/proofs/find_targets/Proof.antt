@@ -111,18 +111,5 @@ pub find-targets-spec : {M : Type 1} → statement M
 find-targets-spec =
     tie.close
     (tie.spec
-    Inv-loop
-    μ-loop
-    listed-requires
-    add-lo
-    loop-holds
-    target-requires
-    note-requires
-    put-requires
-    landing-requires
-    put-requires-2
-    add-j
-    loop-less
-    loop-again
-    same-length
-    returns)
+    Inv-loop μ-loop listed-requires add-lo loop-holds target-requires note-requires put-requires landing-requires put-requires-2 add-j loop-less
+    loop-again same-length returns)

@@ -101,17 +101,5 @@ pub landing-spec : {M : Type 1} → statement M
 landing-spec =
     tie.close
     (tie.spec
-    up-requires
-    up-requires-2
-    word-requires
-    root-requires
-    conjugated-requires
-    moved-requires
-    target-requires
-    member-requires
-    root-requires-2
-    through-requires
-    sub-mod-requires
-    div-result
-    div-result-2
-    returns)
+    up-requires up-requires-2 word-requires root-requires conjugated-requires moved-requires target-requires member-requires root-requires-2
+    through-requires sub-mod-requires div-result div-result-2 returns)
