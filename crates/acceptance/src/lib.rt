@@ -16,7 +16,7 @@ pub fn accepted(text: &[u8]) -> Outcome
     let p = o.presentation;
     let n = p.n;
     let primes = p.primes;
-    let rows = presentation::words_of(p);
+    let rows = presentation::rows_of(p);
     if consistency::consistent(&primes, &rows, n) {
         return Outcome {
             status: 0,

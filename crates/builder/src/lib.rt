@@ -15,11 +15,11 @@ ghost use Rattle.survey.specs.Notes.{noteWidth};
 ghost use Rattle.survey.specs.Below.{lowOf, numberIn, Sound, Surveyed};
 ghost use Rattle.builder.specs.Above.{aboveIn, nextWords};
 ghost use Rattle.builder.specs.Level.{BlocksLent, LevelAsked, LevelMade};
-use rows::Words;
+use rows::Rows;
 use survey::Frame;
 
 // Notes what the next level is made with. Returns how many representations the next has.
-fn survey_level(low: &[u32], rows: &Words, notes: &mut [u32], f: Frame) -> u32
+fn survey_level(low: &[u32], rows: &Rows, notes: &mut [u32], f: Frame) -> u32
     requires { ⌜ Sound f (now low) (now rows) × (noteWidth * f .reps ≤ length (now notes)) ⌝ }
     ensures { λ x. ⌜ x ≡ numberIn f (now (low .entry)) (f .reps) ⌝ }
     ensures { λ _. ⌜ Surveyed f (now (low .entry)) (now (rows .entry)) (now (notes .exit)) ⌝ }
@@ -37,7 +37,7 @@ fn survey_level(low: &[u32], rows: &Words, notes: &mut [u32], f: Frame) -> u32
 // Appends the representations above representation r of the level below. Returns the next line's number.
 fn append_above(
     words: &mut [u32],
-    rows: &Words,
+    rows: &Rows,
     notes: &[u32],
     blocks: &mut [u32],
     f: Frame,
@@ -61,7 +61,7 @@ fn append_above(
 }
 
 // Appends the representations above all of them.
-fn append_all(words: &mut [u32], rows: &Words, notes: &[u32], blocks: &mut [u32], f: Frame) -> usize
+fn append_all(words: &mut [u32], rows: &Rows, notes: &[u32], blocks: &mut [u32], f: Frame) -> usize
     requires { ⌜ Surveyed f (lowOf f (now words)) (now rows) (now notes) × BlocksLent f (now blocks) ⌝ }
     requires { ⌜ Space (f .end) (f .end) (length (nextWords f (lowOf f (now words)) (now rows))) (now words) ⌝ }
     ensures { λ x. ⌜ Wrote (now (words .entry)) (8 * f .end) (nextWords f (lowOf f (now (words .entry))) (now (rows .entry))) (now (words .exit)) (8 * x) ⌝ }
@@ -84,7 +84,7 @@ pub struct Written {
 // the blocks of an orbit.
 pub fn append_level(
     words: &mut [u32],
-    rows: &Words,
+    rows: &Rows,
     notes: &mut [u32],
     blocks: &mut [u32],
     f: Frame,

@@ -14,7 +14,7 @@ use lib.ListN.{length, getD, set}
 use lib.Seq.{set-out}
 use lib.Dec.{eqb, leb}
 use borrow.Author.Tests.{eq-eqb, ne-eqb, le-leb, lt-leb}
-use Rattle.case_input.specs.Parsed.{isDigit, ends, grown, withByte, wordOf, parsedTo, parsed}
+use Rattle.case_input.specs.Parsed.{isDigit, ends, withDigit, withByte, wordOf, parsedTo, parsed}
 
 module _ (b : ℕ) where
   pub digit-yes : 48 ≤ b → leb b 57 ≡ isDigit b
@@ -41,15 +41,15 @@ cond-le false k r e = omega arith
 module _ (ws : List ℕ) (k b : ℕ) where
   pub added-none : isDigit b ≡ false → ws ≡ withByte ws k b
   unfolding withByte
-  added-none e = sym (ap (λ x. cond x (set ws k (grown (getD ws k 0) b)) ws) e)
+  added-none e = sym (ap (λ x. cond x (set ws k (withDigit (getD ws k 0) b)) ws) e)
 
-  pub added-digit : {w : ℕ} → isDigit b ≡ true → w ≡ grown (getD ws k 0) b → set ws k w ≡ withByte ws k b
+  pub added-digit : {w : ℕ} → isDigit b ≡ true → w ≡ withDigit (getD ws k 0) b → set ws k w ≡ withByte ws k b
   unfolding withByte
-  added-digit e q = ap (set ws k) q ∙ sym (ap (λ x. cond x (set ws k (grown (getD ws k 0) b)) ws) e)
+  added-digit e q = ap (set ws k) q ∙ sym (ap (λ x. cond x (set ws k (withDigit (getD ws k 0) b)) ws) e)
 
   pub added-out : isDigit b ≡ true → length ws ≤ k → ws ≡ withByte ws k b
   unfolding withByte
-  added-out e l = sym (set-out ws k (grown (getD ws k 0) b) l) ∙ added-digit e refl
+  added-out e l = sym (set-out ws k (withDigit (getD ws k 0) b) l) ∙ added-digit e refl
 
 -- ---- The first i bytes
 

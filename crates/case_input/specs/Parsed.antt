@@ -1,7 +1,7 @@
 -- Words in bytes: their decimal digits, and a space or a line's end behind each.
 --
 --   isDigit, ends          a byte that is a digit, and one that ends a word
---   grown w b              a word of 32 bits with one digit more
+--   withDigit w b              a word of 32 bits with one digit more
 --   withByte ws k b        words, with a byte added to word k
 --   wordOf s i             the number of the word that byte i stands in
 --   parsedTo s ws i        words, with the first i bytes of s added
@@ -18,12 +18,12 @@ isDigit b = leb 48 b && leb b 57
 abbrev pub ends : ℕ → Bool
 ends b = eqb b 32 || eqb b 10
 
-abbrev pub grown : ℕ → ℕ → ℕ
-grown w b = (w * 10 + b % 16) % 4294967296
+abbrev pub withDigit : ℕ → ℕ → ℕ
+withDigit w b = (w * 10 + b % 16) % 4294967296
 
 -- a word beyond the last is not kept
 unfoldable pub withByte : List ℕ → ℕ → ℕ → List ℕ
-withByte ws k b = cond (isDigit b) (set ws k (grown (getD ws k 0) b)) ws
+withByte ws k b = cond (isDigit b) (set ws k (withDigit (getD ws k 0) b)) ws
 
 unfoldable pub wordOf : List ℕ → ℕ → ℕ
 wordOf s zero = 0

@@ -11,7 +11,7 @@ ghost use Prim.Native.Nat.{suc, _<_, _≤_};
 ghost use lib.ListN.{length};
 ghost use Rattle.case_input.specs.Mixed.{mixed, mixedTo};
 ghost use Rattle.case_input.specs.Part.{Part};
-ghost use Rattle.case_input.specs.Parsed.{isDigit, ends, grown as grownBy, withByte, parsed};
+ghost use Rattle.case_input.specs.Parsed.{isDigit, ends, withDigit, withByte, parsed};
 
 // The first position from `start` on where the byte stands, or the end.
 pub fn find(s: &[u8], start: usize, byte: u8) -> usize
@@ -121,7 +121,7 @@ pub fn mix_bytes(bytes: &[u8]) -> u32
 
 // A word with one more decimal digit.
 fn grown(word: u32, digit: u8) -> u32
-    ensures { λ r. ⌜ r ≡ grownBy word digit ⌝ }
+    ensures { λ r. ⌜ r ≡ withDigit word digit ⌝ }
 {
     (((word as u64) * 10 + (digit as u64) % 16) % 4294967296) as u32
 }

@@ -19,7 +19,7 @@ use compare::Stage;
 use definitions::Entry;
 use level::Listed;
 use rows::Row;
-use rows::Words;
+use rows::Rows;
 use seek::Scope;
 
 // Generators i < j commute: the intertwiner of generator j carries generator i from d to e, of the same degree, at column c; where
@@ -80,7 +80,7 @@ fn carries(words: &[u32], s: Scope, d: Listed, e: Listed, i: u32, j: u32, w: &Ro
 pub fn carries_all(
     words: &[u32],
     firsts: &[u32],
-    rows: &Words,
+    rows: &Rows,
     reach: &Reaches,
     s: Scope,
     g: Stage,

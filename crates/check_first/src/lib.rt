@@ -17,7 +17,7 @@ ghost use Rattle.check_heads.specs.Places.{Scoped};
 ghost use Rattle.check_first.specs.First.{wordOn, exponentOf, Allowed, Takes, LineOne, LedTo};
 ghost use Rattle.check_first.specs.First.{Parted, CharacterPlaced, SlotsMarked, RootImages, TakesCharacter, Characters, FirstLevel};
 use conditions::size::Orders;
-use rows::Words;
+use rows::Rows;
 use seek::Scope;
 
 // No order is larger.
@@ -92,7 +92,7 @@ fn line_is(words: &[u32], at: usize, k: usize, g: u32) -> bool
 }
 
 // The exponent of generator 0 in its conjugate by generator j, and 0 where it is above every order.
-fn conjugate(rows: &Words, j: u32) -> u32
+fn conjugate(rows: &Rows, j: u32) -> u32
     requires { ⌜ (0 < j) × (j < maxGenerators) ⌝ }
     ensures { λ a. ⌜ (a ≤ maxOrder) × (¬ (a ≡ 0) → a ≡ suc (wordOn (now (rows .entry)) j)) ⌝ }
 {
@@ -123,7 +123,7 @@ fn led_to(words: &[u32], at: usize, n: usize, p: usize, a: u32, e: u32, m: u32) 
 // ---- Representations
 
 // The lines of the generators above generator 0, which has the exponent e in representation k.
-fn images_ok(words: &[u32], rows: &Words, s: Scope, p: usize, k: usize, e: u32) -> bool
+fn images_ok(words: &[u32], rows: &Rows, s: Scope, p: usize, k: usize, e: u32) -> bool
     requires { ⌜ CharacterPlaced s (now words) p k × (e ≡ exponentOf (s .gens) (now words) k) × (e < s .m) ⌝ }
     ensures { λ r. ⌜ (r ≡ true → RootImages s (now (words .entry)) (now (rows .entry)) p k) ⌝ }
 {
@@ -153,7 +153,7 @@ fn images_ok(words: &[u32], rows: &Words, s: Scope, p: usize, k: usize, e: u32) 
 }
 
 // The lines of representation k; its exponent of generator 0 is free, and is taken.
-fn character(words: &[u32], rows: &Words, s: Scope, p: usize, k: usize, free: &mut [u8]) -> bool
+fn character(words: &[u32], rows: &Rows, s: Scope, p: usize, k: usize, free: &mut [u8]) -> bool
     requires { ⌜ SlotsMarked s (now words) p (now free) × (k < p) ⌝ }
     ensures { λ r. ⌜ (r ≡ true → TakesCharacter s (now (words .entry)) (now (rows .entry)) p k (now (free .entry)) (now (free .exit))) ⌝ }
 {
@@ -175,7 +175,7 @@ fn character(words: &[u32], rows: &Words, s: Scope, p: usize, k: usize, free: &m
 }
 
 // The first p representations are right, with exponents modulo m = p * part.
-fn all_characters(words: &[u32], rows: &Words, s: Scope, p: usize, part: usize) -> bool
+fn all_characters(words: &[u32], rows: &Rows, s: Scope, p: usize, part: usize) -> bool
     requires { ⌜ Parted s (now words) p part ⌝ }
     ensures { λ r. ⌜ (r ≡ true → Characters s (now (words .entry)) (now (rows .entry)) p) ⌝ }
 {
@@ -190,7 +190,7 @@ fn all_characters(words: &[u32], rows: &Words, s: Scope, p: usize, part: usize) 
 }
 
 // The first p representations are those of a right level 1, where p is the prime of generator 0.
-fn characters(words: &[u32], rows: &Words, s: Scope, p: u32) -> bool
+fn characters(words: &[u32], rows: &Rows, s: Scope, p: u32) -> bool
     requires { ⌜ Scoped s (now words) × (0 < s .m) ⌝ }
     ensures { λ r. ⌜ (r ≡ true → Characters s (now (words .entry)) (now (rows .entry)) p) ⌝ }
 {
@@ -212,7 +212,7 @@ fn characters(words: &[u32], rows: &Words, s: Scope, p: u32) -> bool
 }
 
 // The table is complete with possible degrees, and its level 1 is right, where p is the prime of generator 0.
-pub fn level_one(words: &[u32], rows: &Words, orders: &Orders, s: Scope, p: u32) -> bool
+pub fn level_one(words: &[u32], rows: &Rows, orders: &Orders, s: Scope, p: u32) -> bool
     requires { ⌜ Scoped s (now words) × (0 < s .m) ⌝ }
     ensures { λ r. ⌜ (r ≡ true → FirstLevel s (now (words .entry)) (now (rows .entry)) (now (orders .entry)) p) ⌝ }
 {

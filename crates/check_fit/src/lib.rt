@@ -15,7 +15,7 @@ ghost use Rattle.check_fit.specs.Fit.{CharacterLines, Started, LevelOne,
 use compare::Stage;
 use conditions::size::Orders;
 use rows::Row;
-use rows::Words;
+use rows::Rows;
 use seek::Scope;
 
 // The lines that are compared at most: every table that passes has fewer.
@@ -24,7 +24,7 @@ const MAX_LINES: usize = 16777216;
 // How many of the first levels fit, where level 1 does and its first lines stand at the start of the list.
 fn upper_levels_fit(
     words: &[u32],
-    rows: &Words,
+    rows: &Rows,
     primes: &Row,
     orders: &Orders,
     s: Scope,
@@ -78,7 +78,7 @@ fn character_lines(firsts: &mut [u32], many: usize, n: u32)
 // How many of the first levels fit, with a list for the first lines of all representations, where level 1 does.
 fn levels_fit(
     words: &[u32],
-    rows: &Words,
+    rows: &Rows,
     primes: &Row,
     orders: &Orders,
     s: Scope,
@@ -97,7 +97,7 @@ fn levels_fit(
 
 // How many of the first levels fit, with a list for 128 representations, which suffice for orders up to 64: the order of a level is
 // at least twice that of the level below.
-fn small_fits(words: &[u32], rows: &Words, primes: &Row, orders: &Orders, s: Scope) -> u32
+fn small_fits(words: &[u32], rows: &Rows, primes: &Row, orders: &Orders, s: Scope) -> u32
     requires { ⌜ Started s (now words) (now rows) (now primes) (now orders) ⌝ }
     ensures { λ k. ⌜ FitUpTo s (now (words .entry)) (now (rows .entry)) (now (primes .entry)) (now (orders .entry)) k ⌝ }
 {
@@ -106,7 +106,7 @@ fn small_fits(words: &[u32], rows: &Words, primes: &Row, orders: &Orders, s: Sco
 }
 
 // How many of the first levels fit, with a list for 8192 representations.
-fn large_fits(words: &[u32], rows: &Words, primes: &Row, orders: &Orders, s: Scope) -> u32
+fn large_fits(words: &[u32], rows: &Rows, primes: &Row, orders: &Orders, s: Scope) -> u32
     requires { ⌜ Started s (now words) (now rows) (now primes) (now orders) ⌝ }
     ensures { λ k. ⌜ FitUpTo s (now (words .entry)) (now (rows .entry)) (now (primes .entry)) (now (orders .entry)) k ⌝ }
 {
@@ -116,7 +116,7 @@ fn large_fits(words: &[u32], rows: &Words, primes: &Row, orders: &Orders, s: Sco
 
 // How many of the first levels of a table fit, each on the level below, with exponents modulo the order: these levels pass, and
 // where there are any the heads of all lines are in order.
-pub fn fitting_levels(words: &[u32], rows: &Words, primes: &Row, orders: &Orders, s: Scope) -> u32
+pub fn fitting_levels(words: &[u32], rows: &Rows, primes: &Row, orders: &Orders, s: Scope) -> u32
     requires { ⌜ Scoped s (now words) × (0 < s .m) × (s .m ≤ maxModulus) ⌝ }
     ensures { λ k. ⌜ FittingLevels s (now (rows .entry)) (now (primes .entry)) (now (orders .entry)) (now (words .entry)) k ⌝ }
 {

@@ -17,7 +17,7 @@ ghost use Rattle.check_level.specs.Lines.{FirstLines};
 ghost use Rattle.check_level.specs.Level.{Compares, Relates, LevelFits};
 use commuting::Reaches;
 use compare::Stage;
-use rows::Words;
+use rows::Rows;
 use seek::Scope;
 
 // Writes the first lines of the representations of level i into a list, from place `at` on, and returns how many there are; 0 where
@@ -63,7 +63,7 @@ pub fn first_lines(
 fn level_compares(
     words: &[u32],
     firsts: &[u32],
-    rows: &Words,
+    rows: &Rows,
     s: Scope,
     g: Stage,
     marks: &mut [u8],
@@ -93,7 +93,7 @@ fn level_compares(
 }
 
 // Compares the level with marks for 64 representations and slots, which suffice for orders up to 64.
-fn small_compares(words: &[u32], firsts: &[u32], rows: &Words, s: Scope, g: Stage) -> bool
+fn small_compares(words: &[u32], firsts: &[u32], rows: &Rows, s: Scope, g: Stage) -> bool
     requires { ⌜ Staged s (now words) (now firsts) g ⌝ }
     ensures { λ r. ⌜ (r ≡ true → Compares s (now (words .entry)) (now (rows .entry)) g) ⌝ }
 {
@@ -103,7 +103,7 @@ fn small_compares(words: &[u32], firsts: &[u32], rows: &Words, s: Scope, g: Stag
 }
 
 // Compares the level with marks for 4096.
-fn large_compares(words: &[u32], firsts: &[u32], rows: &Words, s: Scope, g: Stage) -> bool
+fn large_compares(words: &[u32], firsts: &[u32], rows: &Rows, s: Scope, g: Stage) -> bool
     requires { ⌜ Staged s (now words) (now firsts) g ⌝ }
     ensures { λ r. ⌜ (r ≡ true → Compares s (now (words .entry)) (now (rows .entry)) g) ⌝ }
 {
@@ -113,7 +113,7 @@ fn large_compares(words: &[u32], firsts: &[u32], rows: &Words, s: Scope, g: Stag
 }
 
 // Compares the level with as many marks as the order wants.
-fn compares(words: &[u32], firsts: &[u32], rows: &Words, s: Scope, g: Stage) -> bool
+fn compares(words: &[u32], firsts: &[u32], rows: &Rows, s: Scope, g: Stage) -> bool
     requires { ⌜ Staged s (now words) (now firsts) g ⌝ }
     ensures { λ r. ⌜ (r ≡ true → Compares s (now (words .entry)) (now (rows .entry)) g) ⌝ }
 {
@@ -127,7 +127,7 @@ fn compares(words: &[u32], firsts: &[u32], rows: &Words, s: Scope, g: Stage) -> 
 fn level_relates(
     words: &[u32],
     firsts: &[u32],
-    rows: &Words,
+    rows: &Rows,
     reach: &Reaches,
     s: Scope,
     g: Stage,
@@ -154,7 +154,7 @@ fn level_relates(
 pub fn level_fits(
     words: &[u32],
     firsts: &[u32],
-    rows: &Words,
+    rows: &Rows,
     reach: &Reaches,
     s: Scope,
     g: Stage,

@@ -11,7 +11,7 @@ ghost use Rattle.seek.specs.Among.{Among};
 ghost use Rattle.check_relations.specs.Asked.{asked, OfRep, OnLevel, Everywhere};
 use level::Listed;
 use rows::Row;
-use rows::Words;
+use rows::Rows;
 use seek::Scope;
 
 // What is asked of each representation.
@@ -27,7 +27,7 @@ enum Condition {
 // The condition holds of d, of level i.
 fn holds(
     words: &[u32],
-    rows: &Words,
+    rows: &Rows,
     primes: &Row,
     s: Scope,
     q: Condition,
@@ -45,7 +45,7 @@ fn holds(
 }
 
 // It holds of every representation of level i.
-fn holds_on(words: &[u32], rows: &Words, primes: &Row, s: Scope, q: Condition, i: u32) -> bool
+fn holds_on(words: &[u32], rows: &Rows, primes: &Row, s: Scope, q: Condition, i: u32) -> bool
     requires { ⌜ ((P : Presentation) × Posed P s (now rows) (now primes) (now words)) × (0 < i) × (i ≤ s .gens) ⌝ }
     ensures { λ r. ⌜ OnLevel (asked q) s (now (rows .entry)) (now (primes .entry)) (now (words .entry)) i r ⌝ }
 {
@@ -67,7 +67,7 @@ fn holds_on(words: &[u32], rows: &Words, primes: &Row, s: Scope, q: Condition, i
 // It holds of every representation of every level, where it does on the first `from` levels.
 fn holds_everywhere(
     words: &[u32],
-    rows: &Words,
+    rows: &Rows,
     primes: &Row,
     s: Scope,
     q: Condition,
@@ -87,7 +87,7 @@ fn holds_everywhere(
 
 // Whether the relations of the generator on top of each level hold, where they do on the first `from` levels: refusal 22 where 23
 // does not apply.
-pub fn top_relations_hold(words: &[u32], rows: &Words, primes: &Row, s: Scope, from: u32) -> bool
+pub fn top_relations_hold(words: &[u32], rows: &Rows, primes: &Row, s: Scope, from: u32) -> bool
     requires { ⌜ ((P : Presentation) × Posed P s (now rows) (now primes) (now words)) ⌝ }
     ensures { λ r. ⌜ Everywhere topRelations s (now (rows .entry)) (now (primes .entry)) (now (words .entry)) from r ⌝ }
 {
@@ -95,7 +95,7 @@ pub fn top_relations_hold(words: &[u32], rows: &Words, primes: &Row, s: Scope, f
 }
 
 // Whether all relations hold on every level, where they do on the first `from` levels: refusal 22.
-pub fn relations_hold(words: &[u32], rows: &Words, primes: &Row, s: Scope, from: u32) -> bool
+pub fn relations_hold(words: &[u32], rows: &Rows, primes: &Row, s: Scope, from: u32) -> bool
     requires { ⌜ ((P : Presentation) × Posed P s (now rows) (now primes) (now words)) ⌝ }
     ensures { λ r. ⌜ Everywhere relationsHold s (now (rows .entry)) (now (primes .entry)) (now (words .entry)) from r ⌝ }
 {
@@ -103,7 +103,7 @@ pub fn relations_hold(words: &[u32], rows: &Words, primes: &Row, s: Scope, from:
 }
 
 // Whether every intertwiner intertwines, where those of the first `from` levels do: refusal 24.
-pub fn intertwiners_hold(words: &[u32], rows: &Words, primes: &Row, s: Scope, from: u32) -> bool
+pub fn intertwiners_hold(words: &[u32], rows: &Rows, primes: &Row, s: Scope, from: u32) -> bool
     requires { ⌜ ((P : Presentation) × Posed P s (now rows) (now primes) (now words)) ⌝ }
     ensures { λ r. ⌜ Everywhere intertwinersHold s (now (rows .entry)) (now (primes .entry)) (now (words .entry)) from r ⌝ }
 {

@@ -20,7 +20,7 @@ ghost use Rattle.check_single.specs.Power.{PowerHolds};
 use compare::Stage;
 use level::Listed;
 use rows::Row;
-use rows::Words;
+use rows::Rows;
 use seek::Scope;
 
 // No exponent of a word of a right presentation is larger.
@@ -165,14 +165,7 @@ fn single_power(words: &[u32], d: Listed, j: u32, p: u32, y: usize, m: u32) -> b
 }
 
 // d, of the level, fits on the level below, and the power relation of the generator on top holds in its column 0.
-pub fn rep_passes(
-    words: &[u32],
-    firsts: &[u32],
-    rows: &Words,
-    s: Scope,
-    g: Stage,
-    d: Listed,
-) -> bool
+pub fn rep_passes(words: &[u32], firsts: &[u32], rows: &Rows, s: Scope, g: Stage, d: Listed) -> bool
     requires { ⌜ Staged s (now words) (now firsts) g × ((r : ℕ) × Found (s .gens) (now words) (suc (g .top)) r d) ⌝ }
     ensures { λ r. ⌜ (r ≡ true → RepFits s (now (words .entry)) g d × PowerHolds s (now (words .entry)) (now (rows .entry)) g d) ⌝ }
 {

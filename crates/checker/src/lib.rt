@@ -7,13 +7,13 @@
 ghost use Rattle.checker.specs.Judged.{SomeTask, Judged, SomeSorted, JudgedFormed};
 use conditions::size::Orders;
 use rows::Row;
-use rows::Words;
+use rows::Rows;
 use seek::Scope;
 
 // The first of 22 to 26 that applies to a table to which 21 does not and whose first `from` levels pass, or 0.
 fn judge_formed(
     words: &[u32],
-    rows: &Words,
+    rows: &Rows,
     primes: &Row,
     orders: &Orders,
     s: Scope,
@@ -44,7 +44,7 @@ fn judge_formed(
 }
 
 // The first of 21 to 26 that applies to the words as a table of a presentation of n generators with exponents modulo m, or 0.
-pub fn judge(words: &[u32], rows: &Words, primes: &Row, n: u32, m: u32) -> u32
+pub fn judge(words: &[u32], rows: &Rows, primes: &Row, n: u32, m: u32) -> u32
     requires { ⌜ SomeTask n m (now rows) (now primes) ⌝ }
     ensures { λ a. ⌜ Judged n m (now (rows .entry)) (now (primes .entry)) (now (words .entry)) a ⌝ }
 {

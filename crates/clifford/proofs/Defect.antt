@@ -20,7 +20,7 @@ use Rattle.monomial.specs.Exponents.{Exponents, times}
 use Rattle.monomial.specs.Maps.{Map, maps, Inverse}
 use Rattle.monomial.specs.Families.{Family, Alike}
 use Rattle.monomial.proofs.Exponents.{idr, lcomm, cancel}
-use Rattle.monomial.proofs.Maps.{pair, column, at-mul, at-one, mul-at, maps-laws, power-fixes}
+use Rattle.monomial.proofs.Maps.{pair, at-column, at-mul, at-one, mul-at, maps-laws, power-fixes}
 use Rattle.monomial.proofs.Schur.{commuting-fixes, power-commutes, intertwiner-inverse, ratio, ratio-eq, ratio-const, rep-power}
 use Rattle.clifford.specs.Extension.{Extension}
 
@@ -91,7 +91,7 @@ module _ {G G⁺ : Type 0} {𝓖 : Mul G} {𝓖⁺ : Mul G⁺} {conj : ℕ → G
   defect-step a =
       cancel 𝓔 (add ((d u ((X i a) .0)) .1) ((X i a) .1)) _ _
       (𝓔 .comm _ _ ∙ sym (𝓔 .assoc _ _ _)
-      ∙ ap (λ s. s .1) (sym one-way ∙ column 𝓔 (sym (power-past (maps-laws 𝓔) (X i) (X i) (X i) refl p)) a ∙ other-way)
+      ∙ ap (λ s. s .1) (sym one-way ∙ at-column 𝓔 (sym (power-past (maps-laws 𝓔) (X i) (X i) (X i) refl p)) a ∙ other-way)
       ∙ lcomm 𝓔 _ _ _ ∙ ap (add (defect a)) (ap (λ s. s .1) u-X) ∙ 𝓔 .comm _ _)
     where
       one-way : (pow (X i) p * X i) a ≡ ((d u ((X i a) .0)) .0, add (add (defect ((X i a) .0)) ((d u ((X i a) .0)) .1)) ((X i a) .1))
@@ -101,11 +101,11 @@ module _ {G G⁺ : Type 0} {𝓖 : Mul G} {𝓖⁺ : Mul G⁺} {conj : ℕ → G
       other-way = mul-at 𝓔 (X i) (pow (X i) p) a _ _ (defect-eq a)
 
       u-X : _≡_ {A = Ω × E} ((X i ((d u a) .0)) .0, add ((X i ((d u a) .0)) .1) ((d u a) .1)) ((d u ((X i a) .0)) .0, add ((d u ((X i a) .0)) .1) ((X i a) .1))
-      u-X = sym (at-mul 𝓔 (X i) (d u) a) ∙ column 𝓔 (ap (λ s. X i * d s) (sym (S .conj-u)) ∙ X-past u) a ∙ at-mul 𝓔 (d u) (X i) a
+      u-X = sym (at-mul 𝓔 (X i) (d u) a) ∙ at-column 𝓔 (ap (λ s. X i * d s) (sym (S .conj-u)) ∙ X-past u) a ∙ at-mul 𝓔 (d u) (X i) a
 
   pub defect-power : (k : ℕ) (a : Ω) → defect ((pow (X i) k a) .0) ≡ defect a
-  defect-power zero a = ap (λ z. defect (z .0)) (column 𝓔 (power-zero (maps 𝓔 Ω) (X i)) a ∙ at-one 𝓔 a)
-  defect-power (suc k) a = ap (λ z. defect (z .0)) (column 𝓔 (power-suc (maps 𝓔 Ω) (X i) k) a ∙ at-mul 𝓔 (X i) (pow (X i) k) a) ∙ defect-step _
+  defect-power zero a = ap (λ z. defect (z .0)) (at-column 𝓔 (power-zero (maps 𝓔 Ω) (X i)) a ∙ at-one 𝓔 a)
+  defect-power (suc k) a = ap (λ z. defect (z .0)) (at-column 𝓔 (power-suc (maps 𝓔 Ω) (X i) k) a ∙ at-mul 𝓔 (X i) (pow (X i) k) a) ∙ defect-step _
       ∙ defect-power k a
 
   pub last-block : (k : ℕ) → suc k ≡ p → (a : Ω)
@@ -114,7 +114,7 @@ module _ {G G⁺ : Type 0} {𝓖 : Mul G} {𝓖⁺ : Mul G⁺} {conj : ℕ → G
   last-block k e a = (ap (λ z. z .0) line, ap₂ (λ x s. add x (neg s)) refl (defect-power k a) ∙ across _ _ _ _ (ap (λ z. z .1) line))
     where
       line : _≡_ {A = Ω × E} ((X i ((pow (X i) k a) .0)) .0, add ((X i ((pow (X i) k a) .0)) .1) ((pow (X i) k a) .1)) ((d u a) .0, add (defect a) ((d u a) .1))
-      line = sym (at-mul 𝓔 (X i) (pow (X i) k) a) ∙ column 𝓔 (sym (power-suc (maps 𝓔 Ω) (X i) k) ∙ ap (pow (X i)) e) a ∙ defect-eq a
+      line = sym (at-mul 𝓔 (X i) (pow (X i) k) a) ∙ at-column 𝓔 (sym (power-suc (maps 𝓔 Ω) (X i) k) ∙ ap (pow (X i)) e) a ∙ defect-eq a
 
       turn : (x b t m : E) → add (add b t) (add x m) ≡ add (add x b) (add t m)
       turn x b t m = simp (𝓔 .assoc, 𝓔 .comm, lcomm 𝓔)
@@ -150,17 +150,17 @@ module _ {G G⁺ : Type 0} {𝓖 : Mul G} {𝓖⁺ : Mul G⁺} {conj : ℕ → G
   -- (X D(h))^p = defect · D(u twisted)
   twisted-whole : (h : G) (a : Ω) → pow (X i * d h) p a ≡ ((d (u ⋆ twisted h p) a) .0, add (defect a) ((d (u ⋆ twisted h p) a) .1))
   twisted-whole h a =
-      column 𝓔 (twisted-power h p) a ∙ at-mul 𝓔 (pow (X i) p) (d (twisted h p)) a
+      at-column 𝓔 (twisted-power h p) a ∙ at-mul 𝓔 (pow (X i) p) (d (twisted h p)) a
       ∙ ap (λ s. (s .0, add (s .1) ((d (twisted h p) a) .1))) (defect-eq ((d (twisted h p) a) .0))
       ∙ pair 𝓔 refl (𝓔 .assoc _ _ _ ∙ ap₂ add (defect-const _ a (F .inside (twisted h p) a)) refl)
-      ∙ ap (λ s. (s .0, add (defect a) (s .1))) (sym (at-mul 𝓔 (d u) (d (twisted h p)) a) ∙ column 𝓔 (sym (F .hom .on-mul _ _)) a)
+      ∙ ap (λ s. (s .0, add (defect a) (s .1))) (sym (at-mul 𝓔 (d u) (d (twisted h p)) a) ∙ at-column 𝓔 (sym (F .hom .on-mul _ _)) a)
 
   pub root : (a : Ω) → τ (rep a) ≡ rep a → (x : E) × (z : E) × (add (defect a) x ≡ times 𝓔 p z) × (times 𝓔 (S .order) x ≡ nil)
   root a fx =
       let (w, e) = F .reached ((X i a) .0) a (X-maps a ∙ fx) in
       let h : G = f w in
       let z : E = add ((d w ((X i a) .0)) .1) ((X i a) .1) in
-      let fixes : (X i * d h) a ≡ (a, z) = column 𝓔 (X-past w) a ∙ at-mul 𝓔 (d w) (X i) a ∙ pair 𝓔 e refl in
+      let fixes : (X i * d h) a ≡ (a, z) = at-column 𝓔 (X-past w) a ∙ at-mul 𝓔 (d w) (X i) a ∙ pair 𝓔 e refl in
       let y : G = u ⋆ twisted h p in
       let line : _≡_ {A = Ω × E} ((d y a) .0, add (defect a) ((d y a) .1)) (a, times 𝓔 p z) = sym (twisted-whole h a) ∙ power-fixes 𝓔 (X i * d h) a z fixes p in
       let stays : d y a ≡ (a, (d y a) .1) = pair 𝓔 (ap (λ s. s .0) line) refl in (
@@ -168,5 +168,5 @@ module _ {G G⁺ : Type 0} {𝓖 : Mul G} {𝓖⁺ : Mul G⁺} {conj : ℕ → G
         z,
         ap (λ s. s .1) line,
         ap (λ s. s .1) (sym (power-fixes 𝓔 (d y) a _ stays (S .order))
-            ∙ column 𝓔 (sym (power-hom (F .hom) y (S .order)) ∙ ap d (S .order-one y) ∙ F .hom .on-one) a ∙ at-one 𝓔 a),
+            ∙ at-column 𝓔 (sym (power-hom (F .hom) y (S .order)) ∙ ap d (S .order-one y) ∙ F .hom .on-one) a ∙ at-one 𝓔 a),
       )

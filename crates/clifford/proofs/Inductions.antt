@@ -36,7 +36,7 @@ use Rattle.monomial.specs.Exponents.{Exponents, Residue}
 use Rattle.monomial.specs.Maps.{Map, maps, Inverse}
 use Rattle.monomial.specs.Frames.{Layout, Shows}
 use Rattle.monomial.proofs.Exponents.{idr, neg-of}
-use Rattle.monomial.proofs.Maps.{pair, column as at-column, at-mul, at-one, maps-laws, inverse-power}
+use Rattle.monomial.proofs.Maps.{pair, at-column, at-mul, at-one, maps-laws, inverse-power}
 use Rattle.monomial.proofs.Residues.{residues}
 use Rattle.monomial.proofs.Frames.{col-map, entry-path, shows-one, shows-mul, shows-map, shows-on, shows-inverse}
 use Rattle.monomial.proofs.Schur.{rep-power}

@@ -28,7 +28,7 @@ use Rattle.group.proofs.Conjugation.{conj-period}
 use Rattle.monomial.specs.Maps.{Map, maps, Inverse}
 use Rattle.monomial.specs.Families.{Family}
 use Rattle.monomial.specs.Frames.{Layout, Shows}
-use Rattle.monomial.proofs.Maps.{at-mul, at-one, column as at-column}
+use Rattle.monomial.proofs.Maps.{at-mul, at-one, at-column}
 use Rattle.monomial.proofs.Residues.{residues}
 use Rattle.monomial.proofs.Frames.{shows-mul, shows-power, shows-value, shows-map, same-shown, shows-valid}
 use Rattle.monomial.proofs.Schur.{intertwiner-inverse, power-commutes, commuting-fixes, rep-power}

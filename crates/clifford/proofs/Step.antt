@@ -19,7 +19,7 @@ use Rattle.monomial.specs.Maps.{Map, compose, maps, diagonal}
 use Rattle.monomial.specs.Families.{Separated, Family}
 use Rattle.monomial.specs.Over.{At, Over}
 use Rattle.monomial.proofs.Exponents.{idr, lcomm, rcomm, cancel, total-zero, total-add, times-nil, times-swap}
-use Rattle.monomial.proofs.Maps.{pair, column, at-mul, mul-at, maps-laws, power-diagonal}
+use Rattle.monomial.proofs.Maps.{pair, at-column, at-mul, mul-at, maps-laws, power-diagonal}
 use Rattle.monomial.proofs.Over.{over-one, over-mul, over-same}
 use Rattle.monomial.proofs.Schur.{rep-power}
 use Rattle.clifford.specs.Extension.{Extension}
@@ -84,10 +84,10 @@ module _ {G G⁺ : Type 0} {𝓖 : Mul G} {𝓖⁺ : Mul G⁺} {conj : ℕ → G
         → φ S F (numbered κ) j ij jn a ≡ ((φ S F 𝓢 j ij jn a) .0, add (times 𝓔 (shift j) (ε^ κ)) ((φ S F 𝓢 j ij jn a) .1))
     φ-numbered j ij jn κ a =
         let v : Ω × E = d (tail j) a in
-        column 𝓔 (φ-is S F (numbered κ) j ij jn) a ∙ at-mul 𝓔 _ (d (tail j)) a
+        at-column 𝓔 (φ-is S F (numbered κ) j ij jn) a ∙ at-mul 𝓔 _ (d (tail j)) a
         ∙ ap (λ s. (s .0, add (s .1) (v .1))) (power-numbered κ (shift j) (v .0)) ∙ pair 𝓔 refl (𝓔 .assoc _ _ _)
         ∙ ap (λ s. (s .0, add (times 𝓔 (shift j) (ε^ κ)) (s .1)))
-        (sym (at-mul 𝓔 (pow (Y S F 𝓢) (shift j)) (d (tail j)) a) ∙ column 𝓔 (sym (φ-is S F 𝓢 j ij jn)) a)
+        (sym (at-mul 𝓔 (pow (Y S F 𝓢) (shift j)) (d (tail j)) a) ∙ at-column 𝓔 (sym (φ-is S F 𝓢 j ij jn)) a)
 
     -- ---- The next level
 
@@ -139,7 +139,7 @@ module _ {G G⁺ : Type 0} {𝓖 : Mul G} {𝓖⁺ : Mul G⁺} {conj : ℕ → G
         over-top : (x : Ω′) → at (d′ top x) ((X i (base x)) .0) (number x) (add ((X i (base x)) .1) (add (σ (rep (base x))) (ε^ (number x))))
         over-top x =
             subst (λ (z : Ω × E). at (d′ top x) (z .0) (number x) (z .1))
-            (column 𝓔 (raised-top S F (numbered (number x))) (base x) ∙ Y-numbered-at (number x) (base x)) (N .over top x)
+            (at-column 𝓔 (raised-top S F (numbered (number x))) (base x) ∙ Y-numbered-at (number x) (base x)) (N .over top x)
 
         -- ---- Intertwiners
 
@@ -159,7 +159,7 @@ module _ {G G⁺ : Type 0} {𝓖 : Mul G} {𝓖⁺ : Mul G⁺} {conj : ℕ → G
 
               two : (a : Ω) → _≡_ {A = Ω × E} ((X j ((B a) .0)) .0, add ((X j ((B a) .0)) .1) ((B a) .1))
                   ((d h ((X j a) .0)) .0, add ((d h ((X j a) .0)) .1) ((X j a) .1))
-              two a = sym (at-mul 𝓔 (X j) B a) ∙ column 𝓔 (F .past j (omega arith) jn h) a ∙ at-mul 𝓔 (d h) (X j) a
+              two a = sym (at-mul 𝓔 (X j) B a) ∙ at-column 𝓔 (F .past j (omega arith) jn h) a ∙ at-mul 𝓔 (d h) (X j) a
 
               point : (x : Ω′) → _≡_ {A = Ω′ × E} ((X′ j ((B′ x) .0)) .0, add ((X′ j ((B′ x) .0)) .1) ((B′ x) .1))
                   ((d′ (low h) ((X′ j x) .0)) .0, add ((d′ (low h) ((X′ j x) .0)) .1) ((X′ j x) .1))
@@ -266,15 +266,15 @@ module _ {G G⁺ : Type 0} {𝓖 : Mul G} {𝓖⁺ : Mul G⁺} {conj : ℕ → G
             let v : G⁺ = 𝓖⁺ .mul (low w) (power 𝓖⁺ top m) in
             let line : raised S F 𝓨 v ≡ d w * Z = raised-hom S F 𝓨 .on-mul _ _
             ∙ ap₂ (_*_) (raised-low S F 𝓨 w) (power-hom (raised-hom S F 𝓨) top m ∙ ap (λ s. pow s m) (raised-top S F 𝓨)) in
-            (v, ap (λ s. s .0) (to v x y _ (column 𝓔 line (base x) ∙ at-mul 𝓔 (d w) Z (base x) ∙ pair 𝓔 e refl) k))
+            (v, ap (λ s. s .0) (to v x y _ (at-column 𝓔 line (base x) ∙ at-mul 𝓔 (d w) Z (base x) ∙ pair 𝓔 e refl) k))
 
         separated-low : (x y : Ω′) → Separated 𝓔 Ω d (base x) (base y) → Separated 𝓔 Ω′ d′ x y
         separated-low x y h = record {
           by = low (h .by);
           x = h .x;
           y = h .y;
-          fixes = to (low (h .by)) x x (h .x) (column 𝓔 (raised-low S F (numbered (number x)) (h .by)) (base x) ∙ h .fixes) refl;
-          fixes′ = to (low (h .by)) y y (h .y) (column 𝓔 (raised-low S F (numbered (number y)) (h .by)) (base y) ∙ h .fixes′) refl;
+          fixes = to (low (h .by)) x x (h .x) (at-column 𝓔 (raised-low S F (numbered (number x)) (h .by)) (base x) ∙ h .fixes) refl;
+          fixes′ = to (low (h .by)) y y (h .y) (at-column 𝓔 (raised-low S F (numbered (number y)) (h .by)) (base y) ∙ h .fixes′) refl;
           differ = h .differ;
         }
 
@@ -299,7 +299,7 @@ module _ {G G⁺ : Type 0} {𝓖 : Mul G} {𝓖⁺ : Mul G⁺} {conj : ℕ → G
             line : (κ : ℕ) (w : G) (a : Ω) → (d w ((X i a) .0)) .0 ≡ a
                 → raised S F (numbered κ) (𝓖⁺ .mul (low w) top) a ≡ (a, add (add ((d w ((X i a) .0)) .1) (add ((X i a) .1) (σ (rep a)))) (ε^ κ))
             line κ w a e =
-                column 𝓔 (raised-hom S F (numbered κ) .on-mul _ _ ∙ ap₂ (_*_) (raised-low S F (numbered κ) w) (raised-top S F (numbered κ))) a
+                at-column 𝓔 (raised-hom S F (numbered κ) .on-mul _ _ ∙ ap₂ (_*_) (raised-low S F (numbered κ) w) (raised-top S F (numbered κ))) a
                 ∙ mul-at 𝓔 (d w) (Y S F (numbered κ)) a _ _ (Y-numbered-at κ a) ∙ pair 𝓔 e (group₃ _ _ _ _)
 
         pub separated′ : (x y : Ω′) → ¬ (x ≡ y) → Separated 𝓔 Ω′ d′ x y

@@ -20,7 +20,7 @@ use Rattle.monomial.specs.Exponents.{Exponents, total}
 use Rattle.monomial.specs.Maps.{Map, compose, maps, diagonal}
 use Rattle.monomial.specs.Families.{Family, Alike}
 use Rattle.monomial.proofs.Exponents.{idr, lcomm, cancel, total-zero, total-suc, total-ext}
-use Rattle.monomial.proofs.Maps.{pair, column, at-mul, maps-laws, inverse-mul, power-diagonal}
+use Rattle.monomial.proofs.Maps.{pair, at-column, at-mul, maps-laws, inverse-mul, power-diagonal}
 use Rattle.monomial.proofs.Schur.{intertwiner-inverse, ratio, ratio-eq, ratio-const, rep-power, scalar-commutes}
 use Rattle.clifford.specs.Extension.{Extension}
 use Rattle.clifford.proofs.Defect.{defect, defect-eq, X-inverse, X-past, X-maps, target-period}
@@ -131,7 +131,7 @@ module _ {G G⁺ : Type 0} {𝓖 : Mul G} {𝓖⁺ : Mul G⁺} {conj : ℕ → G
 
       pub φ-maps : (a : Ω) → rep ((φ a) .0) ≡ iter τ (shift j) (rep a)
       φ-maps a =
-          ap (λ s. rep (s .0)) (column 𝓔 φ-is a ∙ at-mul 𝓔 (pow Y (shift j)) (d (tail j)) a)
+          ap (λ s. rep (s .0)) (at-column 𝓔 φ-is a ∙ at-mul 𝓔 (pow Y (shift j)) (d (tail j)) a)
           ∙ rep-power F τ Y Y-maps (shift j) _ ∙ ap (iter τ (shift j)) (F .inside (tail j) a)
 
       abbrev Xj-past : (x : G) → X j * d (conj j x) ≡ d x * X j
@@ -167,18 +167,18 @@ module _ {G G⁺ : Type 0} {𝓖 : Mul G} {𝓖⁺ : Mul G⁺} {conj : ℕ → G
 
       along : (k : ℕ) (a : Ω) → (X j * pow φ k) a ≡ (((pow Y k * X j) a) .0, add (total 𝓔 (λ l. q ((pow φ l a) .0)) k) (((pow Y k * X j) a) .1))
       along zero a =
-          column 𝓔 (ap (λ f. X j * f) (power-zero (maps 𝓔 Ω) φ) ∙ idrM (X j)) a ∙ pair 𝓔 refl (sym (ap₂ add (total-zero 𝓔 _) refl ∙ 𝓔 .idl _))
+          at-column 𝓔 (ap (λ f. X j * f) (power-zero (maps 𝓔 Ω) φ) ∙ idrM (X j)) a ∙ pair 𝓔 refl (sym (ap₂ add (total-zero 𝓔 _) refl ∙ 𝓔 .idl _))
           ∙ ap (λ f. ((f a) .0, add (total 𝓔 (λ l. q ((pow φ l a) .0)) 0) ((f a) .1))) (sym (ap (λ f. f * X j) (power-zero (maps 𝓔 Ω) Y) ∙ idl (X j)))
       along (suc k) a =
           let b : Ω = (pow φ k a) .0 in
           let y : E = (pow φ k a) .1 in
-          column 𝓔 (ap (λ f. X j * f) (power-suc (maps 𝓔 Ω) φ k) ∙ sym (assoc _ _ _)) a ∙ at-mul 𝓔 (X j * φ) (pow φ k) a
+          at-column 𝓔 (ap (λ f. X j * f) (power-suc (maps 𝓔 Ω) φ k) ∙ sym (assoc _ _ _)) a ∙ at-mul 𝓔 (X j * φ) (pow φ k) a
           ∙ ap (λ s. (s .0, add (s .1) y)) (q-eq b ∙ ap (λ s. (s .0, add (q b) (s .1))) (at-mul 𝓔 Y (X j) b))
           ∙ pair 𝓔 refl (first _ _ _ _)
           ∙ ap (λ s. ((Y (s .0)) .0, add (q b) (add ((Y (s .0)) .1) (s .1)))) (sym (at-mul 𝓔 (X j) (pow φ k) a) ∙ along k a)
           ∙ pair 𝓔 refl (second _ _ _ _ ∙ ap₂ add (sym (total-suc 𝓔 _ k)) refl)
           ∙ ap (λ s. (s .0, add (total 𝓔 (λ l. q ((pow φ l a) .0)) (suc k)) (s .1)))
-          (sym (at-mul 𝓔 Y (pow Y k * X j) a) ∙ column 𝓔 (sym (assoc _ _ _) ∙ ap (λ f. f * X j) (sym (power-suc (maps 𝓔 Ω) Y k))) a)
+          (sym (at-mul 𝓔 Y (pow Y k * X j) a) ∙ at-column 𝓔 (sym (assoc _ _ _) ∙ ap (λ f. f * X j) (sym (power-suc (maps 𝓔 Ω) Y k))) a)
         where
           first : (x y z v : E) → add (add x (add y z)) v ≡ add x (add y (add z v))
           first x y z v = simp (𝓔 .assoc)
@@ -187,7 +187,7 @@ module _ {G G⁺ : Type 0} {𝓖 : Mul G} {𝓖⁺ : Mul G⁺} {conj : ℕ → G
           second x y z v = simp (𝓔 .assoc, 𝓔 .comm, lcomm 𝓔)
 
       pub around : (a : Ω) → total 𝓔 (λ l. q ((pow φ l a) .0)) p ≡ nil
-      around a = cancel 𝓔 (((pow Y p * X j) a) .1) _ _ (𝓔 .comm _ _ ∙ ap (λ s. s .1) (sym (along p a) ∙ column 𝓔 whole a) ∙ sym (idr 𝓔 _))
+      around a = cancel 𝓔 (((pow Y p * X j) a) .1) _ _ (𝓔 .comm _ _ ∙ ap (λ s. s .1) (sym (along p a) ∙ at-column 𝓔 whole a) ∙ sym (idr 𝓔 _))
         where
           whole : X j * pow φ p ≡ pow Y p * X j
           whole = ap (λ f. X j * f) φ-power ∙ Xj-past u ∙ ap (λ f. f * X j) (sym Y-power)

@@ -19,7 +19,7 @@ use commuting::Reaches;
 use commuting::moved;
 use rows::GENERATORS;
 use rows::Row;
-use rows::Words;
+use rows::Rows;
 use rows::copied;
 use rows::same;
 use rows::stacked;
@@ -48,7 +48,7 @@ fn remaining(k: usize, x: Row, c: Row, n: u32, left: u32) -> u32
 }
 
 // The first k exponents of x after b conjugations by generator k.
-fn turn(primes: &Row, rows: &Words, reach: &Reaches, k: usize, x: &mut Row, b: u32)
+fn turn(primes: &Row, rows: &Rows, reach: &Reaches, k: usize, x: &mut Row, b: u32)
     requires { ⌜ Prepared (suc k) (now primes) (now rows) (now reach) × Small k (now primes) (now x) × (length (now x) ≡ maxGenerators) ⌝ }
     ensures { λ r. ⌜ TurnedInPlace k b (now (primes .entry)) (now (rows .entry)) (now (x .entry)) (now (x .exit)) ⌝ }
 {
@@ -60,7 +60,7 @@ fn turn(primes: &Row, rows: &Words, reach: &Reaches, k: usize, x: &mut Row, b: u
 }
 
 // The power word of generator k, times the first k exponents of x.
-fn carry(primes: &Row, rows: &Words, reach: &Reaches, k: usize, x: &mut Row)
+fn carry(primes: &Row, rows: &Rows, reach: &Reaches, k: usize, x: &mut Row)
     requires { ⌜ Prepared (suc k) (now primes) (now rows) (now reach) × Small k (now primes) (now x) × (length (now x) ≡ maxGenerators) ⌝ }
     ensures { λ r. ⌜ CarriedInPlace k (now (primes .entry)) (now (rows .entry)) (now (x .entry)) (now (x .exit)) ⌝ }
 {
@@ -73,7 +73,7 @@ fn carry(primes: &Row, rows: &Words, reach: &Reaches, k: usize, x: &mut Row)
 }
 
 // x times y on level i. The conjugates that this needs are of the level below the highest exponent of y.
-fn multiply(primes: &Row, rows: &Words, reach: &Reaches, i: usize, x: &mut Row, y: &Row)
+fn multiply(primes: &Row, rows: &Rows, reach: &Reaches, i: usize, x: &mut Row, y: &Row)
     requires { ⌜ Factors i (now primes) (now rows) (now reach) (now x) (now y) × (length (now x) ≡ maxGenerators) ⌝ }
     ensures { λ r. ⌜ MultipliedInPlace i (now (primes .entry)) (now (rows .entry)) (now (x .entry)) (now (y .entry)) (now (x .exit)) ⌝ }
 {
@@ -96,7 +96,7 @@ fn multiply(primes: &Row, rows: &Words, reach: &Reaches, i: usize, x: &mut Row, 
 }
 
 // The product of x and y on level i.
-pub fn product(primes: &Row, rows: &Words, reach: &Reaches, i: usize, x: Row, y: Row) -> Row
+pub fn product(primes: &Row, rows: &Rows, reach: &Reaches, i: usize, x: Row, y: Row) -> Row
     requires { ⌜ Factors i (now primes) (now rows) (now reach) x y ⌝ }
     ensures { λ r. ⌜ Product i (now (primes .entry)) (now (rows .entry)) x y r ⌝ }
 {
@@ -106,7 +106,7 @@ pub fn product(primes: &Row, rows: &Words, reach: &Reaches, i: usize, x: Row, y:
 }
 
 // The conjugate of generator l by generator j.
-fn image(primes: &Row, rows: &Words, reach: &Reaches, j: usize, l: usize) -> Row
+fn image(primes: &Row, rows: &Rows, reach: &Reaches, j: usize, l: usize) -> Row
     requires { ⌜ Prepared (suc j) (now primes) (now rows) (now reach) × (l < j) ⌝ }
     ensures { λ r. ⌜ Image j l (now (primes .entry)) (now (rows .entry)) r ⌝ }
 {
@@ -124,7 +124,7 @@ fn image(primes: &Row, rows: &Words, reach: &Reaches, j: usize, l: usize) -> Row
 }
 
 // The conjugate of x by generator j on level k, k ≤ j. It is a product on the level of the highest exponent that moves.
-pub fn conjugate(primes: &Row, rows: &Words, reach: &Reaches, k: usize, j: usize, x: Row) -> Row
+pub fn conjugate(primes: &Row, rows: &Rows, reach: &Reaches, k: usize, j: usize, x: Row) -> Row
     requires { ⌜ Conjugand k j (now primes) (now rows) (now reach) x ⌝ }
     ensures { λ r. ⌜ Conjugate k j (now (primes .entry)) (now (rows .entry)) x r ⌝ }
 {
@@ -142,7 +142,7 @@ pub fn conjugate(primes: &Row, rows: &Words, reach: &Reaches, k: usize, j: usize
 }
 
 // Whether x has an exponent of generator m - 1 and none below, and the power word of that generator is empty.
-fn alone(rows: &Words, m: usize, x: Row) -> bool
+fn alone(rows: &Rows, m: usize, x: Row) -> bool
     requires { ⌜ m ≤ maxGenerators ⌝ }
     ensures { λ r. ⌜ Alone (now (rows .entry)) m x r ⌝ }
 {
@@ -167,7 +167,7 @@ fn multiple(primes: &Row, k: usize, x: Row, e: u32) -> Row
 }
 
 // x to the power e on level i.
-pub fn power(primes: &Row, rows: &Words, reach: &Reaches, i: usize, x: Row, e: u32) -> Row
+pub fn power(primes: &Row, rows: &Rows, reach: &Reaches, i: usize, x: Row, e: u32) -> Row
     requires { ⌜ Prepared i (now primes) (now rows) (now reach) × Small i (now primes) x ⌝ }
     ensures { λ r. ⌜ Power i (now (primes .entry)) (now (rows .entry)) x r e ⌝ }
 {
@@ -189,7 +189,7 @@ pub fn power(primes: &Row, rows: &Words, reach: &Reaches, i: usize, x: Row, e: u
 }
 
 // x after b conjugations by generator i, on level i.
-pub fn turned(primes: &Row, rows: &Words, reach: &Reaches, i: usize, x: Row, b: u32) -> Row
+pub fn turned(primes: &Row, rows: &Rows, reach: &Reaches, i: usize, x: Row, b: u32) -> Row
     requires { ⌜ Prepared (suc i) (now primes) (now rows) (now reach) × Small i (now primes) x ⌝ }
     ensures { λ r. ⌜ Turned i b (now (primes .entry)) (now (rows .entry)) x r ⌝ }
 {
@@ -209,7 +209,7 @@ pub fn turned(primes: &Row, rows: &Words, reach: &Reaches, i: usize, x: Row, b: 
 }
 
 // x to the power e, times v, on level i.
-pub fn scaled(primes: &Row, rows: &Words, reach: &Reaches, i: usize, x: Row, e: u32, v: Row) -> Row
+pub fn scaled(primes: &Row, rows: &Rows, reach: &Reaches, i: usize, x: Row, e: u32, v: Row) -> Row
     requires { ⌜ Factors i (now primes) (now rows) (now reach) x v ⌝ }
     ensures { λ r. ⌜ Scaled i (now (primes .entry)) (now (rows .entry)) x e v r ⌝ }
 {

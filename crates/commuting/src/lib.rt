@@ -12,7 +12,7 @@ ghost use Rattle.definitions.specs.Presentation.{maxGenerators};
 ghost use Rattle.commuting.specs.Commuting.{keeps, KeepsFrom, Reach, Quiet, Rise, Central};
 use rows::GENERATORS;
 use rows::Row;
-use rows::Words;
+use rows::Rows;
 use rows::empty;
 use rows::word;
 
@@ -20,7 +20,7 @@ use rows::word;
 pub type Reaches = [usize; GENERATORS];
 
 // Conjugation by generator j keeps an exponent e of generator l where e is 0 or the word of the two generators is empty.
-fn stays(rows: &Words, j: usize, l: usize, e: u32) -> bool
+fn stays(rows: &Rows, j: usize, l: usize, e: u32) -> bool
     requires { ⌜ (l < j) × (j < maxGenerators) ⌝ }
     ensures { λ r. ⌜ r ≡ keeps (now (rows .entry)) j l e ⌝ }
 {
@@ -32,7 +32,7 @@ fn stays(rows: &Words, j: usize, l: usize, e: u32) -> bool
 }
 
 // Generator j commutes with the generators from the answer up to j: their words with it are empty.
-fn reached(rows: &Words, j: usize) -> usize
+fn reached(rows: &Rows, j: usize) -> usize
     requires { ⌜ j < maxGenerators ⌝ }
     ensures { λ r. ⌜ Reach (now (rows .entry)) j r ⌝ }
 {
@@ -48,7 +48,7 @@ fn reached(rows: &Words, j: usize) -> usize
 }
 
 // For each of the first n generators, down to which it commutes with all below it.
-pub fn reaches(rows: &Words, n: usize) -> Reaches
+pub fn reaches(rows: &Rows, n: usize) -> Reaches
     requires { ⌜ n ≤ maxGenerators ⌝ }
     ensures { λ r. ⌜ Quiet n (now (rows .entry)) r ⌝ }
 {
@@ -61,7 +61,7 @@ pub fn reaches(rows: &Words, n: usize) -> Reaches
 }
 
 // Generator c commutes with every generator below the answer.
-fn risen(rows: &Words, reach: &Reaches, n: usize, c: usize) -> usize
+fn risen(rows: &Rows, reach: &Reaches, n: usize, c: usize) -> usize
     requires { ⌜ (c < n) × (n ≤ maxGenerators) × Reach (now rows) c (getD (now reach) c 0) ⌝ }
     ensures { λ r. ⌜ Rise (now (rows .entry)) c r ⌝ }
 {
@@ -80,7 +80,7 @@ fn risen(rows: &Words, reach: &Reaches, n: usize, c: usize) -> usize
 }
 
 // For each of the first n generators, up to which it commutes with every generator.
-pub fn rises(rows: &Words, reach: &Reaches, n: usize) -> Reaches
+pub fn rises(rows: &Rows, reach: &Reaches, n: usize) -> Reaches
     requires { ⌜ (n ≤ maxGenerators) × Quiet n (now rows) (now reach) ⌝ }
     ensures { λ r. ⌜ Central n (now (rows .entry)) r ⌝ }
 {
@@ -93,7 +93,7 @@ pub fn rises(rows: &Words, reach: &Reaches, n: usize) -> Reaches
 }
 
 // One more than the highest of the first k exponents of x that conjugation by generator j may change; 0 where it keeps all.
-pub fn moved(rows: &Words, reach: &Reaches, k: usize, j: usize, x: Row) -> usize
+pub fn moved(rows: &Rows, reach: &Reaches, k: usize, j: usize, x: Row) -> usize
     requires { ⌜ (k ≤ j) × (j < maxGenerators) × Reach (now rows) j (getD (now reach) j 0) ⌝ }
     ensures { λ r. ⌜ KeepsFrom (now (rows .entry)) k j x r ⌝ }
 {

@@ -7,7 +7,7 @@ use rows::GENERATORS;
 use rows::ORDER;
 use rows::PAIRS;
 use rows::Row;
-use rows::Words;
+use rows::Rows;
 use rows::pair;
 use rows::wide;
 ghost use mathlib.Core.Path.{_≡_};
@@ -94,7 +94,7 @@ fn p_well(p: u32, j: usize, i: usize) -> bool
 }
 
 // Whether the line of (j, i) is as it should be.
-fn pair_well(rows: &Words, ps: &[u32; PAIRS], primes: &Row, n: usize, j: usize, i: usize) -> bool
+fn pair_well(rows: &Rows, ps: &[u32; PAIRS], primes: &Row, n: usize, j: usize, i: usize) -> bool
     requires { ⌜ (n ≤ maxGenerators) × (j < n) × (i ≤ j) ⌝ }
     ensures { λ r. ⌜ r ≡ pairWell (now (rows .entry)) (now (ps .entry)) (now (primes .entry)) n j i ⌝ }
 {
@@ -106,7 +106,7 @@ fn pair_well(rows: &Words, ps: &[u32; PAIRS], primes: &Row, n: usize, j: usize, 
 }
 
 // Whether the lines of generator j are as they should be.
-fn generator_well(rows: &Words, ps: &[u32; PAIRS], primes: &Row, n: usize, j: usize) -> bool
+fn generator_well(rows: &Rows, ps: &[u32; PAIRS], primes: &Row, n: usize, j: usize) -> bool
     requires { ⌜ (n ≤ maxGenerators) × (j < n) ⌝ }
     ensures { λ r. ⌜ r ≡ allBelow (suc j) (λ i. pairWell (now (rows .entry)) (now (ps .entry)) (now (primes .entry)) n j i) ⌝ }
 {
@@ -121,7 +121,7 @@ fn generator_well(rows: &Words, ps: &[u32; PAIRS], primes: &Row, n: usize, j: us
 }
 
 // Whether all lines are as they should be.
-pub fn well(rows: &Words, ps: &[u32; PAIRS], primes: &Row, n: usize) -> bool
+pub fn well(rows: &Rows, ps: &[u32; PAIRS], primes: &Row, n: usize) -> bool
     requires { ⌜ n ≤ maxGenerators ⌝ }
     ensures { λ r. ⌜ r ≡ allWell (now (rows .entry)) (now (ps .entry)) (now (primes .entry)) n ⌝ }
 {

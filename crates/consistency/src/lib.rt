@@ -24,7 +24,7 @@ use commuting::reaches;
 use commuting::rises;
 use rows::GENERATORS;
 use rows::Row;
-use rows::Words;
+use rows::Rows;
 use rows::generator;
 use rows::same;
 use rows::word;
@@ -33,7 +33,7 @@ use rows::word;
 pub type Forms = [[u32; GENERATORS]; GENERATORS];
 
 // The images of the generators below i under conjugation by generator i.
-fn images(primes: &Row, rows: &Words, reach: &Reaches, i: usize) -> Forms
+fn images(primes: &Row, rows: &Rows, reach: &Reaches, i: usize) -> Forms
     requires { ⌜ Prepared (suc i) (now primes) (now rows) (now reach) ⌝ }
     ensures { λ r. ⌜ Images i (now (primes .entry)) (now (rows .entry)) r i ⌝ }
 {
@@ -47,7 +47,7 @@ fn images(primes: &Row, rows: &Words, reach: &Reaches, i: usize) -> Forms
 }
 
 // The value over the images h of the first k exponents of x, on level i.
-fn value(primes: &Row, rows: &Words, reach: &Reaches, h: &Forms, i: usize, k: usize, x: Row) -> Row
+fn value(primes: &Row, rows: &Rows, reach: &Reaches, h: &Forms, i: usize, k: usize, x: Row) -> Row
     requires { ⌜ Imaged i (now primes) (now rows) (now reach) (now h) × (k ≤ i) ⌝ }
     ensures { λ r. ⌜ Value i (now (primes .entry)) (now (rows .entry)) k x r ⌝ }
 {
@@ -62,7 +62,7 @@ fn value(primes: &Row, rows: &Words, reach: &Reaches, h: &Forms, i: usize, k: us
 }
 
 // The images h keep the power relation of generator k.
-fn keeps_power(primes: &Row, rows: &Words, reach: &Reaches, h: &Forms, i: usize, k: usize) -> bool
+fn keeps_power(primes: &Row, rows: &Rows, reach: &Reaches, h: &Forms, i: usize, k: usize) -> bool
     requires { ⌜ Imaged i (now primes) (now rows) (now reach) (now h) × (k < i) ⌝ }
     ensures { λ r. ⌜ Settles i (now (primes .entry)) (now (rows .entry)) (λ P. powerKept P i k) r ⌝ }
 {
@@ -75,7 +75,7 @@ fn keeps_power(primes: &Row, rows: &Words, reach: &Reaches, h: &Forms, i: usize,
 }
 
 // The images h keep the power relations of the generators below i.
-fn keeps_powers(primes: &Row, rows: &Words, reach: &Reaches, h: &Forms, i: usize) -> bool
+fn keeps_powers(primes: &Row, rows: &Rows, reach: &Reaches, h: &Forms, i: usize) -> bool
     requires { ⌜ Imaged i (now primes) (now rows) (now reach) (now h) ⌝ }
     ensures { λ r. ⌜ Settles i (now (primes .entry)) (now (rows .entry)) (λ P. keepsPowers P i) r ⌝ }
 {
@@ -90,7 +90,7 @@ fn keeps_powers(primes: &Row, rows: &Words, reach: &Reaches, h: &Forms, i: usize
 // The images h keep the commutator relation of generators k < j.
 fn keeps_commutator(
     primes: &Row,
-    rows: &Words,
+    rows: &Rows,
     reach: &Reaches,
     h: &Forms,
     i: usize,
@@ -114,7 +114,7 @@ fn keeps_commutator(
 // is nothing to test.
 fn keeps_pair(
     primes: &Row,
-    rows: &Words,
+    rows: &Rows,
     reach: &Reaches,
     rise: &Reaches,
     h: &Forms,
@@ -137,7 +137,7 @@ fn keeps_pair(
 // The images h keep the commutator relations of generator j with those below it.
 fn keeps_commutators_of(
     primes: &Row,
-    rows: &Words,
+    rows: &Rows,
     reach: &Reaches,
     rise: &Reaches,
     h: &Forms,
@@ -158,7 +158,7 @@ fn keeps_commutators_of(
 // The images h keep the commutator relations below i.
 fn keeps_commutators(
     primes: &Row,
-    rows: &Words,
+    rows: &Rows,
     reach: &Reaches,
     rise: &Reaches,
     h: &Forms,
@@ -176,7 +176,7 @@ fn keeps_commutators(
 }
 
 // Conjugation by generator i fixes its power word.
-fn fixes_power(primes: &Row, rows: &Words, reach: &Reaches, i: usize) -> bool
+fn fixes_power(primes: &Row, rows: &Rows, reach: &Reaches, i: usize) -> bool
     requires { ⌜ Prepared (suc i) (now primes) (now rows) (now reach) ⌝ }
     ensures { λ r. ⌜ Settles i (now (primes .entry)) (now (rows .entry)) (λ P. fixesPower P i) r ⌝ }
 {
@@ -186,7 +186,7 @@ fn fixes_power(primes: &Row, rows: &Words, reach: &Reaches, i: usize) -> bool
 }
 
 // As many conjugations by generator i as its prime are conjugation by its power word, at generator k.
-fn is_inner_at(primes: &Row, rows: &Words, reach: &Reaches, i: usize, k: usize) -> bool
+fn is_inner_at(primes: &Row, rows: &Rows, reach: &Reaches, i: usize, k: usize) -> bool
     requires { ⌜ Prepared (suc i) (now primes) (now rows) (now reach) × (k < i) ⌝ }
     ensures { λ r. ⌜ Settles i (now (primes .entry)) (now (rows .entry)) (λ P. innerAt P i k) r ⌝ }
 {
@@ -203,7 +203,7 @@ fn is_inner_at(primes: &Row, rows: &Words, reach: &Reaches, i: usize, k: usize) 
 // with every generator up to i there is nothing to test.
 fn is_inner_on(
     primes: &Row,
-    rows: &Words,
+    rows: &Rows,
     reach: &Reaches,
     rise: &Reaches,
     i: usize,
@@ -219,7 +219,7 @@ fn is_inner_on(
 }
 
 // As many conjugations by generator i as its prime are conjugation by its power word, at every generator below i.
-fn is_inner(primes: &Row, rows: &Words, reach: &Reaches, rise: &Reaches, i: usize) -> bool
+fn is_inner(primes: &Row, rows: &Rows, reach: &Reaches, rise: &Reaches, i: usize) -> bool
     requires { ⌜ Prepared (suc i) (now primes) (now rows) (now reach) × Central (suc i) (now rows) (now rise) ⌝ }
     ensures { λ r. ⌜ Settles i (now (primes .entry)) (now (rows .entry)) (λ P. powerIsInner P i) r ⌝ }
 {
@@ -232,7 +232,7 @@ fn is_inner(primes: &Row, rows: &Words, reach: &Reaches, rise: &Reaches, i: usiz
 }
 
 // The known test for generator i.
-fn level_passes(primes: &Row, rows: &Words, reach: &Reaches, rise: &Reaches, i: usize) -> bool
+fn level_passes(primes: &Row, rows: &Rows, reach: &Reaches, rise: &Reaches, i: usize) -> bool
     requires { ⌜ Prepared (suc i) (now primes) (now rows) (now reach) × Central (suc i) (now rows) (now rise) ⌝ }
     ensures { λ r. ⌜ Settles i (now (primes .entry)) (now (rows .entry)) (λ P. levelTest P i) r ⌝ }
 {
@@ -250,7 +250,7 @@ fn level_passes(primes: &Row, rows: &Words, reach: &Reaches, rise: &Reaches, i: 
 }
 
 // Whether the presentation of n generators is consistent (15): the known test for each generator.
-pub fn consistent(primes: &Row, rows: &Words, n: usize) -> bool
+pub fn consistent(primes: &Row, rows: &Rows, n: usize) -> bool
     requires { ⌜ Ranged n (now primes) (now rows) ⌝ }
     ensures { λ r. ⌜ DecidesTest n (now (primes .entry)) (now (rows .entry)) r ⌝ }
 {

@@ -25,7 +25,7 @@ fn write_levels(p: ReadPresentation, m: u32, words: &mut [u32]) -> usize
 {
     let n = p.n;
     let primes = p.primes;
-    let rows = presentation::words_of(p);
+    let rows = presentation::rows_of(p);
     levels::build_levels(words, &rows, &primes, n as u32, m)
 }
 

@@ -17,7 +17,7 @@ ghost use Rattle.extend.specs.Extending.{copyWords, lowWords, extensionW
 use level::Listed;
 use lines::Head;
 use lines::Piece;
-use rows::Words;
+use rows::Rows;
 use survey::Frame;
 use targets::LANDING;
 use targets::START;
@@ -48,7 +48,7 @@ fn find_origin(low: &[u32], notes: &[u32], f: Frame, r: u32) -> Origin
 }
 
 // The exponent of the generator on top in its conjugate by generator g.
-fn power(rows: &Words, f: Frame, g: u32) -> u32
+fn power(rows: &Rows, f: Frame, g: u32) -> u32
     requires { ⌜ ((W : List ℕ) × Sound f W (now rows)) × (f .top < g) × (g < f .gens) ⌝ }
     ensures { λ a. ⌜ (a ≡ powerOf f (now (rows .entry)) g) × (a ≤ f .p) ⌝ }
 {
@@ -58,7 +58,7 @@ fn power(rows: &Words, f: Frame, g: u32) -> u32
 }
 
 // The reference of a generator g above the one on top in extension k.
-fn reference(rows: &Words, targets: &[u32], f: Frame, g: u32, k: u32) -> u32
+fn reference(rows: &Rows, targets: &[u32], f: Frame, g: u32, k: u32) -> u32
     requires { ⌜ ((W : List ℕ) × ((r : ℕ) × Aimed f W (now rows) r (now targets))) × (f .top < g) × (g < f .gens) × (k < f .p) ⌝ }
     ensures { λ x. ⌜ x ≡ referenceOf f (now (rows .entry)) (now (targets .entry)) g k ⌝ }
 {
@@ -118,7 +118,7 @@ fn append_low(words: &mut [u32], f: Frame, o: Origin, at: usize, k: u32) -> usiz
 // Appends the generators of extension k, one behind the other.
 fn append_generators(
     words: &mut [u32],
-    rows: &Words,
+    rows: &Rows,
     targets: &[u32],
     f: Frame,
     o: Origin,
@@ -142,7 +142,7 @@ fn append_generators(
 // Appends extension k. Degree 1 is handed over as a constant, so that its loops are compiled apart.
 fn append_extension(
     words: &mut [u32],
-    rows: &Words,
+    rows: &Rows,
     targets: &[u32],
     f: Frame,
     o: Origin,
@@ -173,7 +173,7 @@ fn append_extension(
 // Appends the extensions, one behind the other.
 fn append_each(
     words: &mut [u32],
-    rows: &Words,
+    rows: &Rows,
     targets: &[u32],
     f: Frame,
     o: Origin,
@@ -194,7 +194,7 @@ fn append_each(
 // Appends the extensions of r, which the generator on top fixes, behind the level below. Returns the next line's number.
 pub fn append_extensions(
     words: &mut [u32],
-    rows: &Words,
+    rows: &Rows,
     notes: &[u32],
     f: Frame,
     at: usize,

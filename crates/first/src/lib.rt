@@ -6,11 +6,11 @@ ghost use Rattle.text.specs.Writing.{Wrote};
 ghost use Rattle.first.specs.Roots.{WordsBelow, rootRef, rootExp, rootWords, firstWords};
 use definitions::Entry;
 use lines::Head;
-use rows::Words;
+use rows::Rows;
 ghost use Rattle.definitions.specs.Presentation.{maxGenerators, maxOrder, maxModulus};
 
 // Where the intertwiner of generator g leads power k; 0 for the generator of the level.
-fn reference(rows: &Words, n: u32, p: u32, k: u32, g: u32) -> u32
+fn reference(rows: &Rows, n: u32, p: u32, k: u32, g: u32) -> u32
     requires { ⌜ (n ≤ maxGenerators) × (g < n) × (p ≤ maxOrder) × (k < p) × WordsBelow n p (now rows) ⌝ }
     ensures { λ x. ⌜ x ≡ rootRef p (now (rows .entry)) k g ⌝ }
 {
@@ -33,7 +33,7 @@ fn exponent(p: u32, m: u32, k: u32, g: u32) -> u32
 }
 
 // Appends power k of the root: a line for each generator. Returns the next line's number.
-fn append_root(words: &mut [u32], rows: &Words, n: u32, p: u32, m: u32, at: usize, k: u32) -> usize
+fn append_root(words: &mut [u32], rows: &Rows, n: u32, p: u32, m: u32, at: usize, k: u32) -> usize
     requires { ⌜ (n ≤ maxGenerators) × (p ≤ maxOrder) × (m ≤ maxModulus) × (k < p) × WordsBelow n p (now rows) × (8 * at + 8 * n ≤ length (now words)) ⌝ }
     ensures { λ x. ⌜ Wrote (now (words .entry)) (8 * at) (rootWords n p m (now (rows .entry)) k) (now (words .exit)) (8 * x) ⌝ }
 {
@@ -54,7 +54,7 @@ fn append_root(words: &mut [u32], rows: &Words, n: u32, p: u32, m: u32, at: usiz
 }
 
 // Writes level 1 of n generators, the lowest of prime p, with exponents modulo m. Returns the next line's number.
-pub fn first_level(words: &mut [u32], rows: &Words, n: u32, p: u32, m: u32) -> usize
+pub fn first_level(words: &mut [u32], rows: &Rows, n: u32, p: u32, m: u32) -> usize
     requires { ⌜ (n ≤ maxGenerators) × (p ≤ maxOrder) × (m ≤ maxModulus) × WordsBelow n p (now rows) × (8 * (p * n) ≤ length (now words)) ⌝ }
     ensures { λ x. ⌜ Wrote (now (words .entry)) 0 (firstWords n p m (now (rows .entry))) (now (words .exit)) (8 * x) ⌝ }
 {

@@ -15,7 +15,7 @@ use Rattle.group.proofs.Level.{wNf}
 use Rattle.monomial.specs.Exponents.{Exponents, total, times, Residue}
 use Rattle.monomial.specs.Maps.{Map, maps}
 use Rattle.monomial.proofs.Exponents.{lcomm, cancel, total-ext, total-add}
-use Rattle.monomial.proofs.Maps.{column as at-column, at-mul, power-diagonal}
+use Rattle.monomial.proofs.Maps.{at-column, at-mul, power-diagonal}
 use Rattle.monomial.proofs.Residues.{residues, Residue-path}
 use Rattle.columns.specs.Columns.{conjugateAt, intertwinesAt}
 use Rattle.clifford.specs.Stands.{Rung, Stands}

@@ -19,7 +19,7 @@ use Rattle.monomial.specs.Exponents.{Exponents, times, Residue}
 use Rattle.monomial.specs.Maps.{Map}
 use Rattle.monomial.specs.Frames.{Shows}
 use Rattle.monomial.proofs.Residues.{residues}
-use Rattle.monomial.proofs.Maps.{pair, column as at-column}
+use Rattle.monomial.proofs.Maps.{pair, at-column}
 use Rattle.clifford.specs.Stands.{Rung, Stands}
 use Rattle.clifford.proofs.Numbering.{S}
 use Rattle.clifford.proofs.Levels.{exponentNf, exponent-low, exponent-top}

@@ -31,7 +31,7 @@ use Rattle.group.proofs.Group.{group}
 use Rattle.monomial.specs.Exponents.{Exponents, total, Residue}
 use Rattle.monomial.specs.Maps.{Map, maps}
 use Rattle.monomial.proofs.Exponents.{lcomm, total-zero, total-suc}
-use Rattle.monomial.proofs.Maps.{pair, column as at-column, at-mul, at-one}
+use Rattle.monomial.proofs.Maps.{pair, at-column, at-mul, at-one}
 use Rattle.monomial.proofs.Residues.{residues, add-value, nil-value, residue, residue-value}
 use Rattle.monomial.proofs.Schur.{rep-power}
 use Rattle.monomial.proofs.Frames.{entry-path}

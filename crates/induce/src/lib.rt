@@ -21,7 +21,7 @@ ghost use Rattle.induce.specs.Inducing.{inductionOf, numberAbove, Writin
 ghost use Rattle.induce.specs.Inducing.{cellWords, stillWords, CellsWritten, inducedWords, inductionWords};
 use lines::Head;
 use lines::Piece;
-use rows::Words;
+use rows::Rows;
 use survey::Frame;
 
 // What is induced from an orbit: the least representation of that, the number, and the degree of a block.
@@ -222,7 +222,7 @@ fn append_cells(
 // For a generator above the one on top, lists its scalars.
 fn find_scalars(
     low: &[u32],
-    rows: &Words,
+    rows: &Rows,
     notes: &[u32],
     blocks: &mut [u32],
     f: Frame,
@@ -255,7 +255,7 @@ fn induced_target(low: &[u32], notes: &[u32], f: Frame, r: u32, g: u32) -> u32
 // Appends generator g of the induced representation.
 fn append_generator(
     words: &mut [u32],
-    rows: &Words,
+    rows: &Rows,
     notes: &[u32],
     blocks: &mut [u32],
     f: Frame,
@@ -280,7 +280,7 @@ fn append_generator(
 // Appends the representation induced from the orbit of r, the least of it. Returns the next line's number.
 pub fn append_induction(
     words: &mut [u32],
-    rows: &Words,
+    rows: &Rows,
     notes: &[u32],
     blocks: &mut [u32],
     f: Frame,

@@ -9,12 +9,12 @@ ghost use Rattle.builder.specs.Level.{LevelAsked, LevelMade};
 ghost use Rattle.levels.specs.Given.{Given, AllWritten};
 use builder::Written;
 use rows::Row;
-use rows::Words;
+use rows::Rows;
 use survey::Frame;
 
 // Appends the level above the one that the frame shows, with arrays for 16 representations and blocks: an orbit that moves has
 // no more blocks than there are representations.
-fn tiny_level(words: &mut [u32], rows: &Words, f: Frame) -> Written
+fn tiny_level(words: &mut [u32], rows: &Rows, f: Frame) -> Written
     requires { ⌜ LevelAsked f (now words) (now rows) × (f .reps ≤ 16) ⌝ }
     ensures { λ t. ⌜ LevelMade f (now (words .entry)) (now (rows .entry)) t (now (words .exit)) ⌝ }
 {
@@ -24,7 +24,7 @@ fn tiny_level(words: &mut [u32], rows: &Words, f: Frame) -> Written
 }
 
 // Appends it with arrays for 64 representations and blocks. Sixteen rows more, so that no two arrays lie whole pages apart.
-fn small_level(words: &mut [u32], rows: &Words, f: Frame) -> Written
+fn small_level(words: &mut [u32], rows: &Rows, f: Frame) -> Written
     requires { ⌜ LevelAsked f (now words) (now rows) × (f .reps ≤ 64) ⌝ }
     ensures { λ t. ⌜ LevelMade f (now (words .entry)) (now (rows .entry)) t (now (words .exit)) ⌝ }
 {
@@ -35,7 +35,7 @@ fn small_level(words: &mut [u32], rows: &Words, f: Frame) -> Written
 
 // Appends it with arrays for 512 representations and for 64 blocks, which suffice for every level: where an orbit moves, the
 // square of the prime is at most the order.
-fn middle_level(words: &mut [u32], rows: &Words, f: Frame) -> Written
+fn middle_level(words: &mut [u32], rows: &Rows, f: Frame) -> Written
     requires { ⌜ LevelAsked f (now words) (now rows) × (f .reps ≤ 512) ⌝ }
     ensures { λ t. ⌜ LevelMade f (now (words .entry)) (now (rows .entry)) t (now (words .exit)) ⌝ }
 {
@@ -46,7 +46,7 @@ fn middle_level(words: &mut [u32], rows: &Words, f: Frame) -> Written
 
 // Appends it with arrays for 2048, which suffice for every level: the level below has at most half the order of
 // representations.
-fn large_level(words: &mut [u32], rows: &Words, f: Frame) -> Written
+fn large_level(words: &mut [u32], rows: &Rows, f: Frame) -> Written
     requires { ⌜ LevelAsked f (now words) (now rows) ⌝ }
     ensures { λ t. ⌜ LevelMade f (now (words .entry)) (now (rows .entry)) t (now (words .exit)) ⌝ }
 {
@@ -56,7 +56,7 @@ fn large_level(words: &mut [u32], rows: &Words, f: Frame) -> Written
 }
 
 // Appends that level with the smallest arrays that suffice.
-fn next_level(words: &mut [u32], rows: &Words, f: Frame) -> Written
+fn next_level(words: &mut [u32], rows: &Rows, f: Frame) -> Written
     requires { ⌜ LevelAsked f (now words) (now rows) ⌝ }
     ensures { λ t. ⌜ LevelMade f (now (words .entry)) (now (rows .entry)) t (now (words .exit)) ⌝ }
 {
@@ -73,7 +73,7 @@ fn next_level(words: &mut [u32], rows: &Words, f: Frame) -> Written
 }
 
 // Writes the levels of a presentation from the first word on. Returns how many lines they are.
-pub fn build_levels(words: &mut [u32], rows: &Words, primes: &Row, n: u32, m: u32) -> usize
+pub fn build_levels(words: &mut [u32], rows: &Rows, primes: &Row, n: u32, m: u32) -> usize
     requires { ⌜ ((A : Accepted) × Given (now rows) (now primes) n m (length (now words)) A) ⌝ }
     ensures { λ x. ⌜ AllWritten (now (rows .entry)) (now (primes .entry)) n m (now (words .entry)) x (now (words .exit)) ⌝ }
 {

@@ -14,7 +14,7 @@ use Rattle.conditions.specs.declared.size.Size.{Size}
 use Rattle.conditions.specs.Conditions.{product}
 use Rattle.conditions.specs.Size.{Measured}
 use Rattle.conditions.proofs.Conditions.{product-order}
-use Rattle.clifford.specs.Accepted.{Accepted as Group}
+use Rattle.clifford.specs.Accepted.{Accepted}
 use Rattle.clifford.proofs.Theorem.{accepted, accepted-is}
 use Rattle.levels.specs.Built.{WithinCeilings}
 use Rattle.levels.proofs.Room.{order-le}
@@ -22,7 +22,7 @@ use Rattle.levels.proofs.Stated.{small}
 use Rattle.acceptance.specs.Accepted.{Confirmed}
 
 module _ {R : Relations} {P : ReadPresentation} (S : Confirmed R P) where
-  abbrev pub A : Group
+  abbrev pub A : Accepted
   A = accepted R (S .passed .formed) (S .passed .primes) (S .passed .used) (S .consistent)
 
   pub same : A .C .P ≡ presentation R

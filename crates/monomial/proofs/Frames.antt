@@ -29,7 +29,7 @@ use Rattle.monomial.specs.Exponents.{Residue}
 use Rattle.monomial.specs.Maps.{Map, compose, maps, Inverse}
 use Rattle.monomial.specs.Frames.{Layout, Complete, Shows}
 use Rattle.monomial.proofs.Exponents.{cancel}
-use Rattle.monomial.proofs.Maps.{column, at-mul, at-one, inverse-injective}
+use Rattle.monomial.proofs.Maps.{at-column, at-mul, at-one, inverse-injective}
 use Rattle.monomial.proofs.Residues.{residues, Residue-path, less-value, nil-value}
 
 -- a column of a matrix made column by column
@@ -168,7 +168,7 @@ module _ (m : ℕ) (pos : 0 < m) {Ω : Type 0} (Φ : Layout Ω) where
       -- the inverse at a basis index of s
       there : (b : Ω) → ((A ((W .to b) .0)) .0 ≡ b) × (residues m pos .add ((A ((W .to b) .0)) .1) ((W .to b) .1) ≡ residues m pos .nil)
       there b =
-          let line = sym (at-mul (residues m pos) A (W .to) b) ∙ column (residues m pos) (W .right) b ∙ at-one (residues m pos) b in
+          let line = sym (at-mul (residues m pos) A (W .to) b) ∙ at-column (residues m pos) (W .right) b ∙ at-one (residues m pos) b in
           (ap (λ z. z .0) line, ap (λ z. z .1) line)
 
       neg-of-zero : (x y : Residue m) → residues m pos .add x y ≡ residues m pos .nil → less m 0 (x .0) ≡ y .0

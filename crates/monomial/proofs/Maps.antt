@@ -2,7 +2,7 @@
 --
 --   maps-laws                        the product is associative, the identity is one
 --   at-mul, at-one, at-diagonal      a product, the identity and a diagonal at one basis index
---   pair, column                     equal parts make equal entries; equal maps have equal columns
+--   pair, at-column                  equal parts make equal entries; equal maps have equal columns
 --   inverse-root, inverse-mul, inverse-power, inverse-diagonal, inverse-injective      inverses
 --   power-fixes                      the powers of a map that fixes a basis index
 --   power-diagonal                   the powers of a map times a diagonal
@@ -67,8 +67,8 @@ module _ {E : Type 0} (𝓔 : Exponents E) {Ω : Type 0} where
   pub pair : {a b : Ω} {x y : E} → a ≡ b → x ≡ y → _≡_ {A = Ω × E} (a, x) (b, y)
   pair p q = λ j. (p j, q j)
 
-  pub column : {A B : Map 𝓔 Ω} → A ≡ B → (a : Ω) → A a ≡ B a
-  column q a = ap (λ f. f a) q
+  pub at-column : {A B : Map 𝓔 Ω} → A ≡ B → (a : Ω) → A a ≡ B a
+  at-column q a = ap (λ f. f a) q
 
   pub at-mul : (A B : Map 𝓔 Ω) (a : Ω) → (A * B) a ≡ ((A ((B a) .0)) .0, add ((A ((B a) .0)) .1) ((B a) .1))
   unfolding maps compose
@@ -107,14 +107,14 @@ module _ {E : Type 0} (𝓔 : Exponents E) {Ω : Type 0} where
   inverse-injective Z W a b q = sym (back a) ∙ ap (λ z. (W .to z) .0) q ∙ back b
     where
       back : (a : Ω) → (W .to ((Z a) .0)) .0 ≡ a
-      back a = ap (λ z. z .0) (sym (at-mul (W .to) Z a) ∙ column (W .left) a ∙ at-one a)
+      back a = ap (λ z. z .0) (sym (at-mul (W .to) Z a) ∙ at-column (W .left) a ∙ at-one a)
 
   -- ---- Powers
 
   pub power-fixes : (A : Map 𝓔 Ω) (a : Ω) (x : E) → A a ≡ (a, x) → (k : ℕ) → power (maps 𝓔 Ω) A k a ≡ (a, times 𝓔 k x)
-  power-fixes A a x q zero = column (power-zero (maps 𝓔 Ω) A) a ∙ at-one a ∙ pair refl (sym (total-zero 𝓔 (λ k. x)))
+  power-fixes A a x q zero = at-column (power-zero (maps 𝓔 Ω) A) a ∙ at-one a ∙ pair refl (sym (total-zero 𝓔 (λ k. x)))
   power-fixes A a x q (suc k) =
-      column (power-suc (maps 𝓔 Ω) A k) a ∙ mul-at A (power (maps 𝓔 Ω) A k) a a (times 𝓔 k x) (power-fixes A a x q k)
+      at-column (power-suc (maps 𝓔 Ω) A k) a ∙ mul-at A (power (maps 𝓔 Ω) A k) a a (times 𝓔 k x) (power-fixes A a x q k)
       ∙ ap (λ s. (s .0, add (s .1) (times 𝓔 k x))) q ∙ pair refl (sym (total-suc 𝓔 (λ k. x) k))
 
   -- the exponents of the diagonal add up along the way
@@ -123,11 +123,11 @@ module _ {E : Type 0} (𝓔 : Exponents E) {Ω : Type 0} where
       ≡ ((power (maps 𝓔 Ω) A k a) .0, add (total 𝓔 (λ l. s ((power (maps 𝓔 Ω) A l a) .0)) k) ((power (maps 𝓔 Ω) A k a) .1))
   unfolding maps compose diagonal
   power-diagonal A s zero a =
-      column (power-zero (maps 𝓔 Ω) _) a
+      at-column (power-zero (maps 𝓔 Ω) _) a
       ∙ sym (ap (λ f. ((f a) .0, add (total 𝓔 (λ l. s ((power (maps 𝓔 Ω) A l a) .0)) 0) ((f a) .1))) (power-zero (maps 𝓔 Ω) A)
       ∙ pair refl (ap (λ t. add t nil) (total-zero 𝓔 _) ∙ 𝓔 .idl _))
   power-diagonal A s (suc k) a =
-      column (power-suc (maps 𝓔 Ω) _ k) a ∙ ap (λ t. ((A (t .0)) .0, add (add ((A (t .0)) .1) (s (t .0))) (t .1))) (power-diagonal A s k a)
+      at-column (power-suc (maps 𝓔 Ω) _ k) a ∙ ap (λ t. ((A (t .0)) .0, add (add ((A (t .0)) .1) (s (t .0))) (t .1))) (power-diagonal A s k a)
       ∙ pair refl (regroup 𝓔 _ _ _ _)
       ∙ sym (ap (λ f. ((f a) .0, add (total 𝓔 (λ l. s ((power (maps 𝓔 Ω) A l a) .0)) (suc k)) ((f a) .1))) (power-suc (maps 𝓔 Ω) A k)
       ∙ pair refl (ap₂ add (total-suc 𝓔 _ k) refl))

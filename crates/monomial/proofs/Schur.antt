@@ -18,7 +18,7 @@ use Rattle.monomial.specs.Exponents.{Exponents}
 use Rattle.monomial.specs.Maps.{Map, compose, maps, diagonal, Inverse}
 use Rattle.monomial.specs.Families.{Separated, Family, Alike}
 use Rattle.monomial.proofs.Exponents.{cancel}
-use Rattle.monomial.proofs.Maps.{pair, column, at-mul, at-one, maps-laws, inverse-diagonal, inverse-root}
+use Rattle.monomial.proofs.Maps.{pair, at-column, at-mul, at-one, maps-laws, inverse-diagonal, inverse-root}
 
 module _ {G : Type 0} {𝓖 : Mul G} {conj : ℕ → G → G} {i n : ℕ} {E : Type 0} {𝓔 : Exponents E} {Ω : Type 0} (F : Family 𝓔 Ω 𝓖 conj i n) where
   infixl 70 _*_
@@ -31,7 +31,7 @@ module _ {G : Type 0} {𝓖 : Mul G} {conj : ℕ → G → G} {i n : ℕ} {E : T
 
   module _ (Z : Map 𝓔 Ω) (c : (x : G) → Z * d x ≡ d x * Z) where
     line : (x : G) (a : Ω) → _≡_ {A = Ω × E} ((Z ((d x a) .0)) .0, add ((Z ((d x a) .0)) .1) ((d x a) .1)) ((d x ((Z a) .0)) .0, add ((d x ((Z a) .0)) .1) ((Z a) .1))
-    line x a = sym (at-mul 𝓔 Z (d x) a) ∙ column 𝓔 (c x) a ∙ at-mul 𝓔 (d x) Z a
+    line x a = sym (at-mul 𝓔 Z (d x) a) ∙ at-column 𝓔 (c x) a ∙ at-mul 𝓔 (d x) Z a
 
     pub commuting-fixes : (a : Ω) → (Z a) .0 ≡ a
     commuting-fixes a = go (F .decide a ((Z a) .0))
@@ -87,7 +87,7 @@ module _ {G : Type 0} {𝓖 : Mul G} {conj : ℕ → G → G} {i n : ℕ} {E : T
     pub ratio-eq : (a : Ω) → Z a ≡ ((Y a) .0, add (ratio a) ((Y a) .1))
     unfolding quotient ratio
     ratio-eq a =
-        column 𝓔 (sym (assoc Z (A .inverse .to) Y ∙ ap (λ s. Z * s) (A .inverse .left) ∙ idr Z)) a
+        at-column 𝓔 (sym (assoc Z (A .inverse .to) Y ∙ ap (λ s. Z * s) (A .inverse .left) ∙ idr Z)) a
         ∙ at-mul 𝓔 quotient Y a ∙ pair 𝓔 (commuting-fixes quotient quotient-commutes ((Y a) .0)) refl
 
     pub ratio-const : (a b : Ω) → rep ((Y a) .0) ≡ rep ((Y b) .0) → ratio a ≡ ratio b
@@ -97,9 +97,9 @@ module _ {G : Type 0} {𝓖 : Mul G} {conj : ℕ → G → G} {i n : ℕ} {E : T
   -- ---- Representations
 
   pub rep-power : (τ : ℕ → ℕ) (Z : Map 𝓔 Ω) → ((a : Ω) → rep ((Z a) .0) ≡ τ (rep a)) → (k : ℕ) (a : Ω) → rep ((power (maps 𝓔 Ω) Z k a) .0) ≡ iter τ k (rep a)
-  rep-power τ Z q zero a = ap (λ s. rep (s .0)) (column 𝓔 (power-zero (maps 𝓔 Ω) Z) a ∙ at-one 𝓔 a) ∙ sym (iter-zero τ (rep a))
+  rep-power τ Z q zero a = ap (λ s. rep (s .0)) (at-column 𝓔 (power-zero (maps 𝓔 Ω) Z) a ∙ at-one 𝓔 a) ∙ sym (iter-zero τ (rep a))
   rep-power τ Z q (suc k) a =
-      ap (λ s. rep (s .0)) (column 𝓔 (power-suc (maps 𝓔 Ω) Z k) a ∙ at-mul 𝓔 Z (power (maps 𝓔 Ω) Z k) a) ∙ q _ ∙ ap τ (rep-power τ Z q k a) ∙ sym (iter-out τ k (rep a))
+      ap (λ s. rep (s .0)) (at-column 𝓔 (power-suc (maps 𝓔 Ω) Z k) a ∙ at-mul 𝓔 Z (power (maps 𝓔 Ω) Z k) a) ∙ q _ ∙ ap τ (rep-power τ Z q k a) ∙ sym (iter-out τ k (rep a))
 
   pub scalar-commutes : (s : ℕ → E) (x : G) → diagonal 𝓔 Ω (λ a. s (rep a)) * d x ≡ d x * diagonal 𝓔 Ω (λ a. s (rep a))
   unfolding maps compose diagonal

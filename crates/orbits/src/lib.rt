@@ -22,7 +22,7 @@ ghost use Rattle.orbits.specs.Sides.{movedOf, Lies, EntryIs, cycleIn, co
 use definitions::Entry;
 use level::Listed;
 use rows::Row;
-use rows::Words;
+use rows::Rows;
 use survey::Frame;
 
 // The numbers of a row of blocks.
@@ -203,7 +203,7 @@ pub struct BlockScalar {
 // The block behind s along the generator on top, and its scalar.
 fn next_scalar(
     low: &[u32],
-    rows: &Words,
+    rows: &Rows,
     notes: &[u32],
     blocks: &[u32],
     f: Frame,
@@ -229,7 +229,7 @@ fn next_scalar(
 // Lists the scalars of the blocks for generator j, from block 0 along the generator on top.
 pub fn list_scalars(
     low: &[u32],
-    rows: &Words,
+    rows: &Rows,
     notes: &[u32],
     blocks: &mut [u32],
     f: Frame,

@@ -160,7 +160,7 @@ module _ {t : Bytes} {n next : ℕ} (nm : NamesLine t n next) {rows : List (List
         }
 
     held-by : misused relationsOf ≡ false → (o : Outcome)
-        → (o .presentation .n ≡ n) × (o .presentation .primes ≡ primes) × (o .presentation .words ≡ rows) → Held relationsOf (o .presentation)
+        → (o .presentation .n ≡ n) × (o .presentation .primes ≡ primes) × (o .presentation .rows ≡ rows) → Held relationsOf (o .presentation)
     held-by h o k =
         record { count = k .0; few = few; reads = subst₂ (Reads (presentation relationsOf) n) (sym (k .1)) (sym (k .2)) (rows-read h) }
 
@@ -215,7 +215,7 @@ module _ {n : ℕ} {rows : List (List ℕ)} {ps primes : List ℕ} (are : Primes
     }
 
     pub concluded-well : allWell rows ps primes n ≡ true → o .status ≡ 0
-        → (o .presentation .n ≡ n) × (o .presentation .primes ≡ primes) × (o .presentation .words ≡ rows) → Concluded n rows ps o
+        → (o .presentation .n ≡ n) × (o .presentation .primes ≡ primes) × (o .presentation .rows ≡ rows) → Concluded n rows ps o
     concluded-well h e k = record {
       primes = primes;
       are = are;

@@ -20,7 +20,7 @@ use Rattle.conditions.specs.Conditions.{product, allWell, Primes}
 pub record Held (R : Relations) (P : ReadPresentation) : Type 0 where
   pub count : P .n ≡ R .n
   pub few : R .n ≤ maxGenerators
-  pub reads : Reads (presentation R) (R .n) (P .primes) (P .words)
+  pub reads : Reads (presentation R) (R .n) (P .primes) (P .rows)
 
 pub record ReadText (t : Bytes) (o : Outcome) : Type 0 where
   pub answered : First (textRefusals t) (o .status)
@@ -30,4 +30,4 @@ pub record Concluded (n : ℕ) (rows : List (List ℕ)) (ps : List ℕ) (o : Out
   pub primes : List ℕ
   pub are : Primes ps n primes
   pub number : o .status ≡ cond (leb (product primes n) maxOrder) (cond (allWell rows ps primes n) 0 14) 13
-  pub kept : o .status ≡ 0 → (o .presentation .n ≡ n) × (o .presentation .primes ≡ primes) × (o .presentation .words ≡ rows)
+  pub kept : o .status ≡ 0 → (o .presentation .n ≡ n) × (o .presentation .primes ≡ primes) × (o .presentation .rows ≡ rows)

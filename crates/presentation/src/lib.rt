@@ -1,7 +1,7 @@
 // The read presentation, and the answer to its text (refusals 11 to 14).
 //
 //   ReadPresentation          n, the primes, and the rows
-//   make, words_of        the two functions that touch the rows as a field
+//   make, rows_of        the two functions that touch the rows as a field
 //   Outcome, refused      what reading leaves: a refusal, or 0 and the presentation
 //   conclude              refusals 13 and 14 on what was kept of a text whose generators have room
 //   read                  the presentation that a text says
@@ -9,7 +9,7 @@ use conditions::judge;
 use rows::GENERATORS;
 use rows::PAIRS;
 use rows::Row;
-use rows::Words;
+use rows::Rows;
 use text::Read;
 ghost use mathlib.Core.Path.{_≡_};
 ghost use Prim.Native.Nat.{ℕ, _<_, _≤_};
@@ -21,23 +21,19 @@ ghost use Rattle.presentation.specs.Outcome.{Concluded, ReadText};
 pub struct ReadPresentation {
     pub n: usize,
     pub primes: Row,
-    pub words: Words,
+    pub rows: Rows,
 }
 
-pub fn make(n: usize, primes: Row, rows: Words) -> ReadPresentation
-    ensures { λ r. ⌜ (r .n ≡ n) × (r .primes ≡ primes) × (r .words ≡ rows) ⌝ }
+pub fn make(n: usize, primes: Row, rows: Rows) -> ReadPresentation
+    ensures { λ r. ⌜ (r .n ≡ n) × (r .primes ≡ primes) × (r .rows ≡ rows) ⌝ }
 {
-    ReadPresentation {
-        n,
-        primes,
-        words: rows,
-    }
+    ReadPresentation { n, primes, rows }
 }
 
-pub fn words_of(p: ReadPresentation) -> Words
-    ensures { λ r. ⌜ r ≡ p .words ⌝ }
+pub fn rows_of(p: ReadPresentation) -> Rows
+    ensures { λ r. ⌜ r ≡ p .rows ⌝ }
 {
-    p.words
+    p.rows
 }
 
 // What reading a text leaves: the number of a refusal, or 0 and the presentation.
@@ -58,7 +54,7 @@ fn refused(status: u32) -> Outcome
 }
 
 // Refusals 13 and 14 on what was kept of a text with n generators.
-fn conclude(n: usize, rows: Words, ps: [u32; PAIRS]) -> Outcome
+fn conclude(n: usize, rows: Rows, ps: [u32; PAIRS]) -> Outcome
     requires { ⌜ n ≤ maxGenerators ⌝ }
     requires { ⌜ ((j : ℕ) → j < n → 0 < getD ps (pairNumber j j) 0) ⌝ }
     ensures { λ r. ⌜ Concluded n rows ps r ⌝ }

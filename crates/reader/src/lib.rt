@@ -11,7 +11,7 @@ use conditions::prime::is_prime;
 use rows::GENERATORS;
 use rows::PAIRS;
 use rows::Row;
-use rows::Words;
+use rows::Rows;
 use text::Read;
 ghost use mathlib.Core.Path.{_≡_};
 ghost use mathlib.Core.Bool.{_&&_};
@@ -150,7 +150,7 @@ fn next_pair(j: u32, i: u32) -> Pair
 }
 
 // Keeps a line, if there is a row for it.
-fn keep(rows: &mut Words, ps: &mut [u32; PAIRS], k: usize, p: u32, e: Row)
+fn keep(rows: &mut Rows, ps: &mut [u32; PAIRS], k: usize, p: u32, e: Row)
     ensures { λ r. ⌜ RowKept (now (rows .entry)) (now (ps .entry)) k p e (now (rows .exit)) (now (ps .exit)) ⌝ }
 {
     if k < PAIRS {
@@ -184,7 +184,7 @@ pub fn read_lines(
     text: &[u8],
     start: usize,
     n: u32,
-    rows: &mut Words,
+    rows: &mut Rows,
     ps: &mut [u32; PAIRS],
 ) -> LinesRead
     requires { ⌜ (start ≤ length (now text)) × (n ≤ largest) × (length (now rows) ≡ pairCount) × (length (now ps) ≡ pairCount) ⌝ }

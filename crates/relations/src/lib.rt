@@ -22,7 +22,7 @@ ghost use Rattle.relations.specs.Tests.{Conjugated, topIn, relationsIn, 
 use definitions::Entry;
 use level::Listed;
 use rows::Row;
-use rows::Words;
+use rows::Rows;
 use seek::Scope;
 
 // ---- One column
@@ -150,7 +150,7 @@ fn carries_over(words: &[u32], s: Scope, d: Listed, e: Listed, k: u32, j: u32, w
 // ---- One representation
 
 // The power relation of generator j.
-fn power_relation(words: &[u32], rows: &Words, primes: &Row, s: Scope, d: Listed, j: u32) -> bool
+fn power_relation(words: &[u32], rows: &Rows, primes: &Row, s: Scope, d: Listed, j: u32) -> bool
     requires { ⌜ MatricesStored s (now words) d × (j < s .gens) ⌝ }
     ensures { λ r. ⌜ Decides (ReadsIn s (now (primes .entry)) (now (rows .entry))) (powerIn s (now (words .entry)) d j) r ⌝ }
 {
@@ -160,7 +160,7 @@ fn power_relation(words: &[u32], rows: &Words, primes: &Row, s: Scope, d: Listed
 }
 
 // The commutator relation of generators k < j.
-fn commutator_relation(words: &[u32], rows: &Words, s: Scope, d: Listed, k: u32, j: u32) -> bool
+fn commutator_relation(words: &[u32], rows: &Rows, s: Scope, d: Listed, k: u32, j: u32) -> bool
     requires { ⌜ MatricesStored s (now words) d × (k < j) × (j < s .gens) ⌝ }
     ensures { λ r. ⌜ Decides (WordIn k j (now (rows .entry))) (commutatorIn s (now (words .entry)) d k j) r ⌝ }
 {
@@ -169,7 +169,7 @@ fn commutator_relation(words: &[u32], rows: &Words, s: Scope, d: Listed, k: u32,
 }
 
 // The relations of generator j with those below it.
-pub fn top_relations(words: &[u32], rows: &Words, primes: &Row, s: Scope, d: Listed, j: u32) -> bool
+pub fn top_relations(words: &[u32], rows: &Rows, primes: &Row, s: Scope, d: Listed, j: u32) -> bool
     requires { ⌜ MatricesStored s (now words) d × (j < s .gens) ⌝ }
     ensures { λ r. ⌜ Decides (ReadsIn s (now (primes .entry)) (now (rows .entry))) (topIn s (now (words .entry)) d j) r ⌝ }
 {
@@ -185,7 +185,7 @@ pub fn top_relations(words: &[u32], rows: &Words, primes: &Row, s: Scope, d: Lis
 }
 
 // The relations of the first i generators.
-pub fn all_relations(words: &[u32], rows: &Words, primes: &Row, s: Scope, d: Listed, i: u32) -> bool
+pub fn all_relations(words: &[u32], rows: &Rows, primes: &Row, s: Scope, d: Listed, i: u32) -> bool
     requires { ⌜ MatricesStored s (now words) d × (i ≤ s .gens) ⌝ }
     ensures { λ r. ⌜ Decides (ReadsIn s (now (primes .entry)) (now (rows .entry))) (relationsIn s (now (words .entry)) d i) r ⌝ }
 {
@@ -198,7 +198,7 @@ pub fn all_relations(words: &[u32], rows: &Words, primes: &Row, s: Scope, d: Lis
 }
 
 // The intertwiner of generator j carries generator k from d to e, of the same degree.
-fn carried(words: &[u32], rows: &Words, s: Scope, d: Listed, e: Listed, k: u32, j: u32) -> bool
+fn carried(words: &[u32], rows: &Rows, s: Scope, d: Listed, e: Listed, k: u32, j: u32) -> bool
     requires { ⌜ MatricesStored s (now words) d × MatricesStored s (now words) e × (e .deg ≡ d .deg) × (k < j) × (j < s .gens) ⌝ }
     ensures { λ r. ⌜ Decides (WordIn k j (now (rows .entry))) (carriesIn s (now (words .entry)) d e k j) r ⌝ }
 {
@@ -207,7 +207,7 @@ fn carried(words: &[u32], rows: &Words, s: Scope, d: Listed, e: Listed, k: u32, 
 }
 
 // The intertwiner of generator j carries every generator of level i from d to e, of the same degree.
-fn all_carried(words: &[u32], rows: &Words, s: Scope, i: u32, d: Listed, e: Listed, j: u32) -> bool
+fn all_carried(words: &[u32], rows: &Rows, s: Scope, i: u32, d: Listed, e: Listed, j: u32) -> bool
     requires { ⌜ MatricesStored s (now words) d × MatricesStored s (now words) e × (e .deg ≡ d .deg) × (i ≤ j) × (j < s .gens) ⌝ }
     ensures { λ r. ⌜ Decides (Spells s (now (rows .entry))) (allCarriedIn s (now (words .entry)) d e i j) r ⌝ }
 {
@@ -228,7 +228,7 @@ fn led_to(words: &[u32], s: Scope, i: u32, d: Listed, j: u32) -> Listed
 }
 
 // The intertwiner of generator j intertwines d, of level i, with the representation to which it leads.
-fn intertwiner(words: &[u32], rows: &Words, s: Scope, i: u32, d: Listed, j: u32) -> bool
+fn intertwiner(words: &[u32], rows: &Rows, s: Scope, i: u32, d: Listed, j: u32) -> bool
     requires { ⌜ Among s (now words) i d × (i ≤ j) × (j < s .gens) ⌝ }
     ensures { λ r. ⌜ Decides (Spells s (now (rows .entry))) (intertwinesIn s (now (words .entry)) d i j) r ⌝ }
 {
@@ -242,7 +242,7 @@ fn intertwiner(words: &[u32], rows: &Words, s: Scope, i: u32, d: Listed, j: u32)
 }
 
 // All intertwiners of d, of level i.
-pub fn all_intertwiners(words: &[u32], rows: &Words, s: Scope, i: u32, d: Listed) -> bool
+pub fn all_intertwiners(words: &[u32], rows: &Rows, s: Scope, i: u32, d: Listed) -> bool
     requires { ⌜ Among s (now words) i d ⌝ }
     ensures { λ r. ⌜ Decides (Spells s (now (rows .entry))) (intertwinersIn s (now (words .entry)) d i) r ⌝ }
 {

@@ -3,7 +3,7 @@
 // lowest generator first. Generators are numbered from 0.
 //
 //   GENERATORS, PAIRS, ORDER     the ceilings on generators and on the order, and the pairs of so many generators
-//   Row, Words                   an exponent, or a prime, for each generator; a row for each pair
+//   Row, Rows                    an exponent, or a prime, for each generator; a row for each pair
 //   wide                         a number as one of 64 bits
 //   pair                         the number of a pair
 //   word                         the word of a pair
@@ -30,7 +30,7 @@ pub const ORDER: u64 = 4096;
 pub type Row = [u32; GENERATORS];
 
 // A row for each pair of generators, picked by the number of the pair.
-pub type Words = [[u32; GENERATORS]; PAIRS];
+pub type Rows = [[u32; GENERATORS]; PAIRS];
 
 // A number as one of 64 bits.
 pub fn wide(x: u32) -> u64
@@ -49,7 +49,7 @@ pub fn pair(j: usize, i: usize) -> usize
 }
 
 // The word of the pair (j, i).
-pub fn word(rows: &Words, j: usize, i: usize) -> Row
+pub fn word(rows: &Rows, j: usize, i: usize) -> Row
     requires { ⌜ (i ≤ j) × (j < maxGenerators) ⌝ }
     ensures { λ r. ⌜ r ≡ getD (now (rows .entry)) (pairNumber j i) [] ⌝ }
 {

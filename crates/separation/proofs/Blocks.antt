@@ -26,7 +26,7 @@ use Rattle.monomial.specs.Exponents.{Exponents}
 use Rattle.monomial.specs.Maps.{Map, maps, Inverse}
 use Rattle.monomial.specs.Families.{Separated, Family}
 use Rattle.monomial.proofs.Exponents.{cancel, lcomm, rcomm}
-use Rattle.monomial.proofs.Maps.{pair, column, at-mul, at-one, maps-laws, inverse-root, inverse-injective}
+use Rattle.monomial.proofs.Maps.{pair, at-column, at-mul, at-one, maps-laws, inverse-root, inverse-injective}
 use Rattle.clifford.specs.Extension.{Extension}
 use Rattle.separation.specs.Blocked.{Blocked}
 
@@ -83,29 +83,29 @@ module _ {G G⁺ : Type 0} {𝓖 : Mul G} {𝓖⁺ : Mul G⁺} {conj : ℕ → G
       let (h, e) = same-block x y q in
       let (g, fg) = before h in
       sym (over-block g ((Z x) .0))
-      ∙ ap (λ z. block (z .0)) (sym (at-mul 𝓔 (l g) Z x) ∙ column 𝓔 (sym (Z-past g) ∙ ap (λ s. Z * l s) fg) x ∙ at-mul 𝓔 Z (l h) x)
+      ∙ ap (λ z. block (z .0)) (sym (at-mul 𝓔 (l g) Z x) ∙ at-column 𝓔 (sym (Z-past g) ∙ ap (λ s. Z * l s) fg) x ∙ at-mul 𝓔 Z (l h) x)
       ∙ ap (λ s. block ((Z s) .0)) e
 
   pub power-block : (e : ℕ) (x y : Ω⁺) → block x ≡ block y → block ((Zᵏ e x) .0) ≡ block ((Zᵏ e y) .0)
   power-block zero x y q = ap (λ z. block (z .0)) (at-zero x) ∙ q ∙ sym (ap (λ z. block (z .0)) (at-zero y))
     where
       at-zero : (x : Ω⁺) → Zᵏ zero x ≡ (x, nil)
-      at-zero x = column 𝓔 (power-zero (maps 𝓔 Ω⁺) Z) x ∙ at-one 𝓔 x
+      at-zero x = at-column 𝓔 (power-zero (maps 𝓔 Ω⁺) Z) x ∙ at-one 𝓔 x
   power-block (suc e) x y q = ap block (at-suc x) ∙ step-block _ _ (power-block e x y q) ∙ sym (ap block (at-suc y))
     where
       at-suc : (x : Ω⁺) → (Zᵏ (suc e) x) .0 ≡ (Z ((Zᵏ e x) .0)) .0
-      at-suc x = ap (λ z. z .0) (column 𝓔 (power-suc (maps 𝓔 Ω⁺) Z e) x ∙ at-mul 𝓔 Z (Zᵏ e) x)
+      at-suc x = ap (λ z. z .0) (at-column 𝓔 (power-suc (maps 𝓔 Ω⁺) Z e) x ∙ at-mul 𝓔 Z (Zᵏ e) x)
 
   pub power-home : (x : Ω⁺) → block ((Zᵏ p x) .0) ≡ block x
-  power-home x = ap (λ z. block (z .0)) (column 𝓔 (sym (power-hom (B .hom) top p) ∙ ap d⁺ (S .top-power)) x) ∙ over-block u x
+  power-home x = ap (λ z. block (z .0)) (at-column 𝓔 (sym (power-hom (B .hom) top p) ∙ ap d⁺ (S .top-power)) x) ∙ over-block u x
 
   power-more : (a b : ℕ) (x : Ω⁺) → (Zᵏ (a + b) x) .0 ≡ (Zᵏ a ((Zᵏ b x) .0)) .0
-  power-more a b x = ap (λ z. z .0) (column 𝓔 (power-add (maps-laws 𝓔) Z a b) x ∙ at-mul 𝓔 (Zᵏ a) (Zᵏ b) x)
+  power-more a b x = ap (λ z. z .0) (at-column 𝓔 (power-add (maps-laws 𝓔) Z a b) x ∙ at-mul 𝓔 (Zᵏ a) (Zᵏ b) x)
 
   -- a power that fixes a block fixes it again and again
   again : (e s : ℕ) (x : Ω⁺) → block ((Zᵏ e x) .0) ≡ block x → block ((Zᵏ (e · s) x) .0) ≡ block x
   again e zero x q = let z : e · 0 ≡ 0 = omega arith in ap (λ k. block ((Zᵏ k x) .0)) z
-      ∙ ap (λ z. block (z .0)) (column 𝓔 (power-zero (maps 𝓔 Ω⁺) Z) x ∙ at-one 𝓔 x)
+      ∙ ap (λ z. block (z .0)) (at-column 𝓔 (power-zero (maps 𝓔 Ω⁺) Z) x ∙ at-one 𝓔 x)
   again e (suc s) x q =
       let z : e · suc s ≡ e + e · s = omega arith in
       ap (λ k. block ((Zᵏ k x) .0)) z ∙ ap block (power-more e (e · s) x) ∙ power-block e _ x (again e s x q) ∙ q
@@ -150,7 +150,7 @@ module _ {G G⁺ : Type 0} {𝓖 : Mul G} {𝓖⁺ : Mul G⁺} {conj : ℕ → G
     where
       fixed : block ((Zᵏ (exponent w) x) .0) ≡ block x
       fixed = sym (power-block (exponent w) _ x (over-block (rest w) x))
-          ∙ ap (λ z. block (z .0)) (sym (at-mul 𝓔 (Zᵏ (exponent w)) (l (rest w)) x) ∙ column 𝓔 (sym (element w)) x) ∙ ap block q
+          ∙ ap (λ z. block (z .0)) (sym (at-mul 𝓔 (Zᵏ (exponent w)) (l (rest w)) x) ∙ at-column 𝓔 (sym (element w)) x) ∙ ap block q
 
       none : Dec (exponent w ≡ 0) → exponent w ≡ 0
       none (yes e) = e
@@ -201,7 +201,7 @@ module _ {G G⁺ : Type 0} {𝓖 : Mul G} {𝓖⁺ : Mul G⁺} {conj : ℕ → G
           let x₁ : Ω⁺ = (Z x) .0 in
           let fixes : l h x₁ ≡ (x₁, t) = pair 𝓔 (known _ x₁ (over-base h x₁ ∙ ap (λ z. z .0) e) (over-block h x₁)) (over-exponent h x₁ ∙ ap (λ z. z .1) e) in
           let line : _≡_ {A = Ω⁺ × E} ((Z ((l (f h) x) .0)) .0, add ((Z ((l (f h) x) .0)) .1) ((l (f h) x) .1)) (x₁, add t ((Z x) .1))
-          = sym (at-mul 𝓔 Z (l (f h)) x) ∙ column 𝓔 (Z-past h) x ∙ at-mul 𝓔 (l h) Z x ∙ ap (λ z. (z .0, add (z .1) ((Z x) .1))) fixes in
+          = sym (at-mul 𝓔 Z (l (f h)) x) ∙ at-column 𝓔 (Z-past h) x ∙ at-mul 𝓔 (l h) Z x ∙ ap (λ z. (z .0, add (z .1) ((Z x) .1))) fixes in
           let stays : (l (f h) x) .0 ≡ x = inverse-injective 𝓔 Z Z-inverse _ x (ap (λ z. z .0) line) in
           let exps : (l (f h) x) .1 ≡ t = cancel 𝓔 ((Z x) .1) _ _ (ap (λ z. add ((Z z) .1) ((l (f h) x) .1)) (sym stays) ∙ ap (λ z. z .1) line ∙ 𝓔 .comm _ _) in
           pair 𝓔 (sym (over-base (f h) x) ∙ ap base stays) (sym (over-exponent (f h) x) ∙ exps)
@@ -233,7 +233,7 @@ module _ {G G⁺ : Type 0} {𝓖 : Mul G} {𝓖⁺ : Mul G⁺} {conj : ℕ → G
       at-image : (x x′ : Ω⁺) (h g : G) → f g ≡ h → (l h x) .0 ≡ x′ → add ((Z x′) .1) ((F .d h (base x)) .1) ≡ add ((F .d g (base ((Z x) .0))) .1) ((Z x) .1)
       at-image x x′ h g fg e =
           ap₂ (λ z t. add ((Z z) .1) t) (sym e) (sym (over-exponent h x))
-          ∙ ap (λ z. z .1) (sym (at-mul 𝓔 Z (l h) x) ∙ column 𝓔 (ap (λ s. Z * l s) (sym fg) ∙ Z-past g) x ∙ at-mul 𝓔 (l g) Z x)
+          ∙ ap (λ z. z .1) (sym (at-mul 𝓔 Z (l h) x) ∙ at-column 𝓔 (ap (λ s. Z * l s) (sym fg) ∙ Z-past g) x ∙ at-mul 𝓔 (l g) Z x)
           ∙ ap (λ t. add t ((Z x) .1)) (over-exponent g ((Z x) .0))
 
   -- ---- Two blocks that stay
@@ -254,7 +254,7 @@ module _ {G G⁺ : Type 0} {𝓖 : Mul G} {𝓖⁺ : Mul G⁺} {conj : ℕ → G
       at : (x : Ω⁺) (h : G) (a b : Ω) → base x ≡ a → base ((Z x) .0) ≡ b → block ((Z x) .0) ≡ block x → (F .d h b) .0 ≡ a
           → d⁺ (𝓖⁺ .mul (low h) top) x ≡ (x, add ((F .d h b) .1) ((Z x) .1))
       at x h a b qa qb bx e =
-          column 𝓔 (B .hom .on-mul (low h) top) x ∙ at-mul 𝓔 (l h) Z x
+          at-column 𝓔 (B .hom .on-mul (low h) top) x ∙ at-mul 𝓔 (l h) Z x
           ∙ pair 𝓔 (known _ x (over-base h ((Z x) .0) ∙ ap (λ z. (F .d h z) .0) qb ∙ e ∙ sym qa) (over-block h ((Z x) .0) ∙ bx))
           (ap (λ t. add t ((Z x) .1)) (over-exponent h ((Z x) .0) ∙ ap (λ z. (F .d h z) .1) qb))
 
@@ -283,7 +283,7 @@ module _ {G G⁺ : Type 0} {𝓖 : Mul G} {𝓖⁺ : Mul G⁺} {conj : ℕ → G
     )
       where
         line : (x : Ω⁺) → Zᵏ zero x ≡ (x, nil)
-        line x = column 𝓔 (power-zero (maps 𝓔 Ω⁺) Z) x ∙ at-one 𝓔 x
+        line x = at-column 𝓔 (power-zero (maps 𝓔 Ω⁺) Z) x ∙ at-one 𝓔 x
 
         at-zero : (x : Ω⁺) → (Zᵏ zero x) .0 ≡ x
         at-zero x = ap (λ z. z .0) (line x)
@@ -302,7 +302,7 @@ module _ {G G⁺ : Type 0} {𝓖 : Mul G} {𝓖⁺ : Mul G⁺} {conj : ℕ → G
         )
       where
         line : (x : Ω⁺) → Zᵏ (suc e) x ≡ ((Z ((Zᵏ e x) .0)) .0, add ((Z ((Zᵏ e x) .0)) .1) ((Zᵏ e x) .1))
-        line x = column 𝓔 (power-suc (maps 𝓔 Ω⁺) Z e) x ∙ at-mul 𝓔 Z (Zᵏ e) x
+        line x = at-column 𝓔 (power-suc (maps 𝓔 Ω⁺) Z e) x ∙ at-mul 𝓔 Z (Zᵏ e) x
 
     pub fixed-together : ¬ Separated 𝓔 Ω⁺ d⁺ x y
     fixed-together s = s .differ (sym (ap (λ z. z .1) (s .fixes)) ∙ alike ∙ ap (λ z. z .1) (s .fixes′))
@@ -318,7 +318,7 @@ module _ {G G⁺ : Type 0} {𝓖 : Mul G} {𝓖⁺ : Mul G⁺} {conj : ℕ → G
         }
 
         line : (x : Ω⁺) → (d⁺ w x) .1 ≡ add ((Zᵏ (exponent w) ((l (rest w) x) .0)) .1) ((l (rest w) x) .1)
-        line x = ap (λ z. z .1) (column 𝓔 (element w) x ∙ at-mul 𝓔 (Zᵏ (exponent w)) (l (rest w)) x)
+        line x = ap (λ z. z .1) (at-column 𝓔 (element w) x ∙ at-mul 𝓔 (Zᵏ (exponent w)) (l (rest w)) x)
 
         alike : (d⁺ w x) .1 ≡ (d⁺ w y) .1
         alike = line x ∙ ap₂ add (pair-power (exponent w) _ _ P .1)
@@ -330,9 +330,9 @@ module _ {G G⁺ : Type 0} {𝓖 : Mul G} {𝓖⁺ : Mul G⁺} {conj : ℕ → G
   reaches e x y q =
       let (h, r) = same-block ((Zᵏ e x) .0) y q in (
         𝓖⁺ .mul (low h) (power 𝓖⁺ top e),
-        ap (λ z. z .0) (column 𝓔 (B .hom .on-mul _ _ ∙ ap (λ z. l h * z) (power-hom (B .hom) top e)) x ∙ at-mul 𝓔 (l h) (Zᵏ e) x) ∙ r,
+        ap (λ z. z .0) (at-column 𝓔 (B .hom .on-mul _ _ ∙ ap (λ z. l h * z) (power-hom (B .hom) top e)) x ∙ at-mul 𝓔 (l h) (Zᵏ e) x) ∙ r,
       )
 
   pub reached-power : (w : G⁺) (x : Ω⁺) → block ((Zᵏ (exponent w) x) .0) ≡ block ((d⁺ w x) .0)
   reached-power w x = sym (power-block (exponent w) _ x (over-block (rest w) x))
-      ∙ ap (λ z. block (z .0)) (sym (at-mul 𝓔 (Zᵏ (exponent w)) (l (rest w)) x) ∙ column 𝓔 (sym (element w)) x)
+      ∙ ap (λ z. block (z .0)) (sym (at-mul 𝓔 (Zᵏ (exponent w)) (l (rest w)) x) ∙ at-column 𝓔 (sym (element w)) x)

@@ -33,7 +33,7 @@ use Rattle.group.proofs.Order.{inverse, inverse-left}
 use Rattle.monomial.specs.Maps.{Map, maps}
 use Rattle.monomial.specs.Families.{Separated, Family}
 use Rattle.monomial.specs.Frames.{Shows}
-use Rattle.monomial.proofs.Maps.{column, at-mul, at-one, maps-laws}
+use Rattle.monomial.proofs.Maps.{at-column, at-mul, at-one, maps-laws}
 use Rattle.monomial.proofs.Residues.{residues}
 use Rattle.monomial.proofs.Frames.{shows-mul, shows-power, shows-value, shown-same}
 use Rattle.clifford.proofs.Basis.{Basis, basis-path, basis-discrete, basis-frame, basis-complete}
@@ -192,7 +192,7 @@ module _ (C : Context) (tests : (k : ℕ) → k < C .P .n → Test C k) (m : ℕ
         inverse C i w,
         ap (λ z. (act (inverse C i w) z) .0) (sym e)
             ∙ ap (λ z. z .0) (sym (at-mul (residues m pos) (act (inverse C i w)) (act w) (start x))
-            ∙ column (residues m pos) (sym (hom .on-mul _ _) ∙ ap act (inverse-left T i l w) ∙ hom .on-one) (start x) ∙ at-one (residues m pos) (start x)),
+            ∙ at-column (residues m pos) (sym (hom .on-mul _ _) ∙ ap act (inverse-left T i l w) ∙ hom .on-one) (start x) ∙ at-one (residues m pos) (start x)),
       )
 
   pub reached : (x y : Basis (levelAt (C .P .n) table i)) → x .0 .0 ≡ y .0 .0 → (w : Nf C i) × ((d C m pos i (levelAt (C .P .n) table i) A w x) .0 ≡ y)
@@ -201,7 +201,7 @@ module _ (C : Context) (tests : (k : ℕ) → k < C .P .n → Test C k) (m : ℕ
       let (a, e) = to-start x in
       let (b, e′) = from-start y in (
         level C i .mul b a,
-        ap (λ z. z .0) (column (residues m pos) (hom .on-mul b a) x ∙ at-mul (residues m pos) (act b) (act a) x)
+        ap (λ z. z .0) (at-column (residues m pos) (hom .on-mul b a) x ∙ at-mul (residues m pos) (act b) (act a) x)
             ∙ ap (λ z. (act b z) .0) (e ∙ basis-path L (start x) (start y) q refl) ∙ e′,
       )
 

@@ -21,7 +21,7 @@ use definitions::Entry;
 use level::Listed;
 use rows::GENERATORS;
 use rows::Row;
-use rows::Words;
+use rows::Rows;
 use survey::Frame;
 
 // The numbers of a row.
@@ -64,7 +64,7 @@ pub fn root(notes: &[u32], f: Frame, r: u32) -> u32
 }
 
 // The number among the extensions of the target to which the intertwiner of generator j leads extension 0 of r.
-fn landing(low: &[u32], rows: &Words, notes: &[u32], f: Frame, d: Listed, j: u32, r: u32) -> u32
+fn landing(low: &[u32], rows: &Rows, notes: &[u32], f: Frame, d: Listed, j: u32, r: u32) -> u32
     requires { ⌜ Lands f (now low) (now rows) (now notes) r d j ⌝ }
     ensures { λ x. ⌜ x ≡ landing (sourceIn f (now (low .entry)) (now (rows .entry))) j r ⌝ }
 {
@@ -81,7 +81,7 @@ fn landing(low: &[u32], rows: &Words, notes: &[u32], f: Frame, d: Listed, j: u32
 
 // Fills, for each generator above the one on top, the number of the first extension of the target of r, and the number
 // among them to which extension 0 goes.
-pub fn find_targets(low: &[u32], rows: &Words, notes: &[u32], targets: &mut [u32], f: Frame, r: u32)
+pub fn find_targets(low: &[u32], rows: &Rows, notes: &[u32], targets: &mut [u32], f: Frame, r: u32)
     requires { ⌜ Surveyed f (now low) (now rows) (now notes) × (r < f .reps) × Fixed f (now low) r × (2 * f .gens ≤ length (now targets)) ⌝ }
     ensures { λ _. ⌜ Aimed f (now (low .entry)) (now (rows .entry)) r (now (targets .exit)) ⌝ }
 {

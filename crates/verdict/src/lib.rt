@@ -16,7 +16,7 @@ fn check_sound(p: ReadPresentation, words: &[u32]) -> u32
 {
     let n = p.n;
     let primes = p.primes;
-    let rows = presentation::words_of(p);
+    let rows = presentation::rows_of(p);
     let s = measure(&primes, n);
     checker::judge(words, &rows, &primes, n as u32, s.order)
 }

@@ -52,7 +52,7 @@ stayed = (stay-none (λ _. usize) yes, (stay-none (λ _. Row) yes, (stay-none (�
 
 module _ {M : Type 1} (𝓤 : URA M) (H : Heap 𝓤) (A : Atoms 𝓤) (W : Given 𝓤 H A) (mem : Memory → SProp 𝓤) (run : Routine → Fun 𝓤) (n : ℕ) (ps : List ℕ) (rows : List (List ℕ)) where
   abbrev h : ReadPresentation
-  h = record { n = n; primes = ps; words = rows }
+  h = record { n = n; primes = ps; rows = rows }
 
   -- the parameters' machine values, and the struct's
   abbrev m₁ : Val

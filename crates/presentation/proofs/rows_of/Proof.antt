@@ -1,4 +1,4 @@
--- `presentation::words_of` meets its contract: a walk of its MIR, by hand. The struct is passed into a local, and the field, an array of arrays, is copied from there.
+-- `presentation::rows_of` meets its contract: a walk of its MIR, by hand. The struct is passed into a local, and the field, an array of arrays, is copied from there.
 -- As a field the array stands at `map` of the identity over its lists, which is the lists, though not by computation (`rows-same`).
 -- Assumes nothing.
 use mathlib.Core.Path.{refl, subst}
@@ -38,10 +38,10 @@ use Rattle.presentation.specs.declared.ReadPresentation.{ReadPresentatio
 use Rattle.presentation.proofs.Nested.{rows-same}
 use Rattle.presentation.proofs.ReadPresentation as struct
 use Rattle.presentation.proofs.ReadPresentation.Laws as struct-laws
-use Rattle.presentation.proofs.words_of.Key.{name}
-use Rattle.presentation.proofs.words_of as f
-use Rattle.presentation.proofs.words_of.Statement as stated
-use Rattle.presentation.proofs.words_of.Code as code
+use Rattle.presentation.proofs.rows_of.Key.{name}
+use Rattle.presentation.proofs.rows_of as f
+use Rattle.presentation.proofs.rows_of.Statement as stated
+use Rattle.presentation.proofs.rows_of.Code as code
 
 abbrev Row : RattleType
 Row = Array u32 maxGenerators
@@ -58,24 +58,24 @@ module _ {M : Type 1} (𝓤 : URA M) (H : Heap 𝓤) (A : Atoms 𝓤) (W : Given
 
   -- the field's machine value
   abbrev part : Val
-  part = arrayVal (map (λ (xs : List ℕ). arrayVal (map (vint w32) xs)) (map (map (λ v. v)) (h .words)))
+  part = arrayVal (map (λ (xs : List ℕ). arrayVal (map (vint w32) xs)) (map (map (λ v. v)) (h .rows)))
 
   abbrev Post : Val → SProp 𝓤
   Post = walkOf 𝓤 H A f.ended stayed (f.clauses 𝓤 H A mem run) .post ((tt, tt, tt, (h, tt), (mach ∷ [], tt)), tt)
 
   -- the field's own relation, and that its value is of the array's MIR type
-  is : Is struct.the-row h (mach ∷ []) → Is Rows (map (map (λ v. v)) (h .words)) (part ∷ [])
+  is : Is struct.the-row h (mach ∷ []) → Is Rows (map (map (λ v. v)) (h .rows)) (part ∷ [])
   is g = LL.owed struct.the-type struct-laws.the-laws h (mach ∷ []) g .1 .1 .0
 
   typed : Is struct.the-row h (mach ∷ []) → T (hasTy (lone (Rows .mir)) part) × WT part
-  typed g = array-lawful 𝓤 H A W Row (array-lawful 𝓤 H A W u32 (uint-lawful 𝓤 H A W w32) maxGenerators) pairCount .typed (map (map (λ v. v)) (h .words)) (part ∷ []) (is g) .0
+  typed g = array-lawful 𝓤 H A W Row (array-lawful 𝓤 H A W u32 (uint-lawful 𝓤 H A W w32) maxGenerators) pairCount .typed (map (map (λ v. v)) (h .rows)) (part ∷ []) (is g) .0
 
   exits : Is struct.the-row h (mach ∷ []) → ent 𝓤 (sem 𝓤 H A (struct.the-row .own h (mach ∷ []))) (Post part)
   exits g =
       qed W (‵ (struct.the-row .own h (mach ∷ [])) ∷ []) ∵
-      suffices ! _ (ends-at 𝓤 H A f.ended stayed (f.clauses 𝓤 H A mem run) W ((tt, tt, tt, (h, tt), (mach ∷ [], tt)), tt) part (h .words) (tt, tt) (tt, tt)) $ says ! refl $
-      nothing ! $ move ! (1 ∷ 0 ∷ []) $ fjoin ! $ owned ! Rows (Is Rows) (array-makes 𝓤 H A W Row (array-makes 𝓤 H A W u32 (uint-makes 𝓤 H A W w32) maxGenerators) pairCount) (h .words) _
-      (subst (λ (xs : List (List ℕ)). Is Rows xs (part ∷ [])) (rows-same (h .words)) (is g)) $ move ! (1 ∷ 0 ∷ []) $ nothing ! $ done !
+      suffices ! _ (ends-at 𝓤 H A f.ended stayed (f.clauses 𝓤 H A mem run) W ((tt, tt, tt, (h, tt), (mach ∷ [], tt)), tt) part (h .rows) (tt, tt) (tt, tt)) $ says ! refl $
+      nothing ! $ move ! (1 ∷ 0 ∷ []) $ fjoin ! $ owned ! Rows (Is Rows) (array-makes 𝓤 H A W Row (array-makes 𝓤 H A W u32 (uint-makes 𝓤 H A W w32) maxGenerators) pairCount) (h .rows) _
+      (subst (λ (xs : List (List ℕ)). Is Rows xs (part ∷ [])) (rows-same (h .rows)) (is g)) $ move ! (1 ∷ 0 ∷ []) $ nothing ! $ done !
 
   module _ (C : Calls 𝓤 H) (Λ : Loops 𝓤 H) where
     walk : Is struct.the-row h (mach ∷ []) → T (hasTy struct-laws.mir mach) × WT mach → ent 𝓤 (onEntry 𝓤 H A f.signature tt tt (h, tt) (mach ∷ [], tt)) (WpFn 𝓤 H C Λ code.function (mach ∷ []) Post)
@@ -96,9 +96,9 @@ meets : {M : Type 1} (𝓤 : URA M) (H : Heap 𝓤) (A : Atoms 𝓤) → Given �
 meets 𝓤 H A W mem run 𝓣 = walk-meets 𝓤 H A f.ended stayed W (goes-none 𝓤 H A W 0 (λ _. struct.the-row) yes (λ κs x f. refl), tt)
     (f.clauses 𝓤 H A mem run) (WpFn 𝓤 H (𝓣 .C) (𝓣 .Λ) code.function) (WpFn-mono 𝓤 H (W .laws) 𝓣 code.function) (walks 𝓤 H A W mem run (𝓣 .C) (𝓣 .Λ))
 
-pub words-of-spec : {M : Type 1} → stated.statement M
+pub rows-of-spec : {M : Type 1} → stated.statement M
 unfolding code.routine tablesOf
-words-of-spec 𝓤 H 𝓜 𝓖 𝓡 =
+rows-of-spec 𝓤 H 𝓜 𝓖 𝓡 =
     entered 𝓤 H (tripleOf 𝓤 H (𝓖 .A) f.signature (f.spec 𝓤 H (𝓖 .A) (𝓜 .mem) (𝓡 .run)))
     (tables 𝓤 H 𝓜 𝓡 code.env .C) (tables 𝓤 H 𝓜 𝓡 code.env .Λ) name code.function (code.unfolded 𝓤 H 𝓜 𝓡)
     (meets 𝓤 H (𝓖 .A) (givenOf 𝓤 H 𝓜 𝓖) (𝓜 .mem) (𝓡 .run) (tablesOf 𝓤 H 𝓜 (tables 𝓤 H 𝓜 𝓡 code.env)))
