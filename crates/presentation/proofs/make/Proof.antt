@@ -19,10 +19,10 @@ use types.Kit.{Given, ‵, _$_, _∵_, !, qed, by, move, keep, suffices, done}
 use types.Run.{look, init, forget, stop, from, load, and-then, no-more, assigns, returns, enter, alloc1, alloc0, params1, pass1, pass0, free1, free0}
 use types.Part.{agg}
 use sound.WpLaws.{WpFn-mono}
-use denote.RattleType.{RattleType, owns}
+use denote.RattleType.{owns}
 use denote.Laws.{Is}
 use denote.Plain.{uint-vals, uint-tells, uint-lawful}
-use denote.Array.{Array, arrayVal, array-vals, array-tells, array-lawful}
+use denote.Array.{arrayVal, array-vals, array-tells, array-lawful}
 use denote.Builtin.{u32, usize}
 use denote.Steps.{owned, nothing}
 use denote.Struct.Laws as LL
@@ -33,19 +33,13 @@ use denote.Triple.Walked.{says, Stays, stay-none, walkOf, goes-none, Walks, ends
 use denote.Exit.{yes}
 use Rattle.definitions.specs.Presentation.{maxGenerators, pairCount}
 use Rattle.presentation.specs.declared.ReadPresentation.{ReadPresentation}
-use Rattle.presentation.proofs.Nested.{rows-same}
+use Rattle.presentation.proofs.Nested.{Row, Rows, rows-same}
 use Rattle.presentation.proofs.ReadPresentation as struct
 use Rattle.presentation.proofs.ReadPresentation.Laws as struct-laws
 use Rattle.presentation.proofs.make.Key.{name}
 use Rattle.presentation.proofs.make as f
 use Rattle.presentation.proofs.make.Statement as stated
 use Rattle.presentation.proofs.make.Code as code
-
-abbrev Row : RattleType
-Row = Array u32 maxGenerators
-
-abbrev Rows : RattleType
-Rows = Array Row pairCount
 
 abbrev stayed : Stays (f.ended .signature .params) (f.ended .kept)
 stayed = (stay-none (λ _. usize) yes, (stay-none (λ _. Row) yes, (stay-none (λ _. Rows) yes, tt)))

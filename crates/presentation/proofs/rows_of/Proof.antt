@@ -20,11 +20,11 @@ use types.Kit.{Given, ‵, _$_, _∵_, !, qed, by, move, keep, fsplit, fjoin, su
 use types.Run.{look, init, forget, stop, fld, from, load, of-opd, assigns, returns, enter, alloc1, alloc0, params1, pass1, pass0, free1, free0}
 use types.Part.{whole, sub, look-in}
 use sound.WpLaws.{WpFn-mono}
-use denote.RattleType.{RattleType, owns}
+use denote.RattleType.{owns}
 use denote.Laws.{Is}
 use denote.Memory.{lone}
 use denote.Plain.{uint-makes, uint-lawful}
-use denote.Array.{Array, arrayVal, array-makes, array-lawful}
+use denote.Array.{arrayVal, array-makes, array-lawful}
 use denote.Builtin.{u32}
 use denote.Steps.{owned, nothing}
 use denote.Struct.Laws as LL
@@ -35,19 +35,13 @@ use denote.Triple.Walked.{says, Stays, stay-none, walkOf, goes-none, Walks, ends
 use denote.Exit.{yes}
 use Rattle.definitions.specs.Presentation.{maxGenerators, pairCount}
 use Rattle.presentation.specs.declared.ReadPresentation.{ReadPresentation}
-use Rattle.presentation.proofs.Nested.{rows-same}
+use Rattle.presentation.proofs.Nested.{Row, Rows, rows-same}
 use Rattle.presentation.proofs.ReadPresentation as struct
 use Rattle.presentation.proofs.ReadPresentation.Laws as struct-laws
 use Rattle.presentation.proofs.rows_of.Key.{name}
 use Rattle.presentation.proofs.rows_of as f
 use Rattle.presentation.proofs.rows_of.Statement as stated
 use Rattle.presentation.proofs.rows_of.Code as code
-
-abbrev Row : RattleType
-Row = Array u32 maxGenerators
-
-abbrev Rows : RattleType
-Rows = Array Row pairCount
 
 abbrev stayed : Stays (f.ended .signature .params) (f.ended .kept)
 stayed = (stay-none (λ _. struct.the-row) yes, tt)
