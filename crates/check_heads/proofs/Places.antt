@@ -4,7 +4,8 @@
 --   two-same                       two words that are one number
 --   head-other, head-kind, head-last     the head of a line, by words that are told two by two
 --   Columned, columned-none, columned-room, columned-more, columned-fails, columned-all     the lines of a column, one after the other
---   columns-are, column-room, first-other     all columns are all generators; their lines are there; the first has another number
+--   all-across, columns-are        tests in columns are tests in rows; all columns are all generators
+--   column-room, first-other       the lines of a column are there; the first line has another number
 --   single-is                      the line of a generator where the degree is 1
 --   product-fits                   a product of two words
 --   Sizes, size-told, size-last    what is asked of a size, and its last test

@@ -32,7 +32,8 @@ returns c =
     let at-word = at-wide .before in
     let z = at-word .before .before in
     let a = z .args in
-    first-other (now (a .words)) (a .p) (a .d .line) (a .d .deg) (a .n) (z .pre .1) (z .pre .2) (at-wide .wide .ensures .0 ∙ at-word .word-at .ensures) (c .if1 .taken)
+    first-other (now (a .words)) (a .p) (a .d .line) (a .d .deg) (a .n) (z .pre .1) (z .pre .2)
+    (at-wide .wide .ensures .0 ∙ at-word .word-at .ensures) (c .if1 .taken)
 
 loop-holds : tie.Need-loop-holds Inv-loop μ-loop
 loop-holds c = (omega arith, tested-none)

@@ -97,8 +97,10 @@ loop-again c =
     let a = z .args in
     let ok = sym (at-entry .entry-ok .ensures) ∙ not-false (at-entry .entry-ok .result) (at-word .before .if1 .left) in
     let low = entry-low (a .m) (a .d) _ ok in
-    let row = at-up .up2 .ensures ∙ at-word .word-at .ensures in
-    (seen-more (now (a .words)) (a .at) (l .loop .inv .0) _ row (omega (arith, low, z .pre .1, row)) (omega (arith, c .if2 .left)), tested-more (l .loop .inv .1) ok)
+    let row = at-up .up2 .ensures ∙ at-word .word-at .ensures in (
+      seen-more (now (a .words)) (a .at) (l .loop .inv .0) _ row (omega (arith, low, z .pre .1, row)) (omega (arith, c .if2 .left)),
+      tested-more (l .loop .inv .1) ok,
+    )
 
 returns-3 : tie.Need-returns-3 Inv-loop μ-loop
 returns-3 c =

@@ -43,8 +43,8 @@ returns-4 c =
     let at-if3 = c .before in
     let at-entries = at-if3 .before in
     let a = at-entries .before .before .before .before .before .args in
-    c .rows-found .ensures
-    ∙ matrix-rows (a .m) (now (a .words)) (a .at) (a .d) (sym (at-entries .entries-ok .ensures) ∙ not-false (at-entries .entries-ok .result) (at-if3 .if3 .left))
+    let ok = sym (at-entries .entries-ok .ensures) ∙ not-false (at-entries .entries-ok .result) (at-if3 .if3 .left) in
+    c .rows-found .ensures ∙ matrix-rows (a .m) (now (a .words)) (a .at) (a .d) ok
 
 pub matrix-ok-spec : {M : Type 1} → statement M
 matrix-ok-spec =
