@@ -30,7 +30,8 @@ use Rattle.clifford.proofs.Scalars.{parts, σ, σ-fixed, q̂}
 use Rattle.clifford.proofs.Extensions.{E, Φ, 𝓢, first, first-rep, l-is, fixed-shows}
 use Rattle.clifford.proofs.Next.{target-below, target-fixed}
 use Rattle.clifford.proofs.Formulas.{less-back, share-is}
-use Rattle.agreement.proofs.Entries.{Sc, Z, stand, move, move-mul, act-shows, iter-shows, walk-shows, origin, origin-rep, origin-stands, origin-moves, stand-exp, shift-is}
+use Rattle.agreement.proofs.Entries.{Sc, Z, stand, move, move-mul, act-shows, iter-shows, walk-shows, origin, origin-rep, origin-stands, origin-moves}
+use Rattle.agreement.proofs.Entries.{stand-exp, shift-is}
 
 module _ (R : Rung) where
   open Rung R using (T, m, pos, i, L, Ω, F, stands)

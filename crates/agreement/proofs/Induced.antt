@@ -37,7 +37,8 @@ use Rattle.clifford.proofs.Extensions.{E, 𝓢, first, first-rep}
 use Rattle.clifford.proofs.Inductions.{Member, member, position-of, position-mod}
 use Rattle.clifford.proofs.Intertwiners.{block-after, member-of, at-block, left-shows}
 use Rattle.monomial.proofs.Schur.{rep-power}
-use Rattle.agreement.proofs.Entries.{Sc, Z, stand, move, move-mul, move-one, act-shows, walk-shows, origin, origin-rep, origin-stands, origin-moves, stand-exp, turn-same, shift-is}
+use Rattle.agreement.proofs.Entries.{Sc, Z, stand, move, move-mul, move-one, act-shows, walk-shows, origin, origin-rep, origin-stands, origin-moves}
+use Rattle.agreement.proofs.Entries.{stand-exp, turn-same, shift-is}
 use Rattle.agreement.proofs.Extended.{plus-move}
 
 module _ (R : Rung) where

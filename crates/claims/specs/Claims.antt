@@ -11,7 +11,7 @@
 --   Took f last M N            f was free or is `last`, and is marked whole in N
 --   TookAll D M N              so for all references of D
 --   Shares f x M N S U         f was not claimed whole nor slot x at all, and both are marked in N and U
---   Claimed i p part D M N S U     what D claims was free in M and S, and is marked in N and U
+--   Claimed i p part D M N S U, ClaimedIn      what D claims was free in M and S, and is marked in N and U
 use mathlib.Core.Path.{_≡_}
 use mathlib.Core.Bool.{Bool, true, false}
 use mathlib.Core.List.{List}
@@ -20,6 +20,8 @@ use lib.Dec.{eqb}
 use lib.ListN.{length, getD}
 use Rattle.definitions.specs.Lists.{allBelow}
 use Rattle.definitions.specs.Monomial.{col, Rep, Level, repOf}
+use Rattle.level.specs.declared.Listed.{Listed}
+use Rattle.seek.specs.Among.{repIn}
 
 -- ---- A level
 
@@ -76,3 +78,7 @@ pub record Shares (f x : ℕ) (M N S U : List ℕ) : Type 0 where
 pub record Claimed (i p part : ℕ) (D : Rep) (M N S U : List ℕ) : Type 0 where
   pub one : oneReference D ≡ true → Shares (D .ref 0 0) (slotOf i p part D) M N S U
   pub many : oneReference D ≡ false → TookAll D M N × (U ≡ S)
+
+-- the same of the representation at some lines of a table
+abbrev pub ClaimedIn : List ℕ → (i p part : ℕ) → Listed → (M N S U : List ℕ) → Type 0
+ClaimedIn T i p part D M N S U = Claimed i p part (repIn T D) M N S U

@@ -14,7 +14,7 @@ ghost use lib.ListN.{length};
 ghost use Rattle.definitions.specs.Table.{levelAt};
 ghost use Rattle.seek.specs.Seek.{Whole, HasLines};
 ghost use Rattle.seek.specs.Among.{repIn};
-ghost use Rattle.claims.specs.Claims.{oneReference, Took, TookAll, Shares, Claimed, FirstClash};
+ghost use Rattle.claims.specs.Claims.{oneReference, Took, TookAll, Shares, ClaimedIn, FirstClash};
 use level::Listed;
 use seek::Scope;
 
@@ -119,7 +119,7 @@ pub fn claim(
     slots: &mut [u8],
 ) -> bool
     requires { ⌜ HasLines (now words) i d × (0 < part) ⌝ }
-    ensures { λ r. ⌜ (r ≡ true → Claimed i p part (repIn (now (words .entry)) d) (now (marks .entry)) (now (marks .exit)) (now (slots .entry)) (now (slots .exit))) ⌝ }
+    ensures { λ r. ⌜ (r ≡ true → ClaimedIn (now (words .entry)) i p part d (now (marks .entry)) (now (marks .exit)) (now (slots .entry)) (now (slots .exit))) ⌝ }
 {
     if !one_reference(words, d) {
         return take_all(words, d, marks);

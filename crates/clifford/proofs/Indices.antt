@@ -23,10 +23,12 @@ use Rattle.definitions.specs.Monomial.{Rep, repOf}
 use Rattle.definitions.specs.Steps
 use Rattle.numbers.proofs.Bools.{cond-eq, cond-ne}
 use Rattle.numbers.proofs.Sums.{stretch-one, stretch-below}
-use Rattle.numbers.proofs.Orbits.{leader, position, iter-below, iter-moved, leader-below, leader-leader, leader-iter, leader-fixed, leader-moved, position-below, position-back, position-is}
+use Rattle.numbers.proofs.Orbits.{leader, position, iter-below, iter-moved, leader-below, leader-leader, leader-iter, leader-fixed, leader-moved}
+use Rattle.numbers.proofs.Orbits.{position-below, position-back, position-is}
 use Rattle.monomial.specs.Frames.{Layout, Complete}
 use Rattle.clifford.specs.Stands.{frame, Stands, Rung}
-use Rattle.clifford.proofs.Numbering.{p, N, deg, rep, τ, O, rep-below, made, next, next-length, made-fixed, made-leader, given-fixed, given-moved, made-of, made-of-fixed, GivenBy, source, degree-iter, degree-leader}
+use Rattle.clifford.proofs.Numbering.{p, N, deg, rep, τ, O, rep-below, made, next, next-length, made-fixed, made-leader, given-fixed, given-moved}
+use Rattle.clifford.proofs.Numbering.{made-of, made-of-fixed, GivenBy, source, degree-iter, degree-leader}
 
 module _ (R : Rung) where
   open Rung R using (T, m, pos, i, L, Ω, F, stands)

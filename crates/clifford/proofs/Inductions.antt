@@ -28,7 +28,8 @@ use Rattle.numbers.proofs.Bools.{cond-eq, cond-ne, cond-lt, cond-ge}
 use Rattle.numbers.proofs.Lists.{below-suc, iter-zero, iter-suc}
 use Rattle.numbers.proofs.Iterates.{iter-out}
 use Rattle.numbers.proofs.Blocks.{blocks-suc, blocks-below, length-even, getD-even}
-use Rattle.numbers.proofs.Orbits.{leader, position, iter-below, iter-mod, iter-moved, leader-iter, leader-fixed, leader-moved, position-below, position-back, position-is}
+use Rattle.numbers.proofs.Orbits.{leader, position, iter-below, iter-mod, iter-moved, leader-iter, leader-fixed, leader-moved, position-below, position-back}
+use Rattle.numbers.proofs.Orbits.{position-is}
 use Rattle.group.specs.Context.{Context}
 use Rattle.group.proofs.Values.{power-zero, power-suc}
 use Rattle.group.proofs.Level.{genNf, uNf}

@@ -29,13 +29,15 @@ use Rattle.monomial.proofs.Exponents.{lcomm, neg-of, total-zero, total-suc}
 use Rattle.monomial.proofs.Residues.{residues, add-value, nil-value, less-value, less-mod}
 use Rattle.monomial.proofs.Frames.{entry-path, shows-mul}
 use Rattle.clifford.specs.Stands.{Stands, Rung}
-use Rattle.clifford.proofs.Numbering.{P, p, N, deg, rep, τ, S, ready, O, rep-below, firstOf-column, target-same, leader-same, position-same, degree-leader}
+use Rattle.clifford.proofs.Numbering.{P, p, N, deg, rep, τ, S, ready, O, rep-below, firstOf-column, target-same, leader-same, position-same}
+use Rattle.clifford.proofs.Numbering.{degree-leader}
 use Rattle.clifford.proofs.Indices.{wide}
 use Rattle.clifford.proofs.Top.{Y, φ, φ-maps, q, q-eq}
 use Rattle.clifford.proofs.Scalars.{q̂, q-first, c, c-moved}
 use Rattle.clifford.proofs.Extensions.{E, 𝓢, first, first-rep, conjugate-shows}
 use Rattle.clifford.proofs.Next.{target-below, target-moved, target-orbit}
-use Rattle.clifford.proofs.Inductions.{lift-col, lift-length, scale-col, scale-length, Ψ, spread-moved, Member, member, position-of, position-mod, shows-blocks, orb, orb-back, orb-below, orb-degree, induced-shows, cycle-shows}
+use Rattle.clifford.proofs.Inductions.{lift-col, lift-length, scale-col, scale-length, Ψ, spread-moved, Member, member, position-of, position-mod}
+use Rattle.clifford.proofs.Inductions.{shows-blocks, orb, orb-back, orb-below, orb-degree, induced-shows, cycle-shows}
 
 module _ (R : Rung) where
   open Rung R using (T, m, pos, i, L, Ω, F, stands)

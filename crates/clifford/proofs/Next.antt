@@ -21,7 +21,8 @@ use Rattle.numbers.proofs.Bools.{cond-false}
 use Rattle.numbers.proofs.Lists.{iter-zero, iter-add}
 use Rattle.numbers.proofs.Iterates.{iter-out}
 use Rattle.numbers.proofs.Sums.{stretch-one}
-use Rattle.numbers.proofs.Orbits.{leader, position, unit-onto, iter-below, iter-mod, leader-below, leader-iter, leader-fixed, leader-moved, leader-reaches, position-below, position-back}
+use Rattle.numbers.proofs.Orbits.{leader, position, unit-onto, iter-below, iter-mod, leader-below, leader-iter, leader-fixed, leader-moved, leader-reaches}
+use Rattle.numbers.proofs.Orbits.{position-below, position-back}
 use Rattle.group.specs.Context.{Context, Nf}
 use Rattle.group.proofs.Level.{level, conjNf}
 use Rattle.monomial.specs.Maps.{Map, maps}

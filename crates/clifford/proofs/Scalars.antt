@@ -20,7 +20,8 @@ use Rattle.definitions.specs.Presentation.{Mul, power}
 use Rattle.numbers.proofs.Bools.{cond-eq, cond-ne}
 use Rattle.numbers.proofs.Lists.{iter-zero, iter-suc, iter-fix}
 use Rattle.numbers.proofs.Iterates.{iter-iter}
-use Rattle.numbers.proofs.Orbits.{Orbits, leader, position, paces, iter-mod, iter-moved, leader-below, leader-iter, position-below, position-iter, paces-below, paces-back, paces-next}
+use Rattle.numbers.proofs.Orbits.{Orbits, leader, position, paces, iter-mod, iter-moved, leader-below, leader-iter, position-below, position-iter, paces-below}
+use Rattle.numbers.proofs.Orbits.{paces-back, paces-next}
 use Rattle.monomial.specs.Exponents.{Exponents, total, times, Residue, Parts}
 use Rattle.monomial.specs.Maps.{maps}
 use Rattle.monomial.specs.Families.{Family}

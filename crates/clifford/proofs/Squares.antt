@@ -14,10 +14,13 @@ use Rattle.definitions.specs.Presentation.{order}
 use Rattle.definitions.specs.Monomial.{Rep, repOf}
 use Rattle.definitions.specs.Steps
 use Rattle.numbers.proofs.Lists.{iter-add, iter-fix}
-use Rattle.numbers.proofs.Sums.{sum-zero, sum-suc, sum-below, sum-plus, sum-mul, sum-const, sum-swap, sum-single, sum-stretches, chosen, chosen-same, chosen-other, sum-permuted}
-use Rattle.numbers.proofs.Orbits.{Orbits, Moved, leader, position, iter-below, iter-mod, iter-moved, leader-below, leader-iter, position-below, position-back, moved-distinct}
+use Rattle.numbers.proofs.Sums.{sum-zero, sum-suc, sum-below, sum-plus, sum-mul, sum-const, sum-swap, sum-single, sum-stretches, chosen, chosen-same}
+use Rattle.numbers.proofs.Sums.{chosen-other, sum-permuted}
+use Rattle.numbers.proofs.Orbits.{Orbits, Moved, leader, position, iter-below, iter-mod, iter-moved, leader-below, leader-iter, position-below, position-back}
+use Rattle.numbers.proofs.Orbits.{moved-distinct}
 use Rattle.clifford.specs.Stands.{Rung}
-use Rattle.clifford.proofs.Numbering.{P, p, N, deg, τ, O, fixed-yes, fixed-no, made, next, next-length, made-fixed, made-leader, made-other, given-fixed, given-moved, degree-iter}
+use Rattle.clifford.proofs.Numbering.{P, p, N, deg, τ, O, fixed-yes, fixed-no, made, next, next-length, made-fixed, made-leader, made-other, given-fixed}
+use Rattle.clifford.proofs.Numbering.{given-moved, degree-iter}
 
 -- ---- Orbits
 

@@ -23,7 +23,8 @@ use Rattle.rows.proofs.Forms.{small-below, ready-below, prime-fits, small-set, 
 use Rattle.rows.proofs.Parts.{kept-all, kept-then, mixed-kept, kept-stacked, stored-kept}
 use Rattle.commuting.specs.Commuting.{KeepsFrom, Reach}
 use Rattle.commuting.proofs.Skips.{quiet-below, moved-reach}
-use Rattle.collector.specs.Products.{Prepared, Factors, Conjugand, Product, Image, Conjugate, Power, Turned, MultipliedInPlace, CarriedInPlace, TurnedInPlace}
+use Rattle.collector.specs.Products.{Prepared, Factors, Conjugand, Product, Image, Conjugate, Power, Turned, MultipliedInPlace, CarriedInPlace}
+use Rattle.collector.specs.Products.{TurnedInPlace}
 use Rattle.collector.proofs.Steps.{turned-fixed, turned-same, product-same, product-left, product-none, product-low-at, product-high-at}
 use Rattle.collector.proofs.Steps.{power-once, conjugate-none, conjugate-up, conjugate-moves, commutator-small}
 

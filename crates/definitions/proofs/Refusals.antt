@@ -25,7 +25,8 @@ use lib.Dec.{ltb}
 use borrow.Author.Tests.{ltb-true}
 use Rattle.definitions.specs.Text.{Bytes}
 use Rattle.definitions.specs.Presentation.{Presentation, Relations, Says, presentation}
-use Rattle.definitions.specs.Answers.{First, firstOf, says, presentationRefusals, short, buildRefusals, judgements, tableRefusals, checkRefusals, judgement, readRefusals, writeRefusals, Accept}
+use Rattle.definitions.specs.Answers.{First, firstOf, says, presentationRefusals, short, buildRefusals, judgements, tableRefusals, checkRefusals}
+use Rattle.definitions.specs.Answers.{judgement, readRefusals, writeRefusals, Accept}
 use Rattle.definitions.proofs.Rendering.{and-left, and-right, says-unique}
 
 pub first-unique : (cs : List (ℕ × Type 0)) (a b : ℕ) → First cs a → First cs b → a ≡ b

@@ -22,7 +22,8 @@ use Rattle.definitions.specs.Presentation.{tooLarge, allowed, rowWell, m
 use Rattle.definitions.specs.Consistency.{gen, inv, word, forth, back, power-relation, commutator-relation, gen-inv, Chain, done, link, Consistent, carry}
 use Rattle.definitions.specs.Consistency.{mulStep, conjStep, arithmeticStep, arithmetic, generator, sameForm, keepsPowers, keepsCommutators, fixesPower}
 use Rattle.definitions.specs.Consistency.{powerIsInner, levelTest, test}
-use Rattle.definitions.specs.Monomial.{Matrix, col, identity, less, act, product, scale, inverse, valid, sameEntry, sameMatrix, Rep, repOf, image, conjugate}
+use Rattle.definitions.specs.Monomial.{Matrix, col, identity, less, act, product, scale, inverse, valid, sameEntry, sameMatrix, Rep, repOf, image}
+use Rattle.definitions.specs.Monomial.{conjugate}
 use Rattle.definitions.specs.Table.{lineOf, repWords, levelWords, wordAt, lineCount, begins, degrees, columns, firstLine, repAt, levelZero, levelAt}
 use Rattle.definitions.specs.Table.{complete, tableNames, rowsOf, tableText, writable}
 use Rattle.definitions.specs.Steps.{lift, fixed, orbit, leader, position, made, start, s, extended, l, a, extension, along, lastBlock, blockDiagonal}

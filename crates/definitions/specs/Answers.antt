@@ -23,7 +23,8 @@ use mathlib.Core.List.{List, [], _∷_, _++_, map}
 use lib.ListN.{length, drop}
 use lib.Dec.{eqb}
 use Rattle.definitions.specs.Text.{Bytes}
-use Rattle.definitions.specs.Presentation.{lineWords, Presentation, order, buildWords, Relations, Says, InForm, presentation, someNotPrime, tooLarge, misused}
+use Rattle.definitions.specs.Presentation.{lineWords, Presentation, order, buildWords, Relations, Says, InForm, presentation, someNotPrime, tooLarge}
+use Rattle.definitions.specs.Presentation.{misused}
 use Rattle.definitions.specs.Consistency.{Consistent}
 use Rattle.definitions.specs.Table.{lineCount, tableText, writable}
 use Rattle.definitions.specs.Steps.{tableOf}

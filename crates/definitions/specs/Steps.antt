@@ -18,7 +18,8 @@ use lib.Dec.{eqb, ltb, leb}
 use Rattle.definitions.specs.declared.Entry.{Entry}
 use Rattle.definitions.specs.Lists.{upto, blocks, sum, anyBelow, least, iter}
 use Rattle.definitions.specs.Presentation.{Presentation, order, power}
-use Rattle.definitions.specs.Monomial.{Matrix, entry, col, identity, less, product, scale, inverse, matrices, sameMatrix, Rep, Level, repOf, image, conjugate}
+use Rattle.definitions.specs.Monomial.{Matrix, entry, col, identity, less, product, scale, inverse, matrices, sameMatrix, Rep, Level, repOf, image}
+use Rattle.definitions.specs.Monomial.{conjugate}
 use Rattle.definitions.specs.Table.{levelZero, levelWords}
 
 -- the rows of M moved up by o

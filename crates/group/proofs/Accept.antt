@@ -26,7 +26,8 @@ use Rattle.group.proofs.Sound.{Valued, sound}
 use Rattle.group.proofs.Level.{Nf-path, level, conjNf, uNf, genNf, low, top, gen-low, gen-top}
 use Rattle.group.proofs.Group.{imageNf, Test, TestedContext, group, Group}
 use Rattle.group.proofs.Order.{inverse, inverse-left, inverse-right, undo-left}
-use Rattle.group.proofs.Free.{Class, classes, classes-laws, classes-satisfy, genClass, invClass, gen-inv-class, inv-gen-class, class-value, class-joined, free}
+use Rattle.group.proofs.Free.{Class, classes, classes-laws, classes-satisfy, genClass, invClass, gen-inv-class, inv-gen-class, class-value, class-joined}
+use Rattle.group.proofs.Free.{free}
 use Rattle.group.proofs.Tests.{holds-test, testedBelow}
 
 pub test-level : (P : Presentation) → test P ≡ true → (i : ℕ) → i < P .n → levelTest P i ≡ true

@@ -15,7 +15,8 @@ use Prim.Native.Nat.{ℕ, zero, suc, _<_}
 use native.Mathlib.Omega.{arith}
 use lib.ListN.{replicate}
 use Rattle.definitions.specs.Presentation.{NF, Presentation, Mul, power, value}
-use Rattle.definitions.specs.Consistency.{Letter, gen, inv, Word, word, Sides, power-relation, commutator-relation, gen-inv, inv-gen, Step, forth, back, Chain, done, link}
+use Rattle.definitions.specs.Consistency.{Letter, gen, inv, Word, word, Sides, power-relation, commutator-relation, gen-inv, inv-gen, Step, forth, back, Chain}
+use Rattle.definitions.specs.Consistency.{done, link}
 use Rattle.group.specs.Models.{Laws, Satisfies, Model}
 use Rattle.group.proofs.Values.{power-zero, power-suc}
 

@@ -23,7 +23,8 @@ use Rattle.group.proofs.Clauses.{mulStep-below, mul-suc}
 use Rattle.group.proofs.Sound.{sound}
 use Rattle.group.proofs.Cyclic.{Cyclic}
 use Rattle.group.proofs.Units.{conj-trivial, mul-top-below, mul-top-over, power-generator}
-use Rattle.group.proofs.Level.{forget, Nf-path, trivial-valid, level, conjNf, uNf, wNf, genNf, low, top, low-hom, gen-low, gen-top, low-value, conj-clause, laws-suc}
+use Rattle.group.proofs.Level.{forget, Nf-path, trivial-valid, level, conjNf, uNf, wNf, genNf, low, top, low-hom, gen-low, gen-top, low-value}
+use Rattle.group.proofs.Level.{conj-clause, laws-suc}
 
 module _ (C : Context) where
   open Context C using (P, two)

@@ -17,9 +17,11 @@ use borrow.Author.Tests.{lt-ltb, le-ltb, leb-true, leb-false}
 use Rattle.definitions.specs.Lists.{all}
 use Rattle.definitions.specs.Text.{Bytes, line, render}
 use Rattle.definitions.specs.Presentation.{maxGenerators, maxOrder, pairCount}
-use Rattle.definitions.specs.Presentation.{Relations, Says, InForm, textOf, presentationNames, pairs, pairNumber, rowOf, presentation, order, isPrime, someNotPrime, tooLarge, misused, rowWell}
+use Rattle.definitions.specs.Presentation.{Relations, Says, InForm, textOf, presentationNames, pairs, pairNumber, rowOf, presentation, order, isPrime}
+use Rattle.definitions.specs.Presentation.{someNotPrime, tooLarge, misused, rowWell}
 use Rattle.definitions.specs.Answers.{says}
-use Rattle.definitions.proofs.Rendering.{rowFormed, wellFormed-formed, formed-wellFormed, line-unique, presentationNames-fields, presentationNames-injective, says-unique}
+use Rattle.definitions.proofs.Rendering.{rowFormed, wellFormed-formed, formed-wellFormed, line-unique, presentationNames-fields, presentationNames-injective}
+use Rattle.definitions.proofs.Rendering.{says-unique}
 use Rattle.numbers.proofs.Lists.{allBelow-intro, allBelow-fails, allBelow-below}
 use Rattle.group.proofs.Pairs.{length-pairs, pairNumber-below}
 use Rattle.group.proofs.Rows.{toNF-ext}

@@ -3,7 +3,8 @@
 --   Whole s T            the lines of T are those of a complete table with so many generators
 --   Found n T i r D      D is representation r of level i
 --   Follows n T D        and another stands behind it on its level
---   HasLines T i D           the lines of D for the generators up to i stand in the words
+--   NextOf n T D E       E is the one behind D, on whatever level D is
+--   HasLines T i D       the lines of D for the generators up to i stand in the words
 use mathlib.Core.Path.{_≡_}
 use mathlib.Core.Bool.{true}
 use mathlib.Core.List.{List}
@@ -36,6 +37,9 @@ pub record Follows (n : ℕ) (T : List ℕ) (D : Listed) : Type 0 where
   pub r : ℕ
   pub here : Found n T i r D
   pub more : suc r < length (levelAt n T i)
+
+abbrev pub NextOf : (n : ℕ) (T : List ℕ) (D E : Listed) → Type 0
+NextOf n T D E = (i r : ℕ) → Found n T i r D → suc r < length (levelAt n T i) → Found n T i (suc r) E
 
 pub record HasLines (T : List ℕ) (i : ℕ) (D : Listed) : Type 0 where
   pub positive : 0 < D .deg

@@ -13,13 +13,13 @@
 //   count_of         how many representations a level has, level 0 too
 ghost use mathlib.Core.Path.{_≡_};
 ghost use mathlib.Core.Bool.{true};
-ghost use Prim.Native.Nat.{ℕ, suc, _+_, _*_, _-_, _≤_, _<_};
+ghost use Prim.Native.Nat.{_+_, _*_, _-_, _≤_, _<_};
 ghost use lib.ListN.{length};
 ghost use Rattle.definitions.specs.Presentation.{maxGenerators, maxOrder};
 ghost use Rattle.definitions.specs.Monomial.{repOf};
 ghost use Rattle.definitions.specs.Table.{REP, wordAt, lineCount, levelAt, firstLine};
 ghost use Rattle.heads.specs.Order.{before, Split, Splits};
-ghost use Rattle.seek.specs.Seek.{Whole, Found, Follows};
+ghost use Rattle.seek.specs.Seek.{Whole, Found, Follows, NextOf};
 use level::Listed;
 
 // No degree of a right table is above the one, and no two numbers of representations are further apart than the other.
@@ -169,7 +169,7 @@ pub fn start_of(words: &[u32], s: Scope, i: u32) -> usize
 // The representation behind d on its level.
 pub fn following(words: &[u32], s: Scope, d: Listed) -> Listed
     requires { ⌜ Whole s (now words) × Follows (s .gens) (now words) d ⌝ }
-    ensures { λ t. ⌜ ((i r : ℕ) → Found (s .gens) (now (words .entry)) i r d → suc r < length (levelAt (s .gens) (now (words .entry)) i) → Found (s .gens) (now (words .entry)) i (suc r) t) ⌝ }
+    ensures { λ t. ⌜ NextOf (s .gens) (now (words .entry)) d t ⌝ }
 {
     level::representation(words, level::matrix_line(d, s.gens))
 }

@@ -32,7 +32,8 @@ use Rattle.clifford.proofs.Separates.{separates-from}
 use Rattle.separation.proofs.Cutting.{all-both, cut, cut-zero, cut-one, cuts-each, cuts-all}
 use Rattle.separation.proofs.Restricted.{Two, P, Low, High, Rp, S, Ω⁺, F, passing, all-pass, wide, locate, base, blocked, block-known}
 use Rattle.separation.proofs.Blocks as B
-use Rattle.separation.proofs.Numbers.{count, starts, passes-at, begins-below, block-below, count-pos, at-block, at-located, first-index, first-located, G, Gᵏ, G-rep, Gᵏ-rep, G-exp, block, same-block, Stays, stays?, outside-moves, moves-outside, powers-inject}
+use Rattle.separation.proofs.Numbers.{count, starts, passes-at, begins-below, block-below, count-pos, at-block, at-located, first-index, first-located}
+use Rattle.separation.proofs.Numbers.{G, Gᵏ, G-rep, Gᵏ-rep, G-exp, block, same-block, Stays, stays?, outside-moves, moves-outside, powers-inject}
 
 module _ (W : Two) where
   open Two W using (C, tests, m, pos, table, i, in-range, fair)

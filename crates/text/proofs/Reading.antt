@@ -18,7 +18,8 @@ use native.Mathlib.Omega.{arith}
 use lib.ListN.{length, getD, take, drop, length-append, length-drop, List·getD-append, List·getD-eq-default}
 use lib.Seq.{drop-cons, take-suc, take-all, getD-drop}
 use Rattle.definitions.specs.Text.{Bytes, largest, decimal}
-use Rattle.definitions.proofs.Rendering.{Each, each-append, decimal-one, decimal-snoc, decimal-injective, decimal-digits, decimal-lead, decimal-zero, decimal-nonempty, decimal-length, decimal-nine}
+use Rattle.definitions.proofs.Rendering.{Each, each-append, decimal-one, decimal-snoc, decimal-injective, decimal-digits, decimal-lead, decimal-zero}
+use Rattle.definitions.proofs.Rendering.{decimal-nonempty, decimal-length, decimal-nine}
 use Rattle.text.specs.Reading.{Digit, DigitAt, Ends, ValueAt, NoValue, ReadAt, StartsAt}
 use Rattle.text.specs.declared.Read.{Read}
 use Rattle.text.specs.declared.Read.the-variants.{Value, Nothing}

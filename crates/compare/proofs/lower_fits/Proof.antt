@@ -8,7 +8,8 @@ use denote.Ref.{now}
 use Rattle.level.specs.Stored.{lineIn, Holds}
 use Rattle.compare.specs.Shifted.{shift, Shifted}
 use Rattle.compare.proofs.Shifted.{never}
-use Rattle.compare.proofs.Blocks.{inside-matrix, block-lines, block-shift, Lowering, lowering-none, lowering-more, lowering-all, single-lines, lower-single}
+use Rattle.compare.proofs.Blocks.{inside-matrix, block-lines, block-shift, Lowering, lowering-none, lowering-more, lowering-all, single-lines}
+use Rattle.compare.proofs.Blocks.{lower-single}
 use Rattle.compare.proofs.lower_fits.Statement.{statement}
 use Rattle.compare.proofs.lower_fits.Tie as tie
 
