@@ -25,7 +25,7 @@ use Rattle.acceptance.specs.Accepted.{Unrefused, AcceptedText}
 -- ---- What is known behind the reader
 
 -- the rows of a read presentation, as the consistency test takes them
-pub reads-held : {R : Relations} {P : ReadPresentation} {rows : List (List ℕ)} → rows ≡ P .words → Held R P → Reads (presentation R) (P .n) (P .primes) rows
+pub reads-held : {R : Relations} {P : ReadPresentation} {rows : List (List ℕ)} → rows ≡ P .rows → Held R P → Reads (presentation R) (P .n) (P .primes) rows
 reads-held {R} {P} same h = subst₂ (λ m (w : List (List ℕ)). Reads (presentation R) m (P .primes) w) (sym (h .count)) (sym same) (h .reads)
 
 module _ {t : Bytes} where
@@ -51,7 +51,7 @@ module _ {t : Bytes} where
       passed : Unrefused R (o .presentation)
       passed = said .2
 
-      module _ {rows : List (List ℕ)} (same : rows ≡ o .presentation .words) where
+      module _ {rows : List (List ℕ)} (same : rows ≡ o .presentation .rows) where
         pub ready : Ranged (o .presentation .n) (o .presentation .primes) rows
         ready = reads-ready R (passed .formed) (passed .primes) (passed .used) _ (passed .held .count) _ _ (reads-held same (passed .held)) (passed .fits)
 

@@ -50,7 +50,7 @@ module _ {R : Relations} {P : ReadPresentation} (S : Confirmed R P) {s : Size} (
 -- ---- The levels
 
 module _ {R : Relations} {P : ReadPresentation} {m have : ℕ} (Q : RoomFor R P m have) where
-  pub given : {rows : List (List ℕ)} → rows ≡ P .words → Given rows (P .primes) (P .n) m have (A (Q .sound))
+  pub given : {rows : List (List ℕ)} → rows ≡ P .rows → Given rows (P .primes) (P .n) m have (A (Q .sound))
   unfolding presentation
   given {rows} e =
       let S = Q .sound in

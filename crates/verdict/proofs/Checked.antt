@@ -26,7 +26,7 @@ use Rattle.measurement.proofs.Sizes.{A, same, is-small, count-of, product-is, m
 use Rattle.verdict.specs.Checked.{Checks}
 
 module _ {R : Relations} {P : ReadPresentation} (S : Confirmed R P) {s : Size} (M : Measured (P .primes) (P .n) s) where
-  pub task-of : {rows : List (List ℕ)} → rows ≡ P .words → Task (A S) (P .n) (s .order) rows (P .primes)
+  pub task-of : {rows : List (List ℕ)} → rows ≡ P .rows → Task (A S) (P .n) (s .order) rows (P .primes)
   task-of {rows} e =
       let reads = reads-held e (S .passed .held) in
       record {
@@ -43,7 +43,7 @@ module _ {R : Relations} {P : ReadPresentation} (S : Confirmed R P) {s : Size} (
       size-group : s .order ≡ order (A S .C .P) (A S .C .P .n)
       size-group = M .order-is ∙ product-is S (P .n) (omega arith) ∙ ap (λ Q. order Q (P .n)) (sym (same S)) ∙ ap (order (A S .C .P)) (count-of S)
 
-  pub judged-said : {rows : List (List ℕ)} {T : List ℕ} {a : ℕ} → rows ≡ P .words → Judged (P .n) (s .order) rows (P .primes) T a
+  pub judged-said : {rows : List (List ℕ)} {T : List ℕ} {a : ℕ} → rows ≡ P .rows → Judged (P .n) (s .order) rows (P .primes) T a
       → a ≡ judgement (presentation R) (order (presentation R) (presentation R .n)) T
   unfolding presentation
   judged-said {rows} {T} e J = J .is (A S) (task-of e) ∙ ap (λ Q. judgement Q (s .order) T) (same S) ∙ ap (λ m. judgement (presentation R) m T) (size-order S M)
@@ -51,7 +51,7 @@ module _ {R : Relations} {P : ReadPresentation} (S : Confirmed R P) {s : Size} (
 pub check-refused : {t : Bytes} {o : Outcome} (T : List ℕ) → AcceptedText t o → ¬ (o .status ≡ 0) → Check t T (o .status)
 check-refused {t} {o} T a h = first-refused (tableRefusals t (λ P. order P (P .n)) T) (o .status) (presentationRefusals t) (a .answered) h
 
-pub checks-of : {P : ReadPresentation} {s : Size} {rows : List (List ℕ)} {T : List ℕ} {a : ℕ} → Measured (P .primes) (P .n) s → rows ≡ P .words
+pub checks-of : {P : ReadPresentation} {s : Size} {rows : List (List ℕ)} {T : List ℕ} {a : ℕ} → Measured (P .primes) (P .n) s → rows ≡ P .rows
     → Judged (P .n) (s .order) rows (P .primes) T a → Checks P T a
 checks-of M e J = record { is = λ R S. judged-said S M e J }
 
