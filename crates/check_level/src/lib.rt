@@ -2,7 +2,7 @@
 // generator on top in column 0 and in the first column of each block. A test here is answered one way: where it says true, what it
 // asks holds.
 //
-//   first_lines                          the first lines of a level, in a list
+//   Run, run_lines, first_lines          the first lines of a level, in a list
 //   level_compares, small_compares, large_compares, compares     all representations of the level
 //   level_relates                        their intertwiners
 //   level_fits                           the level
@@ -13,12 +13,48 @@ ghost use lib.ListN.{length};
 ghost use Rattle.commuting.specs.Commuting.{Quiet};
 ghost use Rattle.seek.specs.Seek.{Whole};
 ghost use Rattle.compare.specs.Staged.{maxLines, Staged};
-ghost use Rattle.check_level.specs.Lines.{FirstLines};
+ghost use Rattle.check_level.specs.Lines.{FirstLines, RunAsked, Ran};
 ghost use Rattle.check_level.specs.Level.{Compares, Relates, LevelFits};
 use commuting::Reaches;
 use compare::Stage;
+use level::Listed;
 use rows::Rows;
 use seek::Scope;
+
+// How far the first lines of a level are written: the representation behind those that have one degree, and its first line.
+pub struct Run {
+    pub next: usize,
+    pub line: usize,
+}
+
+// Writes the first lines of the representations of level i from representation r on, which is d, into a list whose place `at` is that
+// of the first, as long as they have the degree of d.
+fn run_lines(
+    words: &[u32],
+    s: Scope,
+    i: u32,
+    d: Listed,
+    firsts: &mut [u32],
+    at: usize,
+    r: usize,
+    reps: usize,
+) -> Run
+    requires { ⌜ RunAsked s (now words) i d (length (now firsts)) at r reps ⌝ }
+    ensures { λ e. ⌜ Ran s (now (words .entry)) i d at r (now (firsts .entry)) (now (firsts .exit)) e ⌝ }
+{
+    let step = level::matrix_line(d, s.gens) - d.line;
+    let mut line = d.line;
+    let mut q = r;
+    while q < reps {
+        if level::word_at(words, line, level::DEG) != d.deg {
+            return Run { next: q, line };
+        }
+        firsts[at + q] = line as u32;
+        line += step;
+        q += 1;
+    }
+    Run { next: q, line }
+}
 
 // Writes the first lines of the representations of level i into a list, from place `at` on, and returns how many there are; 0 where
 // the list has no room for them, or the squares of their degrees do not add up to the order of the level.
@@ -41,20 +77,21 @@ pub fn first_lines(
     let mut left = level::up(order);
     let mut r: usize = 0;
     loop {
+        let e = run_lines(words, s, i, d, firsts, at, r, reps);
         let q = check_blocks::square(d.deg);
-        if left < q {
+        let k = e.next - r;
+        if left / q < k {
             return 0;
         }
-        left -= q;
-        firsts[at + r] = d.line as u32;
-        r += 1;
+        left -= k * q;
+        r = e.next;
         if r == reps {
             if left == 0 {
                 return reps;
             }
             return 0;
         }
-        d = seek::following(words, s, d);
+        d = level::representation(words, e.line);
     }
 }
 
