@@ -2,7 +2,7 @@
 --
 --   noted-none, noted-more, noted-all, noted-stops     the steps of a loop that writes them
 --   run-step, Running, running-none, running-more, running-stops, running-all     those of one degree
---   fewer-left, left-ran             the squares of their degrees, taken from the order at once
+--   run-left, left-ran               the squares of their degrees, taken from the order at once
 --   not-noted                        nothing is written
 use mathlib.Core.Path.{_≡_, refl, sym, _∙_, ap, subst}
 use mathlib.Core.List.{List}
@@ -24,7 +24,7 @@ use Rattle.seek.specs.Seek.{Found}
 use Rattle.seek.proofs.Seek.{found-there, found-next}
 use Rattle.check_blocks.specs.Squares.{squareOf, squaresIn}
 use Rattle.check_blocks.proofs.Squares.{Left}
-use Rattle.check_level.specs.declared.Run.{Run}
+use Rattle.check_level.specs.declared.RunEnd.{RunEnd}
 use Rattle.check_level.specs.Lines.{Noted, RunAsked, Ran, FirstLines}
 
 module _ {s : Scope} {T : List ℕ} {i at : ℕ} {F₀ : List ℕ} where
@@ -159,19 +159,22 @@ left-run n T i o k d {left} {r} L same l = record { is = omega (arith, L .is, l,
     squares = sum-below k _ (λ j. d * d) (λ j h. ap (λ d. d * d) (same (r + j) (omega arith) (omega arith))) ∙ sum-const k (d * d)
 
 -- what is taken is there
-pub fewer-left : (left q k : ℕ) → 0 < q → k ≤ left / q → k * q ≤ left
-fewer-left left q k p n = go (decLt left (k * q))
+pub run-left : {d q k left : ℕ} → 0 < d → q ≡ d * d → k ≤ left / q → k * q ≤ left
+run-left {d} {q} {k} {left} p is n = go (decLt left (k * q))
   where
+    positive : 0 < q
+    positive = subst (λ q. 0 < q) (sym is) (mul-pos p p)
+
     go : Dec (left < k * q) → k * q ≤ left
-    go (yes l) = let m : left / q < k = div-lt-iff-lt-mul p .1 l in absurd (omega (arith, m, n))
+    go (yes l) = let m : left / q < k = div-lt-iff-lt-mul positive .1 l in absurd (omega (arith, m, n))
     go (no l) = omega arith
 
-pub left-ran : {s : Scope} {T : List ℕ} {i o at left r q : ℕ} {D : Listed} {F G : List ℕ} {e : Run} → Left (s .gens) T i o left r → 0 < D .deg
+pub left-ran : {s : Scope} {T : List ℕ} {i o at left r q : ℕ} {D : Listed} {F G : List ℕ} {e : RunEnd} → Left (s .gens) T i o left r → 0 < D .deg
     → Ran s T i D at r F G e → q ≡ D .deg * D .deg → e .next - r ≤ left / q → Left (s .gens) T i o (left - (e .next - r) * q) (e .next)
 left-ran {s} {T} {i} {o} {at} {left} {r} {q} {D} {F} {G} {e} L p R is n =
     let k : ℕ = e .next - r in
     let there : r + k ≡ e .next = omega (arith, R .forth) in
-    let room : k * q ≤ left = fewer-left left q k (subst (λ q. 0 < q) (sym is) (mul-pos p p)) n in
+    let room : k * q ≤ left = run-left p is n in
     let taken : left - k * (D .deg * D .deg) ≡ left - k * q = ap (λ q. left - k * q) (sym is) in
     subst (λ x. Left (s .gens) T i o x (e .next)) taken (subst (λ x. Left (s .gens) T i o (left - k * (D .deg * D .deg)) x) there
     (left-run (s .gens) T i o k (D .deg) L (λ j a b. R .degrees j a (omega (arith, b, there))) (subst (λ q. k * q ≤ left) is room)))

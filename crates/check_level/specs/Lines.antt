@@ -18,7 +18,7 @@ use Rattle.seek.specs.declared.Scope.{Scope}
 use Rattle.seek.specs.Seek.{Whole, Found}
 use Rattle.compare.specs.Staged.{maxLines, Lined}
 use Rattle.check_blocks.specs.Squares.{squaresIn}
-use Rattle.check_level.specs.declared.Run.{Run}
+use Rattle.check_level.specs.declared.RunEnd.{RunEnd}
 
 pub record Noted (s : Scope) (T : List ℕ) (i at : ℕ) (F₀ F₁ : List ℕ) (k : ℕ) : Type 0 where
   pub size : length F₁ ≡ length F₀
@@ -32,7 +32,7 @@ pub record RunAsked (s : Scope) (T : List ℕ) (i : ℕ) (D : Listed) (size at r
   pub counts : reps ≡ length (levelAt (s .gens) T i)
   pub room : at + reps ≤ size
 
-pub record Ran (s : Scope) (T : List ℕ) (i : ℕ) (D : Listed) (at r : ℕ) (F G : List ℕ) (e : Run) : Type 0 where
+pub record Ran (s : Scope) (T : List ℕ) (i : ℕ) (D : Listed) (at r : ℕ) (F G : List ℕ) (e : RunEnd) : Type 0 where
   pub forth : r < e .next
   pub within : e .next ≤ length (levelAt (s .gens) T i)
   pub size : length G ≡ length F

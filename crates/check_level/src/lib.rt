@@ -2,7 +2,7 @@
 // generator on top in column 0 and in the first column of each block. A test here is answered one way: where it says true, what it
 // asks holds.
 //
-//   Run, run_lines, first_lines          the first lines of a level, in a list
+//   RunEnd, run_lines, first_lines          the first lines of a level, in a list
 //   level_compares, small_compares, large_compares, compares     all representations of the level
 //   level_relates                        their intertwiners
 //   level_fits                           the level
@@ -22,7 +22,7 @@ use rows::Rows;
 use seek::Scope;
 
 // How far the first lines of a level are written: the representation behind those that have one degree, and its first line.
-pub struct Run {
+pub struct RunEnd {
     pub next: usize,
     pub line: usize,
 }
@@ -38,7 +38,7 @@ fn run_lines(
     at: usize,
     r: usize,
     reps: usize,
-) -> Run
+) -> RunEnd
     requires { ⌜ RunAsked s (now words) i d (length (now firsts)) at r reps ⌝ }
     ensures { λ e. ⌜ Ran s (now (words .entry)) i d at r (now (firsts .entry)) (now (firsts .exit)) e ⌝ }
 {
@@ -47,13 +47,13 @@ fn run_lines(
     let mut q = r;
     while q < reps {
         if level::word_at(words, line, level::DEG) != d.deg {
-            return Run { next: q, line };
+            return RunEnd { next: q, line };
         }
         firsts[at + q] = line as u32;
         line += step;
         q += 1;
     }
-    Run { next: q, line }
+    RunEnd { next: q, line }
 }
 
 // Writes the first lines of the representations of level i into a list, from place `at` on, and returns how many there are; 0 where

@@ -1,19 +1,17 @@
 -- `first_lines` goes from run to run of representations of one degree.
 use borrow.Author.Needs.{needs}
 use borrow.Author.Tests.{eqb-true, eq-eqb}
-use mathlib.Core.Path.{_≡_, sym, _∙_, ap, subst}
-use Prim.Native.Nat.{_+_, _*_, _-_, _≤_, _<_}
-use native.Mathlib.Nat.{mul-pos, div-lt-iff-lt-mul}
+use mathlib.Core.Path.{sym, _∙_, subst}
+use Prim.Native.Nat.{_-_}
+use native.Mathlib.Nat.{mul-pos}
 use native.Mathlib.Omega.{arith}
-use lib.ListN.{length}
 use denote.Ref.{now}
-use Rattle.level.specs.declared.Listed.{Listed}
 use Rattle.seek.specs.Seek.{Found}
 use Rattle.seek.proofs.Seek.{whole-some, found-there}
 use Rattle.check_blocks.proofs.Squares.{Left, left-none, left-all}
 use Rattle.check_blocks.specs.Squares.{squaresIn}
 use Rattle.check_level.specs.Lines.{Noted}
-use Rattle.check_level.proofs.Lines.{noted-none, noted-all, noted-stops, not-noted, left-ran, fewer-left}
+use Rattle.check_level.proofs.Lines.{noted-none, noted-all, noted-stops, not-noted, run-left, left-ran}
 use Rattle.check_level.proofs.first_lines.Statement.{statement}
 use Rattle.check_level.proofs.first_lines.Tie as tie
 
@@ -99,16 +97,14 @@ mul-left c =
     let at-square = c .before .before in
     let at-run-lines = at-square .before .before .before in
     let at-loop = at-run-lines .before .before in
-    let p = at-loop .loop .inv .1 .positive in
-    omega (arith, fewer-left (at-loop .loop .left) (at-square .square .result) (at-run-lines .run-lines .result .next - at-loop .loop .r) (omega (arith, at-square .square .ensures, mul-pos p p)) (c .if2 .left))
+    omega (arith, run-left (at-loop .loop .inv .1 .positive) (at-square .square .ensures) (c .if2 .left))
 
 sub-left : tie.Need-sub-left Inv-loop μ-loop
 sub-left c =
     let at-square = c .before .before in
     let at-run-lines = at-square .before .before .before in
     let at-loop = at-run-lines .before .before in
-    let p = at-loop .loop .inv .1 .positive in
-    fewer-left (at-loop .loop .left) (at-square .square .result) (at-run-lines .run-lines .result .next - at-loop .loop .r) (omega (arith, at-square .square .ensures, mul-pos p p)) (c .if2 .left)
+    run-left (at-loop .loop .inv .1 .positive) (at-square .square .ensures) (c .if2 .left)
 
 same-length-2 : tie.Need-same-length-2 Inv-loop μ-loop
 same-length-2 c =
