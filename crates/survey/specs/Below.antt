@@ -16,6 +16,7 @@
 --   Sound                      what is asked of a level before the next is made
 --   madeIn, numberIn, aroundIn, closingIn, leadingIn      the formulas, of this level
 --   Lines, Orbited, Surveyed   notes that hold the first lines; and the orbits; and all that the next level is made with
+--   FirstsTo, RunNoted         first lines while they are noted, and behind a run of one degree
 --   MarkedTo, Marking          orbits while they are marked
 --   CarriedAt, CarriedOn       an entry at a representation; a step along an orbit
 use mathlib.Core.Path.{_≡_}
@@ -37,6 +38,7 @@ use Rattle.level.specs.declared.Listed.{Listed}
 use Rattle.survey.specs.Notes.{firsts, leaders, positions, numbers, shifts}
 use Rattle.survey.specs.declared.Frame.{Frame}
 use Rattle.survey.specs.declared.Carried.{Carried}
+use Rattle.survey.specs.declared.NextFirst.{NextFirst}
 
 -- the lines up to the end of the level, in words that go on
 abbrev pub lowOf : Frame → List ℕ → List ℕ
@@ -174,6 +176,21 @@ module _ (f : Frame) (W : List ℕ) where
     pub orbited : Orbited notes
     pub numbers-are : Array (numbers notes) (start (sourceIn rows))
     pub shifts-are : Leading (shifts notes) (shift (sourceIn rows))
+
+  -- ---- First lines while they are noted
+
+  -- those of the representations before r are, and there is room for all
+  pub record FirstsTo (notes : List ℕ) (r : ℕ) : Type 0 where
+    pub long : f .reps ≤ length (firsts notes)
+    pub at : (k : ℕ) → k < r → getD (firsts notes) k 0 ≡ firstOf k
+
+  -- those from representation r on are noted as well, up to that which e names
+  pub record RunNoted (notes₀ notes : List ℕ) (r : ℕ) (e : NextFirst) : Type 0 where
+    pub forth : r < e .rep
+    pub within : e .rep ≤ f .reps
+    pub len : length notes ≡ length notes₀
+    pub noted : FirstsTo notes (e .rep)
+    pub behind : e .line ≡ firstOf (e .rep)
 
   -- ---- Orbits while they are marked
 

@@ -7,7 +7,7 @@
 //   note, put_note               reads and stores a field
 //   listed, member               a representation by its first line
 //   top_target                   where the generator on top leads it
-//   find_lines                   notes the first lines
+//   NextFirst, note_run, find_lines      note the first lines
 //   mark, mark_orbit, mark_from, clear, mark_orbits      note leaders and positions
 //   made, count_numbers          note the numbers
 //   carry, around                an entry along an orbit
@@ -17,7 +17,7 @@ ghost use Prim.Native.Nat.{_+_, _*_, _≤_, _<_};
 ghost use lib.ListN.{length, getD};
 ghost use Rattle.fields.specs.Fields.{field, Inside, Put};
 ghost use Rattle.survey.specs.Notes.{noteWidth, firsts, leaders, positions, numbers, shifts, Beside, Cleared, Marked};
-ghost use Rattle.survey.specs.Below.{degOf, targetOf, leaderIn, madeIn, numberIn, aroundIn, closingIn, leadingIn, LevelStands, Located, Array, Lines};
+ghost use Rattle.survey.specs.Below.{degOf, targetOf, leaderIn, madeIn, numberIn, aroundIn, closingIn, leadingIn, LevelStands, Located, Array, Lines, FirstsTo, RunNoted};
 ghost use Rattle.survey.specs.Below.{Orbited, MarkedTo, Marking, CarriedAt, CarriedOn};
 ghost use Rattle.level.specs.Stored.{Below};
 ghost use Rattle.rows.specs.Rows.{Top};
@@ -101,17 +101,45 @@ pub fn top_target(low: &[u32], notes: &[u32], f: Frame, r: u32) -> u32
     level::target(low, d, f.top)
 }
 
-// Notes the first lines.
+// How far first lines are noted: the representation behind those that have one degree, and its first line.
+pub struct NextFirst {
+    pub rep: u32,
+    pub line: usize,
+}
+
+// Notes the first lines from representation r on, which is d, as long as the degree stays: no line waits for the degree before it.
+fn note_run(low: &[u32], notes: &mut [u32], f: Frame, d: Listed, r: u32) -> NextFirst
+    requires { ⌜ Located f (now low) r d × FirstsTo f (now low) (now notes) r ⌝ }
+    ensures { λ e. ⌜ RunNoted f (now (low .entry)) (now (notes .entry)) (now (notes .exit)) r e ⌝ }
+{
+    let step = level::matrix_line(d, f.gens) - d.line;
+    let mut line = d.line;
+    let mut q = r;
+    let reps = f.reps;
+    while q < reps {
+        if level::word_at(low, line, level::DEG) != d.deg {
+            return NextFirst { rep: q, line };
+        }
+        put_note(notes, FIRST, q, line as u32);
+        line += step;
+        q += 1;
+    }
+    NextFirst { rep: q, line }
+}
+
+// Notes the first lines, in runs of one degree.
 pub fn find_lines(low: &[u32], notes: &mut [u32], f: Frame)
     requires { ⌜ LevelStands f (now low) × (noteWidth * f .reps ≤ length (now notes)) ⌝ }
     ensures { λ _. ⌜ Lines f (now (low .entry)) (firsts (now (notes .exit))) × (length (now (notes .exit)) ≡ length (now (notes .entry))) ⌝ }
 {
     let mut s = f.base;
+    let mut r: u32 = 0;
     let reps = f.reps;
-    for r in 0..reps {
-        put_note(notes, FIRST, r, s as u32);
+    while r < reps {
         let d = level::representation(low, s);
-        s = level::matrix_line(d, f.gens);
+        let e = note_run(low, notes, f, d, r);
+        r = e.rep;
+        s = e.line;
     }
 }
 
