@@ -6,7 +6,7 @@
 --   SlotsTaken                 the exponents of the first r representations are taken, and differ
 --   taking-none, taking-more     at the start, and one representation more
 --   product-positive, multiple-small, multiple-power     a factor is positive; a multiple is below the modulus, and p times it is 0
-use mathlib.Core.Path.{_≡_, refl, sym, _∙_, ap, subst}
+use mathlib.Core.Path.{_≡_, sym, _∙_, ap, subst}
 use mathlib.Core.List.{List}
 use Prim.Native.Nat.{ℕ, zero, suc, _+_, _*_, _%_, _<_}
 use native.Mathlib.Nat.{mul-lt-mul-of-pos-right, mul-mod-right}
@@ -15,12 +15,8 @@ use native.Mathlib.Omega.{arith}
 use lib.ListN.{length, getD, set, replicate, length-set, length-replicate}
 use lib.Seq.{getD-set-same, getD-set-other}
 use Rattle.definitions.specs.Presentation.{maxOrder}
+use Rattle.numbers.proofs.Lists.{blank}
 use Rattle.check_first.specs.First.{exponentOf, Allowed, Takes}
-
-blank : (n r : ℕ) → getD {A = ℕ} (replicate n 0) r 0 ≡ 0
-blank zero r = refl
-blank (suc n) zero = refl
-blank (suc n) (suc r) = blank n r
 
 pub allowed-none : (part : ℕ) → Allowed 0 part (replicate maxOrder 0)
 allowed-none part = record { size = length-replicate {A = ℕ} maxOrder 0; only = λ e n. absurd (n (blank maxOrder e)) }

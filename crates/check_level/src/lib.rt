@@ -15,6 +15,7 @@ ghost use Rattle.seek.specs.Seek.{Whole};
 ghost use Rattle.compare.specs.Staged.{maxLines, Staged};
 ghost use Rattle.check_level.specs.Lines.{FirstLines, RunAsked, Ran};
 ghost use Rattle.check_level.specs.Level.{Compares, Relates, LevelFits};
+use claims::SLOTS;
 use commuting::Reaches;
 use compare::Stage;
 use level::Listed;
@@ -139,13 +140,13 @@ fn small_compares(words: &[u32], firsts: &[u32], rows: &Rows, s: Scope, g: Stage
     level_compares(words, firsts, rows, s, g, &mut marks, &mut slots)
 }
 
-// Compares the level with marks for 4096.
+// Compares the level with marks for all representations and slots that a level may have.
 fn large_compares(words: &[u32], firsts: &[u32], rows: &Rows, s: Scope, g: Stage) -> bool
     requires { ⌜ Staged s (now words) (now firsts) g ⌝ }
     ensures { λ r. ⌜ (r ≡ true → Compares s (now (words .entry)) (now (rows .entry)) g) ⌝ }
 {
-    let mut marks = [0u8; 4096];
-    let mut slots = [0u8; 4096];
+    let mut marks = [0u8; SLOTS];
+    let mut slots = [0u8; SLOTS];
     level_compares(words, firsts, rows, s, g, &mut marks, &mut slots)
 }
 

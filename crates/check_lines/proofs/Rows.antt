@@ -4,10 +4,10 @@
 --   seen-none, seen-more     at the start, and one line more
 --   seen-all, seen-twice     all rows are there, or one is not
 --   single-matrix         a matrix of degree 1, by its entry
-use mathlib.Core.Path.{_≡_, refl, sym, _∙_, ap, subst}
+use mathlib.Core.Path.{_≡_, sym, _∙_, ap, subst}
 use mathlib.Core.Bool.{true, false}
 use mathlib.Core.List.{List}
-use Prim.Native.Nat.{ℕ, zero, suc, _+_, _≤_, _<_}
+use Prim.Native.Nat.{ℕ, _+_, _≤_, _<_}
 use native.Mathlib.Decide.{decLt, ℕ-discrete}
 use native.Mathlib.Omega.{arith}
 use lib.Dec.{eqb}
@@ -18,17 +18,12 @@ use borrow.Author.Tests.{eqb-true, eq-eqb}
 use Rattle.definitions.specs.Lists.{allBelow}
 use Rattle.definitions.specs.Monomial.{valid}
 use Rattle.numbers.proofs.Bools.{same-test, refuted}
-use Rattle.numbers.proofs.Lists.{allBelow-intro, allBelow-elim}
+use Rattle.numbers.proofs.Lists.{blank, allBelow-intro, allBelow-elim}
 use Rattle.numbers.proofs.Searches.{anyBelow-intro, anyBelow-elim}
 use Rattle.numbers.proofs.Pigeonhole.{Injects, injects-onto, onto-injects}
 use Rattle.level.specs.Stored.{entryIn, matrixIn}
 use Rattle.check_lines.specs.Lines.{maxDegree, entryOk, RowsBelow, hasRow}
 use Rattle.check_lines.proofs.Lines.{entries-below, matrix-entries, matrix-rows}
-
-blank : (n r : ℕ) → getD {A = ℕ} (replicate n 0) r 0 ≡ 0
-blank zero r = refl
-blank (suc n) zero = refl
-blank (suc n) (suc r) = blank n r
 
 module _ (T : List ℕ) (at : ℕ) where
   abbrev row : ℕ → ℕ

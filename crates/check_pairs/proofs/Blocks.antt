@@ -17,7 +17,7 @@ use Rattle.definitions.specs.Lists.{all}
 use Rattle.definitions.specs.Monomial.{col, Rep, Level, repOf}
 use Rattle.definitions.specs.Table.{ROW, wordAt, repAt, levelAt}
 use Rattle.definitions.specs.Judgement.{cutsFrom, cuts, wholeBlock}
-use Rattle.numbers.proofs.Bools.{and-left, and-right, cond-true, cond-false}
+use Rattle.numbers.proofs.Bools.{and-left, and-right, and-last, cond-true, cond-false}
 use Rattle.separation.specs.Apart.{fresh}
 use Rattle.separation.proofs.Apart.{is-whole, wide, one-block}
 use Rattle.level.specs.declared.Listed.{Listed}
@@ -28,7 +28,6 @@ use Rattle.seek.specs.Among.{repIn}
 use Rattle.seek.proofs.Seek.{found-fits}
 use Rattle.seek.proofs.Columns.{row-at}
 use Rattle.check_pairs.specs.Pairs.{PlacedAt, differ, ownOf, RefersTo, widthIn}
-use Rattle.check_pairs.proofs.Columns.{and-last}
 use Rattle.check_pairs.proofs.Pairs.{placed-positive, placed-whole}
 
 module _ (low : Level) (D : Rep) where

@@ -3,10 +3,9 @@
 --   freeAt            no column of the representation at a line has the reference of a column of another
 --   free-is           for every column, `commonFree` of the two
 --   fresh-is          no column before one has its reference
---   and-last          a conjunction whose last part fails
 --   like-blocks, like-degrees, like-refs      one degree and one first reference, case by case
 --   apart-unlike, apart-alike                 what tells two representations apart
-use mathlib.Core.Path.{_≡_, refl, sym, _∙_, ap, ap₂}
+use mathlib.Core.Path.{_≡_, sym, _∙_, ap, ap₂}
 use mathlib.Core.Bool.{Bool, true, false, _&&_, not}
 use mathlib.Core.List.{List}
 use Prim.Native.Nat.{ℕ, _+_, _<_}
@@ -14,7 +13,7 @@ use lib.Dec.{eqb}
 use borrow.Author.Tests.{eq-eqb, ne-eqb}
 use Rattle.definitions.specs.Lists.{allBelow}
 use Rattle.definitions.specs.Table.{REF, EXP, wordAt, repAt}
-use Rattle.numbers.proofs.Bools.{cond-true, cond-false}
+use Rattle.numbers.proofs.Bools.{and-last, cond-true, cond-false}
 use Rattle.numbers.proofs.Lists.{allBelow-below}
 use Rattle.level.specs.declared.Listed.{Listed}
 use Rattle.level.specs.Stored.{lineIn}
@@ -45,10 +44,6 @@ fresh-is T D o {x} e = allBelow-below o _ _ (λ c l. ap not (eqb-sym x (wordAt T
     ∙ ap₂ eqb (sym (ref-at T (D .line) (D .deg) c)) (e ∙ sym (ref-at T (D .line) (D .deg) o))))
 
 -- ---- Apart
-
-pub and-last : (a b : Bool) → b ≡ false → a && b ≡ false
-and-last true b h = h
-and-last false b h = refl
 
 module _ (T : List ℕ) (one : Bool) (D E : Listed) where
   pub like-blocks : one ≡ false → false ≡ likeIn T one D E

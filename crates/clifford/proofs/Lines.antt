@@ -8,7 +8,7 @@
 --   Agrees                two levels agree where a table says something
 --   read-back             the levels that the table says agree with those that were written
 use mathlib.Core.Path.{_≡_, refl, sym, _∙_, ap, ap₂, subst}
-use mathlib.Core.Bool.{Bool, true, false, _&&_, cond}
+use mathlib.Core.Bool.{Bool, false, _&&_, cond}
 use mathlib.Core.List.{List, [], _∷_}
 use Prim.Native.Nat.{ℕ, suc, _+_, _*_, _/_, _≤_, _<_}
 use native.Mathlib.Nat.{mul-add, mul-div-right, mul-le-mul-left}
@@ -21,7 +21,7 @@ use Rattle.definitions.specs.Lists.{blocks, sum}
 use Rattle.definitions.specs.Presentation.{lineWords}
 use Rattle.definitions.specs.Monomial.{entry, col, Rep, Level, repOf, noRep}
 use Rattle.definitions.specs.Table.{lineOf, repWords, levelWords, wordAt, lineCount, begins, degrees, columns, firstLine, repAt, levelAt}
-use Rattle.numbers.proofs.Bools.{cond-true, cond-false}
+use Rattle.numbers.proofs.Bools.{and-last, cond-true, cond-false}
 use Rattle.numbers.proofs.Lists.{length-blocks}
 use Rattle.numbers.proofs.Sums.{sum-below, sum-const, sum-mul, stretch-below}
 use Rattle.numbers.proofs.Blocks.{getD-table, length-table, getD-blocks, length-even, getD-even, blocks-below, blocks-stretches, blocks-none, blocks-single}
@@ -156,10 +156,6 @@ module _ (W : LevelsListed) where
     and-false : (a b : Bool) → a ≡ false → a && b ≡ false
     and-false a b h = ap (λ t. t && b) h
 
-    and-right-false : (a b : Bool) → b ≡ false → a && b ≡ false
-    and-right-false true b h = h
-    and-right-false false b h = refl
-
     -- nothing is chosen but the first column of the first generator of level i
     other-level : (k r g c : ℕ) → ¬ (k ≡ i) → chosen k r g c ≡ []
     other-level k r g c ne =
@@ -171,10 +167,10 @@ module _ (W : LevelsListed) where
     other-generator k r g c ne =
         cond-false _ (deg k r ∷ []) []
         (and-false (eqb (suc k) (suc i) && eqb (suc g) 1) (eqb c 0)
-        (and-right-false (eqb (suc k) (suc i)) (eqb (suc g) 1) (ne-eqb (suc g) 1 (λ e. ne (omega arith)))))
+        (and-last (eqb (suc k) (suc i)) (eqb (suc g) 1) (ne-eqb (suc g) 1 (λ e. ne (omega arith)))))
 
     other-column : (k r g c : ℕ) → ¬ (c ≡ 0) → chosen k r g c ≡ []
-    other-column k r g c ne = cond-false _ (deg k r ∷ []) [] (and-right-false (eqb (suc k) (suc i) && eqb (suc g) 1) (eqb c 0) (ne-eqb c 0 ne))
+    other-column k r g c ne = cond-false _ (deg k r ∷ []) [] (and-last (eqb (suc k) (suc i) && eqb (suc g) 1) (eqb c 0) (ne-eqb c 0 ne))
 
     the-one : (r : ℕ) → chosen i r 0 0 ≡ deg i r ∷ []
     the-one r = cond-true _ (deg i r ∷ []) [] (ap₂ (_&&_) (ap₂ (_&&_) (eq-eqb (suc i) (suc i) refl) refl) refl)

@@ -1,6 +1,7 @@
 -- Tests: both sides of a conjunction, and a choice whose test is known.
 --
 --   and-left, and-right, and-intro      a && b is true exactly if both are
+--   and-last                            a && b is false if b is
 --   or-cases                            a || b is true: one of the two is
 --   or-left, or-right                   a || b is true if one of the two is
 --   or-false-left, or-false-right       a || b is false: both are
@@ -26,6 +27,10 @@ and-right false b h = absurd (false≢true h)
 pub and-intro : (a b : Bool) → a ≡ true → b ≡ true → a && b ≡ true
 and-intro true b h k = k
 and-intro false b h k = h
+
+pub and-last : (a b : Bool) → b ≡ false → a && b ≡ false
+and-last true b h = h
+and-last false b h = refl
 
 pub data OneOf (a b : Bool) : Type 0 where
   first : a ≡ true → OneOf a b

@@ -5,6 +5,7 @@
 --   allBelow-fails                    a test that fails at one number
 --   allBelow-below                    two tests that agree below n
 --   all-getD                          a test of every element, at an index
+--   blank                             an entry of a list of zeros
 --   iter-zero, iter-suc, iter-add     iterates, their clauses and their sum
 --   iter-map, iter-op, iter-fix       iterates under a map, of a product, at a fixed point
 --   iter-period                       iterates of a point that comes back
@@ -18,7 +19,7 @@ use Prim.Native.Nat.{ℕ, zero, suc, _+_, _*_, _/_, _%_, _≤_, _<_}
 use native.Mathlib.Nat.{zero-add, suc-add, zero-mul, div-add-mod', div-eq-of-eq-mul-left}
 use native.Mathlib.Omega.{arith}
 use native.Mathlib.Decide.{decLt}
-use lib.ListN.{length, getD, length-append}
+use lib.ListN.{length, getD, replicate, length-append}
 use Rattle.definitions.specs.Lists.{upto, blocks, sum, allBelow, all, iter}
 use Rattle.numbers.proofs.Bools.{and-left, and-right, and-intro}
 
@@ -28,6 +29,13 @@ below-suc i Q below top k l = go (decLt k i)
     go : Dec (k < i) → Q k
     go (yes h) = below k h
     go (no h) = let q : i ≡ k = omega arith in subst Q q top
+
+-- ---- Lists
+
+pub blank : (n r : ℕ) → getD {A = ℕ} (replicate n 0) r 0 ≡ 0
+blank zero r = refl
+blank (suc n) zero = refl
+blank (suc n) (suc r) = blank n r
 
 -- ---- Tests
 

@@ -17,7 +17,7 @@ use Rattle.definitions.specs.Lists.{allBelow, all}
 use Rattle.definitions.specs.Presentation.{Presentation}
 use Rattle.definitions.specs.Monomial.{col, Rep, Level, repOf}
 use Rattle.definitions.specs.Judgement.{cuts, wholeBlock}
-use Rattle.numbers.proofs.Bools.{and-left, and-right, and-intro, cond-true, cond-false, same-test}
+use Rattle.numbers.proofs.Bools.{and-left, and-right, and-intro, and-last, cond-true, cond-false, same-test}
 use Rattle.numbers.proofs.Lists.{allBelow-elim, allBelow-intro, allBelow-below}
 use Rattle.separation.specs.Decision.{lower, upper, reference, blockStarts, blockCount, unshared, differs, apart}
 use Rattle.separation.specs.Apart.{commonFree, apartAt}
@@ -151,10 +151,6 @@ module _ (P : Presentation) (table : List ℕ) (i : ℕ)
 
       abbrev exp : ℕ → ℕ
       exp r = col (D r .matrix i) 0 .exp
-
-      and-last : (a b : Bool) → b ≡ false → a && b ≡ false
-      and-last true b h = h
-      and-last false b h = refl
 
       -- representations of one block over one reference have one degree
       same-degree : one r ≡ true → one r′ ≡ true → reference P table i r 0 ≡ reference P table i r′ 0 → D r .deg ≡ D r′ .deg

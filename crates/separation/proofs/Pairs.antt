@@ -14,7 +14,7 @@ use borrow.Author.Tests.{eqb-true, eqb-false, eq-eqb, ne-eqb}
 use Rattle.definitions.specs.Lists.{allBelow, all}
 use Rattle.definitions.specs.Presentation.{Presentation}
 use Rattle.definitions.specs.Monomial.{col, repOf}
-use Rattle.numbers.proofs.Bools.{and-left, and-right, and-intro, OneOf, first, second, or-cases, or-left, or-right, cond-true, cond-false, same-test}
+use Rattle.numbers.proofs.Bools.{and-left, and-right, and-intro, and-last, OneOf, first, second, or-cases, or-left, or-right, cond-true, cond-false, same-test}
 use Rattle.numbers.proofs.Lists.{allBelow-elim, allBelow-intro}
 use Rattle.separation.specs.Decision.{upper, reference, blockStarts, blockCount, outside, unshared, differs, parted, quick, own, apart, pairwise}
 
@@ -113,10 +113,6 @@ module _ (P : Presentation) (table : List ℕ) (i : ℕ) where
   unfolding own
   own-cases r h = or-cases (one r) (several r) h
 
-  and-second : (a b : Bool) → b ≡ false → a && b ≡ false
-  and-second true b h = h
-  and-second false b h = refl
-
   quick-all : quick P table i ≡ true → (r : ℕ) → r < N → parted P table i r ≡ true
   unfolding quick
   quick-all h = allBelow-elim N _ h
@@ -133,7 +129,7 @@ module _ (P : Presentation) (table : List ℕ) (i : ℕ) where
 
       pair : (r r′ : ℕ) → r < r′ → r′ < N → (b b′ : Bool) → one r ≡ b → one r′ ≡ b′ → apart P table i r r′ ≡ true
       pair r r′ a l true true e e′ = apart-one r r′ e e′ ∙ parted-one r (quick-all h r (omega arith)) e r′ l (λ q. omega (arith, q)) e′
-      pair r r′ a l true false e e′ = apart-many r r′ (and-second (one r) (one r′) e′)
+      pair r r′ a l true false e e′ = apart-many r r′ (and-last (one r) (one r′) e′)
           ∙ unshared-sym r′ r (parted-many r′ (quick-all h r′ l) e′ .alone r (omega arith))
       pair r r′ a l false b′ e e′ = apart-many r r′ (ap (λ x. x && one r′) e) ∙ parted-many r (quick-all h r (omega arith)) e .alone r′ l
 
@@ -160,7 +156,7 @@ module _ (P : Presentation) (table : List ℕ) (i : ℕ) where
 
       share : (r r′ : ℕ) → r < N → r′ < N → one r ≡ false → unshared P table i r r ≡ true → Dec (r < r′) → Dec (r′ < r) → unshared P table i r r′ ≡ true
       share r r′ a b e s (yes l) d = sym (apart-many r r′ (ap (λ x. x && one r′) e)) ∙ pair r r′ l b
-      share r r′ a b e s (no l) (yes k) = unshared-sym r′ r (sym (apart-many r′ r (and-second (one r′) (one r) e)) ∙ pair r′ r k a)
+      share r r′ a b e s (no l) (yes k) = unshared-sym r′ r (sym (apart-many r′ r (and-last (one r′) (one r) e)) ∙ pair r′ r k a)
       share r r′ a b e s (no l) (no k) = let q : r ≡ r′ = omega arith in subst (λ x. unshared P table i r x ≡ true) q s
 
       go : (r : ℕ) → r < N → (b : Bool) → one r ≡ b → parted P table i r ≡ true

@@ -17,7 +17,6 @@ use Rattle.fields.proofs.Rows.{field-rows, filled-none, filled-put}
 use Rattle.level.specs.declared.Listed.{Listed}
 use Rattle.level.specs.Stored.{lineIn}
 use Rattle.survey.specs.declared.Frame.{Frame}
-use Rattle.survey.specs.declared.NextFirst.{NextFirst}
 use Rattle.survey.specs.Notes.{firsts}
 use Rattle.survey.specs.Below.{firstOf, degOf, Located, Lines, FirstsTo, RunNoted}
 use Rattle.survey.proofs.Notes.{rows-stay}

@@ -7,6 +7,7 @@ use Prim.Native.Nat.{suc, _*_, _%_, _≤_}
 use native.Mathlib.Omega.{arith}
 use native.Mathlib.Nat.{mod-eq-of-lt, mul-le-mul, mul-le-mul-right}
 use denote.Ref.{now}
+use Rattle.definitions.specs.Presentation.{maxOrder}
 use Rattle.check_first.specs.First.{exponentOf}
 use Rattle.check_first.proofs.led_to.Statement.{statement}
 use Rattle.check_first.proofs.led_to.Tie as tie
@@ -59,7 +60,7 @@ mul-result : tie.Need-mul-result
 mul-result c =
     let z = c .before .before .before .before .before .before in
     let a = z .args in
-    let q : a .a * a .e ≤ 4096 * 4096 = mul-le-mul {n₁ = a .a} {m₁ = a .e} {n₂ = 4096} {m₂ = 4096} (z .pre .3) (omega (arith, z .pre .4, z .pre .5)) in
+    let q : a .a * a .e ≤ maxOrder * maxOrder = mul-le-mul {n₁ = a .a} {m₁ = a .e} {n₂ = maxOrder} {m₂ = maxOrder} (z .pre .3) (omega (arith, z .pre .4, z .pre .5)) in
     omega (arith, q)
 
 rem-result : tie.Need-rem-result
