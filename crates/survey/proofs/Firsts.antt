@@ -2,9 +2,9 @@
 --
 --   firsts-none, firsts-all    none is noted; all are
 --   run-step                   how many lines a representation has
---   NotingRun                  where a run that began with D, representation r, has come to representation q
+--   NotingRun                  a run that began with representation r has come to q
 --   run-none, run-more         its beginning, and one representation more
---   run-there, run-small, run-inside     there are words at its line, the line is small, and there is room for it in the notes
+--   run-there, run-small       there are words at its line, and the line is small
 --   run-stops, run-all         its end: at another degree, or behind all
 use mathlib.Core.Path.{_≡_, refl, ap, sym, _∙_}
 use mathlib.Core.List.{List}
@@ -12,7 +12,7 @@ use Prim.Native.Nat.{ℕ, _+_, _*_, _-_, _≤_, _<_}
 use native.Mathlib.Omega.{arith}
 use lib.ListN.{length}
 use Rattle.definitions.specs.Table.{DEG, wordAt}
-use Rattle.fields.specs.Fields.{Inside, Put}
+use Rattle.fields.specs.Fields.{Put}
 use Rattle.fields.proofs.Rows.{field-rows, filled-none, filled-put}
 use Rattle.level.specs.declared.Listed.{Listed}
 use Rattle.level.specs.Stored.{lineIn}
@@ -31,7 +31,7 @@ firsts-all F l = record { long = F .long; at = λ k h. F .at k (omega arith) }
 pub run-step : (D : Listed) (n x : ℕ) → x ≡ lineIn D n → x - D .line ≡ n * D .deg
 run-step D n x e = omega (arith, e)
 
-module _ {f : Frame} {W : List ℕ} {r : ℕ} {D : Listed} (L : Located f W r D) (notes₀ : List ℕ) where
+module _ (f : Frame) (W notes₀ : List ℕ) (r : ℕ) where
   pub record NotingRun (notes : List ℕ) (line q : ℕ) : Type 0 where
     pub forth : r ≤ q
     pub within : q ≤ f .reps
@@ -39,12 +39,19 @@ module _ {f : Frame} {W : List ℕ} {r : ℕ} {D : Listed} (L : Located f W r D)
     pub noted : FirstsTo f W notes q
     pub reached : line ≡ firstOf f W q
 
-  pub run-none : FirstsTo f W notes₀ r → NotingRun notes₀ (D .line) r
-  run-none F = record { forth = omega arith; within = omega (arith, L .listed); len = refl; noted = F; reached = ap (λ (E : Listed). E .line) (L .is) }
+module _ {f : Frame} {W notes₀ : List ℕ} {r : ℕ} {D : Listed} (L : Located f W r D) where
+  pub run-none : FirstsTo f W notes₀ r → NotingRun f W notes₀ r notes₀ (D .line) r
+  run-none F = record {
+    forth = omega arith;
+    within = omega (arith, L .listed);
+    len = refl;
+    noted = F;
+    reached = ap (λ (E : Listed). E .line) (L .is);
+  }
 
-  module _ {notes : List ℕ} {line q : ℕ} (R : NotingRun notes line q) where
+  module _ {notes : List ℕ} {line q : ℕ} (R : NotingRun f W notes₀ r notes line q) where
     pub run-more : {notes′ : List ℕ} {step : ℕ} → q < f .reps → wordAt W line DEG ≡ D .deg → step ≡ f .gens * D .deg → Put 5 0 q line notes notes′
-        → NotingRun notes′ (line + step) (q + 1)
+        → NotingRun f W notes₀ r notes′ (line + step) (q + 1)
     run-more {notes′} {step} h e s P = record {
       forth = omega (arith, R .forth);
       within = omega arith;
@@ -64,18 +71,10 @@ module _ {f : Frame} {W : List ℕ} {r : ℕ} {D : Listed} (L : Located f W r D)
         let e : f .gens * D .deg ≡ f .gens * degOf f W r = ap (λ x. f .gens * x) (located-degree L) in
         omega (arith, R .reached, first-below f W (L .stands) q h, first-below f W (L .stands) r (L .listed), e, L .stands .short .1)
 
-    pub run-inside : q < f .reps → Inside 5 0 notes q
-    run-inside h = record { fields = omega arith; rows = omega (arith, R .noted .long) }
-
     pub run-all : f .reps ≤ q → RunNoted f W notes₀ notes r (record { rep = q; line = line })
     run-all l = record { forth = omega (arith, L .listed); within = R .within; len = R .len; noted = R .noted; behind = R .reached }
 
     pub run-stops : ¬ (wordAt W line DEG ≡ D .deg) → RunNoted f W notes₀ notes r (record { rep = q; line = line })
     run-stops v =
-        let other : ¬ (q ≡ r) = λ e. v (ap (λ x. wordAt W x DEG) (R .reached ∙ ap (firstOf f W) e) ∙ sym (located-degree L)) in record {
-          forth = omega (arith, R .forth, other);
-          within = R .within;
-          len = R .len;
-          noted = R .noted;
-          behind = R .reached;
-        }
+        let other : ¬ (q ≡ r) = λ e. v (ap (λ x. wordAt W x DEG) (R .reached ∙ ap (firstOf f W) e) ∙ sym (located-degree L)) in
+        record { forth = omega (arith, R .forth, other); within = R .within; len = R .len; noted = R .noted; behind = R .reached }

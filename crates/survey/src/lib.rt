@@ -115,8 +115,7 @@ fn note_run(low: &[u32], notes: &mut [u32], f: Frame, d: Listed, r: u32) -> Next
     let step = level::matrix_line(d, f.gens) - d.line;
     let mut line = d.line;
     let mut q = r;
-    let reps = f.reps;
-    while q < reps {
+    while q < f.reps {
         if level::word_at(low, line, level::DEG) != d.deg {
             return NextFirst { rep: q, line };
         }

@@ -1,24 +1,20 @@
 -- `note_run` goes on as long as the degree stays.
-use mathlib.Core.Path.{_≡_, refl, sym, _∙_}
+use mathlib.Core.Path.{_≡_, sym, _∙_}
 use Prim.Native.Nat.{_*_, _-_}
 use native.Mathlib.Nat.{le-refl}
 use native.Mathlib.Omega.{arith}
-use denote.Ref.{now}
-use Rattle.survey.specs.declared.Frame.{Frame}
-use Rattle.survey.specs.Below.{Located, FirstsTo}
 use Rattle.survey.proofs.Level.{located-line}
-use Rattle.survey.proofs.Firsts.{run-step, NotingRun, run-none, run-more, run-there, run-small, run-inside, run-stops, run-all}
+use Rattle.survey.proofs.Firsts.{run-step, NotingRun, run-none, run-more, run-there, run-small, run-stops, run-all}
+use Rattle.survey.proofs.Notes.{inside-below}
 use borrow.Author.Needs.{needs}
 use Rattle.survey.proofs.note_run.Statement.{statement}
 use Rattle.survey.proofs.note_run.Tie as tie
 
--- for whatever frame d is located in
 abbrev Inv-loop : tie.InvT-loop
-Inv-loop low notes₀ d r step line₀ q₀ reps notes line q =
-    (f : Frame) (L : Located f low r d) → FirstsTo f low notes₀ r → reps ≡ f .reps → step ≡ f .gens * d .deg → NotingRun L notes₀ notes line q
+Inv-loop low notes₀ f d r step line₀ q₀ notes line q = (step ≡ f .gens * d .deg) × NotingRun f low notes₀ r notes line q
 
 abbrev μ-loop : tie.MeasureT-loop
-μ-loop low notes₀ d r step line₀ q₀ reps notes line q = reps - q
+μ-loop low notes₀ f d r step line₀ q₀ notes line q = f .reps - q
 
 matrix-line-requires : tie.Need-matrix-line-requires Inv-loop μ-loop
 matrix-line-requires c κs =
@@ -31,65 +27,47 @@ sub-step c =
     omega (arith, at-matrix-line .matrix-line .ensures)
 
 loop-holds : tie.Need-loop-holds Inv-loop μ-loop
-loop-holds c = λ f L F e st. run-none L _ F
+loop-holds c =
+    let at-matrix-line = c .before in
+    let z = at-matrix-line .before .before .before in
+    (run-step (z .args .d) (z .args .f .gens) _ (at-matrix-line .matrix-line .ensures), run-none (z .pre .0) (z .pre .1))
 
 word-at-requires : tie.Need-word-at-requires Inv-loop μ-loop
 word-at-requires c κs =
-    let at-loop = c .before in
-    let at-matrix-line = at-loop .before .before in
-    let z = at-matrix-line .before .before .before in
-    let step = run-step (z .args .d) (z .args .f .gens) _ (at-matrix-line .matrix-line .ensures) in
-    let R = at-loop .loop .inv (z .args .f) (z .pre .0) (z .pre .1) refl step in
-    (run-there (z .pre .0) (now (z .args .notes)) R (c .loop-test .taken), omega arith)
+    let at-loop = c .before .before in
+    let z = at-loop .before .before .before .before .before in
+    (run-there (z .pre .0) (at-loop .loop .inv .1) (c .if1 .taken), omega arith)
 
 same-length : tie.Need-same-length Inv-loop μ-loop
-same-length c =
-    let at-loop = c .before .before .before .before in
-    let at-matrix-line = at-loop .before .before in
-    let z = at-matrix-line .before .before .before in
-    let step = run-step (z .args .d) (z .args .f .gens) _ (at-matrix-line .matrix-line .ensures) in
-    let R = at-loop .loop .inv (z .args .f) (z .pre .0) (z .pre .1) refl step in
-    R .len
+same-length c = c .before .before .before .before .before .loop .inv .1 .len
 
 returns : tie.Need-returns Inv-loop μ-loop
 returns c =
     let at-word-at = c .before .before in
-    let at-loop = at-word-at .before .before in
-    let at-matrix-line = at-loop .before .before in
-    let z = at-matrix-line .before .before .before in
-    let step = run-step (z .args .d) (z .args .f .gens) _ (at-matrix-line .matrix-line .ensures) in
-    let R = at-loop .loop .inv (z .args .f) (z .pre .0) (z .pre .1) refl step in
-    run-stops (z .pre .0) (now (z .args .notes)) R (λ e. c .if1 .taken (at-word-at .word-at .ensures ∙ e))
+    let at-loop = at-word-at .before .before .before in
+    let z = at-loop .before .before .before .before .before in
+    run-stops (z .pre .0) (at-loop .loop .inv .1) (λ e. c .if2 .taken (at-word-at .word-at .ensures ∙ e))
 
 cast-put-note : tie.Need-cast-put-note Inv-loop μ-loop
 cast-put-note c =
-    let at-in-loop = c .before .before .before .before in
-    let at-loop = at-in-loop .before in
-    let at-matrix-line = at-loop .before .before in
-    let z = at-matrix-line .before .before .before in
-    let step = run-step (z .args .d) (z .args .f .gens) _ (at-matrix-line .matrix-line .ensures) in
-    let R = at-loop .loop .inv (z .args .f) (z .pre .0) (z .pre .1) refl step in
-    omega (arith, run-small (z .pre .0) (now (z .args .notes)) R (at-in-loop .loop-test .taken))
+    let at-if1 = c .before .before .before .before in
+    let at-loop = at-if1 .before .before in
+    let z = at-loop .before .before .before .before .before in
+    omega (arith, run-small (z .pre .0) (at-loop .loop .inv .1) (at-if1 .if1 .taken))
 
 put-note-requires : tie.Need-put-note-requires Inv-loop μ-loop
 put-note-requires c κs =
-    let at-in-loop = c .before .before .before .before in
-    let at-loop = at-in-loop .before in
-    let at-matrix-line = at-loop .before .before in
-    let z = at-matrix-line .before .before .before in
-    let step = run-step (z .args .d) (z .args .f .gens) _ (at-matrix-line .matrix-line .ensures) in
-    let R = at-loop .loop .inv (z .args .f) (z .pre .0) (z .pre .1) refl step in
-    run-inside (z .pre .0) (now (z .args .notes)) R (at-in-loop .loop-test .taken)
+    let at-if1 = c .before .before .before .before in
+    let at-loop = at-if1 .before .before in
+    let z = at-loop .before .before .before .before .before in
+    inside-below 0 (z .args .f .reps) _ _ (omega arith) (at-loop .loop .inv .1 .noted .long) (at-if1 .if1 .taken)
 
 add-line : tie.Need-add-line Inv-loop μ-loop
 add-line c =
-    let at-in-loop = c .before .before .before .before .before .before .before in
-    let at-loop = at-in-loop .before in
-    let at-matrix-line = at-loop .before .before in
-    let z = at-matrix-line .before .before .before in
-    let step = run-step (z .args .d) (z .args .f .gens) _ (at-matrix-line .matrix-line .ensures) in
-    let R = at-loop .loop .inv (z .args .f) (z .pre .0) (z .pre .1) refl step in
-    omega (arith, run-small (z .pre .0) (now (z .args .notes)) R (at-in-loop .loop-test .taken), step)
+    let at-if1 = c .before .before .before .before .before .before .before in
+    let at-loop = at-if1 .before .before in
+    let z = at-loop .before .before .before .before .before in
+    omega (arith, run-small (z .pre .0) (at-loop .loop .inv .1) (at-if1 .if1 .taken), at-loop .loop .inv .0)
 
 add-q : tie.Need-add-q Inv-loop μ-loop
 add-q c = search needs
@@ -100,33 +78,23 @@ loop-less c = search needs
 loop-again : tie.Need-loop-again Inv-loop μ-loop
 loop-again c =
     let at-put-note = c .before .before in
-    let at-if1 = at-put-note .before .before in
-    let at-word-at = at-if1 .before .before in
-    let at-in-loop = at-word-at .before in
-    let at-loop = at-in-loop .before in
+    let at-if2 = at-put-note .before .before in
+    let at-word-at = at-if2 .before .before in
+    let at-if1 = at-word-at .before in
+    let at-loop = at-if1 .before .before in
     let z = at-loop .before .before .before .before .before in
-    let same : at-word-at .word-at .result ≡ z .args .d .deg = omega (arith, at-if1 .if1 .left) in
-    λ f L F e st.
-    let R = at-loop .loop .inv f L F e st in
-    run-more L _ R (omega (arith, at-in-loop .loop-test .taken, e)) (sym (at-word-at .word-at .ensures) ∙ same) st (at-put-note .put-note .ensures)
+    let same : at-word-at .word-at .result ≡ z .args .d .deg = omega (arith, at-if2 .if2 .left) in
+    let I = at-loop .loop .inv in
+    (I .0, run-more (z .pre .0) (I .1) (at-if1 .if1 .taken) (sym (at-word-at .word-at .ensures) ∙ same) (I .0) (at-put-note .put-note .ensures))
 
 same-length-2 : tie.Need-same-length-2 Inv-loop μ-loop
-same-length-2 c =
-    let at-loop = c .before in
-    let at-matrix-line = at-loop .before .before in
-    let z = at-matrix-line .before .before .before in
-    let step = run-step (z .args .d) (z .args .f .gens) _ (at-matrix-line .matrix-line .ensures) in
-    let R = at-loop .loop .inv (z .args .f) (z .pre .0) (z .pre .1) refl step in
-    R .len
+same-length-2 c = c .before .before .loop .inv .1 .len
 
 returns-2 : tie.Need-returns-2 Inv-loop μ-loop
 returns-2 c =
-    let at-loop = c .before in
-    let at-matrix-line = at-loop .before .before in
-    let z = at-matrix-line .before .before .before in
-    let step = run-step (z .args .d) (z .args .f .gens) _ (at-matrix-line .matrix-line .ensures) in
-    let R = at-loop .loop .inv (z .args .f) (z .pre .0) (z .pre .1) refl step in
-    run-all (z .pre .0) (now (z .args .notes)) R (omega arith)
+    let at-loop = c .before .before in
+    let z = at-loop .before .before .before .before .before in
+    run-all (z .pre .0) (at-loop .loop .inv .1) (omega arith)
 
 pub note-run-spec : {M : Type 1} → statement M
 note-run-spec =
