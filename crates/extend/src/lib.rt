@@ -3,8 +3,7 @@
 //   Origin, find_origin          what the extensions are copied from
 //   power, reference             the reference of a generator in an extension
 //   append_matrix                one generator of an extension
-//   append_low, append_generators      the generators up to the one on top; all of an extension
-//   append_extension             one extension
+//   append_low, append_extension      the generators up to the one on top; one extension
 //   append_each, append_extensions     all of them
 ghost use mathlib.Core.Path.{_≡_};
 ghost use mathlib.Core.List.{List};
@@ -115,8 +114,8 @@ fn append_low(words: &mut [u32], f: Frame, o: Origin, at: usize, k: u32) -> usiz
     append_matrix(words, f, o, pos, k, top, o.rep, o.root + k * o.step)
 }
 
-// Appends the generators of extension k, one behind the other.
-fn append_generators(
+// Appends extension k, generator after generator.
+fn append_extension(
     words: &mut [u32],
     rows: &Rows,
     targets: &[u32],
@@ -137,37 +136,6 @@ fn append_generators(
         pos = append_matrix(words, f, o, pos, k, g, x, 0);
     }
     pos
-}
-
-// Appends extension k. Degree 1 is handed over as a constant, so that its loops are compiled apart.
-fn append_extension(
-    words: &mut [u32],
-    rows: &Rows,
-    targets: &[u32],
-    f: Frame,
-    o: Origin,
-    at: usize,
-    k: u32,
-) -> usize
-    requires { ⌜ Extends f (lowOf f (now words)) (now rows) (now targets) o × (k < f .p) ⌝ }
-    requires { ⌜ Space (f .end) at (8 * (f .gens * o .source .deg)) (now words) ⌝ }
-    ensures { λ x. ⌜ Appended (now (words .entry)) at (extensionWords f (lowOf f (now (words .entry))) (now (rows .entry)) (o .rep) k) (now (words .exit)) x ⌝ }
-{
-    let d = o.source;
-    if d.deg == 1 {
-        let e = Origin {
-            rep: o.rep,
-            source: Listed {
-                line: d.line,
-                deg: 1,
-            },
-            number: o.number,
-            root: o.root,
-            step: o.step,
-        };
-        return append_generators(words, rows, targets, f, e, at, k);
-    }
-    append_generators(words, rows, targets, f, o, at, k)
 }
 
 // Appends the extensions, one behind the other.

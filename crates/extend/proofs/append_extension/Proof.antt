@@ -1,36 +1,90 @@
--- `append_extension` appends the generators; where the degree is 1 it is written out.
-use mathlib.Core.Path.{_≡_, subst}
-use Prim.Native.Nat.{_+_, _*_, _≤_}
-use lib.ListN.{length}
+-- `append_extension` appends the generators up to the one on top, and those above one behind the other.
+use mathlib.Core.Path.{_≡_, sym, _∙_, subst}
+use Prim.Native.Nat.{_+_, _*_, _-_, _≤_, _<_}
+use native.Mathlib.Omega.{arith}
 use denote.Ref.{now}
-use Rattle.survey.specs.Below.{lowOf}
-use Rattle.extend.specs.Extending.{Extends}
-use Rattle.extend.proofs.Extensions.{origin-single}
 use borrow.Author.Needs.{needs}
+use Rattle.text.proofs.Writing.{wrote-as}
+use Rattle.lines.proofs.Appending.{going-more, going-even}
+use Rattle.survey.specs.Below.{lowOf}
+use Rattle.extend.specs.Extending.{Copies}
+use Rattle.extend.proofs.Extensions.{factor-other, extends-copies, matrixWords, copy-above, extension-words, matrix-length, Onward, low-space, low-done}
 use Rattle.extend.proofs.append_extension.Statement.{statement}
 use Rattle.extend.proofs.append_extension.Tie as tie
 
-append-generators-requires : tie.Need-append-generators-requires
-append-generators-requires c κs = let z = c .before .before .before .before .before .before in
+abbrev Inv-loop : tie.InvT-loop
+Inv-loop words₁ rows targets f o at k pos₁ above gens g₁ words pos g = (f .top < g) × (g ≤ gens) × (gens ≡ f .gens)
+    × Onward (f .end) (matrixWords f (lowOf f words₁) rows (o .rep) k) (f .top + 1) words₁ pos₁ g words pos
+
+abbrev μ-loop : tie.MeasureT-loop
+μ-loop words₁ rows targets f o at k pos₁ above gens g₁ words pos g = gens - g
+
+append-low-requires : tie.Need-append-low-requires Inv-loop μ-loop
+append-low-requires c κs = let z = c .before .before .before in
+    let E = z .pre .0 .0 in
+    ((extends-copies E, z .pre .0 .1), low-space E (z .pre .1))
+
+add-above : tie.Need-add-above Inv-loop μ-loop
+add-above c = omega (arith, c .before .before .before .before .before .before .before .pre .0 .0 .aimed .sound .stands .gens)
+
+loop-holds : tie.Need-loop-holds Inv-loop μ-loop
+loop-holds c = let z = c .before .before .before .before .before .before .before in
+    (search needs, omega (arith, z .pre .0 .0 .aimed .sound .stands .gens), search needs, λ w a G. G)
+
+reference-requires : tie.Need-reference-requires Inv-loop μ-loop
+reference-requires c κs = let z = c .before .before .before .before .before .before .before .before .before in
+    let l = c .before .loop in
+    ((_, (_, z .pre .0 .0 .aimed)), l .inv .0, search needs, z .pre .0 .1)
+
+append-matrix-requires : tie.Need-append-matrix-requires Inv-loop μ-loop
+append-matrix-requires c κs = let l = c .before .before .before .loop in
+    let low = c .before .before .before .before .before .before .before in
+    let z = low .before .before .before .before in
+    let f = z .args .f in
+    let o = z .args .o in
+    let E = z .pre .0 .0 in
+    let L = low-done E (z .args .k) (z .pre .1) (low .append-low .ensures) in
+    let G = l .inv .3 _ _ (L .1) in
+    let less : l .g < f .gens = search needs in (
+      (subst (λ W. Copies f W o) (sym (G .below)) (extends-copies E), z .pre .0 .1, less, factor-other f o (l .g) (z .args .k) (λ e. omega (arith, e, l .inv .0))),
+      going-even (f .gens) (8 * o .source .deg) (matrix-length (L .0) (z .args .k)) G less (omega (arith, z .pre .1 .room)),
+    )
+
+add-g : tie.Need-add-g Inv-loop μ-loop
+add-g c = search needs
+
+loop-less : tie.Need-loop-less Inv-loop μ-loop
+loop-less c = search needs
+
+loop-again : tie.Need-loop-again Inv-loop μ-loop
+loop-again c = let turn = c .before .before .before .before in
+    let l = turn .before .before .loop in
+    let low = turn .before .before .before .before .before .before in
+    let z = low .before .before .before .before in
+    let L = low-done (z .pre .0 .0) (z .args .k) (z .pre .1) (low .append-low .ensures) in
+    let G = l .inv .3 _ _ (L .1) in
+    let less : l .g < z .args .f .gens = search needs in
+    let copy = copy-above (L .0) (z .args .k) (l .g) (l .inv .0) less (turn .reference .ensures) in
+    let written = wrote-as (rw (G .below ∙ sym (L .1 .below)) at (c .before .before .append-matrix .ensures)) copy in
+    (search needs, search needs, search needs, λ w a K. going-more (l .inv .3 w a K) written)
+
+same-length : tie.Need-same-length Inv-loop μ-loop
+same-length c = let low = c .before .before .before .before .before in
+    let z = low .before .before .before .before in
+    let L = low-done (z .pre .0 .0) (z .args .k) (z .pre .1) (low .append-low .ensures) in
+    c .before .loop .inv .3 _ _ (L .1) .len
+
+returns : tie.Need-returns Inv-loop μ-loop
+returns c = let l = c .before .loop in
+    let low = c .before .before .before .before .before in
+    let z = low .before .before .before .before in
+    let L = low-done (z .pre .0 .0) (z .args .k) (z .pre .1) (low .append-low .ensures) in
     let a = z .args in
-    let one : a .o .source .deg ≡ 1 = c .before .if1 .taken in
-    let E = subst (Extends (a .f) (lowOf (a .f) (now (a .words))) (now (a .rows)) (now (a .targets))) (origin-single (a .o) one) (z .pre .0 .0) in
-    ((E, z .pre .0 .1), record { from = z .pre .1 .from; room = subst (λ d. 8 * a .at + 8 * (a .f .gens * d) ≤ length (now (a .words))) one (z .pre .1 .room) })
-
-same-length : tie.Need-same-length
-same-length c = search needs
-
-returns : tie.Need-returns
-returns c = search needs
-
-append-generators-requires-2 : tie.Need-append-generators-requires-2
-append-generators-requires-2 c κs = search needs
-
-same-length-2 : tie.Need-same-length-2
-same-length-2 c = search needs
-
-returns-2 : tie.Need-returns-2
-returns-2 c = search needs
+    let e : l .g ≡ a .f .gens = omega arith in
+    wrote-as (l .inv .3 _ _ (L .1) .wrote) (extension-words (a .f) (now (a .rows)) (a .o .rep) (a .k) e (L .1 .below))
 
 pub append-extension-spec : {M : Type 1} → statement M
-append-extension-spec = tie.close (tie.spec append-generators-requires same-length returns append-generators-requires-2 same-length-2 returns-2)
+append-extension-spec =
+    tie.close
+    (tie.spec
+    Inv-loop μ-loop append-low-requires add-above loop-holds reference-requires append-matrix-requires add-g loop-less loop-again same-length returns)
