@@ -1,7 +1,7 @@
 -- First lines, written one behind the other.
 --
 --   noted-none, noted-more, noted-all, noted-stops     the steps of a loop that writes them
---   run-step, Running, running-none, running-more, running-stops, running-all     those of one degree
+--   Running, running-none, running-more, running-stops, running-all     those of one degree
 --   run-left, left-ran               the squares of their degrees, taken from the order at once
 --   not-noted                        nothing is written
 use mathlib.Core.Path.{_≡_, refl, sym, _∙_, ap, subst}
@@ -61,10 +61,6 @@ module _ {s : Scope} {T : List ℕ} {i at : ℕ} {F₀ : List ℕ} where
     noted-stops = record { size = N .size; kept = N .kept; lined = λ n. absurd (n refl); squares = λ n. absurd (n refl) }
 
 -- ---- Representations of one degree
-
--- the lines of a representation
-pub run-step : (D : Listed) (n x : ℕ) → x ≡ D .line + n * D .deg → x - D .line ≡ n * D .deg
-run-step D n x e = omega arith
 
 module _ {s : Scope} {T : List ℕ} {i : ℕ} {D : Listed} {size at r reps : ℕ} (A : RunAsked s T i D size at r reps) (F : List ℕ) where
   -- representations from r on are written up to q, which stands at a line

@@ -13,7 +13,6 @@
 --   extension-words, matrix-length, extension-length     the words of an extension, and lengths
 --   Onward                     a loop that goes on from where another has ended
 --   low-space, low-done        the generators up to the one on top: there is room for them, and when they are written
---   origin-single              an origin of degree 1, with the degree written out
 use mathlib.Core.Path.{_≡_, refl, ap, ap₂, sym, _∙_, subst}
 use mathlib.Core.List.{List, [], _∷_}
 use Prim.Native.Nat.{ℕ, suc, _+_, _*_, _/_, _%_, _<_, _≤_}
@@ -283,10 +282,3 @@ module _ {f : Frame} {w : List ℕ} {rows : List (List ℕ)} {targets : List ℕ
       let H : Going (f .end) (matrixWords f (lowOf f w) rows (o .rep) k) w at (f .top + 1) w′ at′ =
       record { wrote = wrote-as p (low-words E k); len = G .len; below = G .below; from = G .from } in
       subst (λ W. Extends f W rows targets o × Going (f .end) (matrixWords f W rows (o .rep) k) w at (f .top + 1) w′ at′) (sym (G .below)) (E, H)
-
--- ---- Degree 1
-
--- an origin of degree 1, with the degree written out
-pub origin-single : (o : Origin) → o .source .deg ≡ 1
-    → o ≡ record { rep = o .rep; source = record { line = o .source .line; deg = 1 }; number = o .number; root = o .root; step = o .step }
-origin-single o e = λ i. record { rep = o .rep; source = record { line = o .source .line; deg = e i }; number = o .number; root = o .root; step = o .step }

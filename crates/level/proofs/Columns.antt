@@ -13,6 +13,7 @@
 --   walk-ends                  a word that ends early is walked as far as it goes
 --   stored-fewer               fewer generators stand where more do
 --   matrix-inside              the lines of a generator stand among those of all
+--   all-lines                  how many lines all have
 use mathlib.Core.Path.{_≡_, refl, ap, ap₂, sym, _∙_}
 use Prim.Native.Nat.{ℕ, zero, suc, _+_, _-_, _*_, _%_, _<_, _≤_}
 use native.Mathlib.Nat.{mod-eq-of-lt, mod-eq-sub-mod, mod-lt, mod-add-mod, add-mod-mod, mul-le-mul-right}
@@ -148,3 +149,6 @@ stored-fewer k l S = record { positive = S .positive; degree = S .degree; holds 
 
 pub matrix-inside : (D : Listed) (n g words : ℕ) → g < n → 8 * lineIn D n ≤ words → 8 * (lineIn D g + D .deg) ≤ words
 matrix-inside D n g words h k = let e : suc g * D .deg ≤ n * D .deg = mul-le-mul-right {m = suc g} {n = n} (D .deg) h in omega (arith, e)
+
+pub all-lines : (D : Listed) (n x : ℕ) → x ≡ lineIn D n → x - D .line ≡ n * D .deg
+all-lines D n x e = omega (arith, e)

@@ -1,21 +1,19 @@
 -- Laws of first lines while they are noted.
 --
 --   firsts-none, firsts-all    none is noted; all are
---   run-step                   how many lines a representation has
 --   NotingRun                  a run that began with representation r has come to q
 --   run-none, run-more         its beginning, and one representation more
 --   run-there, run-small       there are words at its line, and the line is small
 --   run-stops, run-all         its end: at another degree, or behind all
 use mathlib.Core.Path.{_≡_, refl, ap, sym, _∙_}
 use mathlib.Core.List.{List}
-use Prim.Native.Nat.{ℕ, _+_, _*_, _-_, _≤_, _<_}
+use Prim.Native.Nat.{ℕ, _+_, _*_, _≤_, _<_}
 use native.Mathlib.Omega.{arith}
 use lib.ListN.{length}
 use Rattle.definitions.specs.Table.{DEG, wordAt}
 use Rattle.fields.specs.Fields.{Put}
 use Rattle.fields.proofs.Rows.{field-rows, filled-none, filled-put}
 use Rattle.level.specs.declared.Listed.{Listed}
-use Rattle.level.specs.Stored.{lineIn}
 use Rattle.survey.specs.declared.Frame.{Frame}
 use Rattle.survey.specs.Notes.{firsts}
 use Rattle.survey.specs.Below.{firstOf, degOf, Located, Lines, FirstsTo, RunNoted}
@@ -27,9 +25,6 @@ firsts-none f W notes l = record { long = field-rows 5 0 (f .reps) notes (omega 
 
 pub firsts-all : {f : Frame} {W notes : List ℕ} {r : ℕ} → FirstsTo f W notes r → f .reps ≤ r → Lines f W (firsts notes)
 firsts-all F l = record { long = F .long; at = λ k h. F .at k (omega arith) }
-
-pub run-step : (D : Listed) (n x : ℕ) → x ≡ lineIn D n → x - D .line ≡ n * D .deg
-run-step D n x e = omega (arith, e)
 
 module _ (f : Frame) (W notes₀ : List ℕ) (r : ℕ) where
   pub record NotingRun (notes : List ℕ) (line q : ℕ) : Type 0 where

@@ -6,10 +6,11 @@ use native.Mathlib.Omega.{arith}
 use lib.ListN.{length}
 use denote.Ref.{now}
 use Rattle.definitions.specs.Presentation.{maxGenerators}
+use Rattle.level.proofs.Columns.{all-lines}
 use Rattle.seek.specs.declared.Scope.{Scope}
 use Rattle.seek.proofs.Halves.{lines-there}
 use Rattle.check_level.specs.Lines.{RunAsked}
-use Rattle.check_level.proofs.Lines.{run-step, Running, running-none, running-there, running-small, running-more, running-stops, running-all}
+use Rattle.check_level.proofs.Lines.{Running, running-none, running-there, running-small, running-more, running-stops, running-all}
 use Rattle.check_level.proofs.run_lines.Statement.{statement}
 use Rattle.check_level.proofs.run_lines.Tie as tie
 
@@ -39,7 +40,7 @@ word-at-requires c κs =
     let at-loop = c .before in
     let at-matrix-line = at-loop .before .before in
     let z = at-matrix-line .before .before .before in
-    let step = run-step (z .args .d) (z .args .s .gens) _ (at-matrix-line .matrix-line .ensures) in
+    let step = all-lines (z .args .d) (z .args .s .gens) _ (at-matrix-line .matrix-line .ensures) in
     (running-there (z .pre) _ (at-loop .loop .inv (z .args .s) (z .args .i) (z .pre) step) (omega arith), omega arith)
 
 same-length : tie.Need-same-length Inv-loop μ-loop
@@ -47,7 +48,7 @@ same-length c =
     let at-loop = c .before .before .before .before in
     let at-matrix-line = at-loop .before .before in
     let z = at-matrix-line .before .before .before in
-    let step = run-step (z .args .d) (z .args .s .gens) _ (at-matrix-line .matrix-line .ensures) in
+    let step = all-lines (z .args .d) (z .args .s .gens) _ (at-matrix-line .matrix-line .ensures) in
     at-loop .loop .inv (z .args .s) (z .args .i) (z .pre) step .same
 
 returns : tie.Need-returns Inv-loop μ-loop
@@ -56,7 +57,7 @@ returns c =
     let at-loop = at-word-at .before .before in
     let at-matrix-line = at-loop .before .before in
     let z = at-matrix-line .before .before .before in
-    let step = run-step (z .args .d) (z .args .s .gens) _ (at-matrix-line .matrix-line .ensures) in
+    let step = all-lines (z .args .d) (z .args .s .gens) _ (at-matrix-line .matrix-line .ensures) in
     running-stops (z .pre) _ (at-loop .loop .inv (z .args .s) (z .args .i) (z .pre) step) (λ e. c .if1 .taken (at-word-at .word-at .ensures ∙ e))
 
 cast-firsts : tie.Need-cast-firsts Inv-loop μ-loop
@@ -65,7 +66,7 @@ cast-firsts c =
     let at-loop = at-in-loop .before in
     let at-matrix-line = at-loop .before .before in
     let z = at-matrix-line .before .before .before in
-    let step = run-step (z .args .d) (z .args .s .gens) _ (at-matrix-line .matrix-line .ensures) in
+    let step = all-lines (z .args .d) (z .args .s .gens) _ (at-matrix-line .matrix-line .ensures) in
     omega (arith, running-small (z .pre) _ (at-loop .loop .inv (z .args .s) (z .args .i) (z .pre) step) (at-in-loop .loop-test .taken))
 
 add-firsts : tie.Need-add-firsts Inv-loop μ-loop
@@ -86,7 +87,7 @@ slice-write-firsts c =
     let at-loop = at-in-loop .before in
     let at-matrix-line = at-loop .before .before in
     let z = at-matrix-line .before .before .before in
-    let step = run-step (z .args .d) (z .args .s .gens) _ (at-matrix-line .matrix-line .ensures) in
+    let step = all-lines (z .args .d) (z .args .s .gens) _ (at-matrix-line .matrix-line .ensures) in
     let R = at-loop .loop .inv (z .args .s) (z .args .i) (z .pre) step in
     omega (arith, z .pre .room, at-in-loop .loop-test .taken, R .same)
 
@@ -96,7 +97,7 @@ add-line c =
     let at-loop = at-in-loop .before in
     let at-matrix-line = at-loop .before .before in
     let z = at-matrix-line .before .before .before in
-    let step = run-step (z .args .d) (z .args .s .gens) _ (at-matrix-line .matrix-line .ensures) in
+    let step = all-lines (z .args .d) (z .args .s .gens) _ (at-matrix-line .matrix-line .ensures) in
     let small = running-small (z .pre) _ (at-loop .loop .inv (z .args .s) (z .args .i) (z .pre) step) (at-in-loop .loop-test .taken) in
     let m : z .args .s .gens * z .args .d .deg ≤ maxGenerators * z .args .d .deg = mul-le-mul-right (z .args .d .deg) (z .pre .whole .few) in
     omega (arith, small, m, step, z .fits)
@@ -128,7 +129,7 @@ same-length-2 c =
     let at-loop = c .before in
     let at-matrix-line = at-loop .before .before in
     let z = at-matrix-line .before .before .before in
-    let step = run-step (z .args .d) (z .args .s .gens) _ (at-matrix-line .matrix-line .ensures) in
+    let step = all-lines (z .args .d) (z .args .s .gens) _ (at-matrix-line .matrix-line .ensures) in
     at-loop .loop .inv (z .args .s) (z .args .i) (z .pre) step .same
 
 returns-2 : tie.Need-returns-2 Inv-loop μ-loop
@@ -136,7 +137,7 @@ returns-2 c =
     let at-loop = c .before in
     let at-matrix-line = at-loop .before .before in
     let z = at-matrix-line .before .before .before in
-    let step = run-step (z .args .d) (z .args .s .gens) _ (at-matrix-line .matrix-line .ensures) in
+    let step = all-lines (z .args .d) (z .args .s .gens) _ (at-matrix-line .matrix-line .ensures) in
     running-all (z .pre) _ (at-loop .loop .inv (z .args .s) (z .args .i) (z .pre) step) (omega arith)
 
 pub run-lines-spec : {M : Type 1} → statement M

@@ -3,8 +3,9 @@ use mathlib.Core.Path.{_≡_, sym, _∙_}
 use Prim.Native.Nat.{_*_, _-_}
 use native.Mathlib.Nat.{le-refl}
 use native.Mathlib.Omega.{arith}
+use Rattle.level.proofs.Columns.{all-lines}
 use Rattle.survey.proofs.Level.{located-line}
-use Rattle.survey.proofs.Firsts.{run-step, NotingRun, run-none, run-more, run-there, run-small, run-stops, run-all}
+use Rattle.survey.proofs.Firsts.{NotingRun, run-none, run-more, run-there, run-small, run-stops, run-all}
 use Rattle.survey.proofs.Notes.{inside-below}
 use borrow.Author.Needs.{needs}
 use Rattle.survey.proofs.note_run.Statement.{statement}
@@ -30,7 +31,7 @@ loop-holds : tie.Need-loop-holds Inv-loop μ-loop
 loop-holds c =
     let at-matrix-line = c .before in
     let z = at-matrix-line .before .before .before in
-    (run-step (z .args .d) (z .args .f .gens) _ (at-matrix-line .matrix-line .ensures), run-none (z .pre .0) (z .pre .1))
+    (all-lines (z .args .d) (z .args .f .gens) _ (at-matrix-line .matrix-line .ensures), run-none (z .pre .0) (z .pre .1))
 
 word-at-requires : tie.Need-word-at-requires Inv-loop μ-loop
 word-at-requires c κs =
