@@ -2,7 +2,7 @@
 // on. Nothing is asked but what whole lines, complete and in order, with valid matrices guarantee.
 //
 //   LEVEL .. EXP                 the fields of a line
-//   add_mod, sub_mod             sums and differences of exponents
+//   reduce, add_mod, sub_mod     sums and differences of exponents
 //   word_at, entry_at, column    what stands in a line
 //   apply, apply_times           a column moved through a matrix, once or several times
 //   Listed, representation       a representation: its first line and its degree
@@ -45,13 +45,21 @@ pub fn up(x: u32) -> usize
     x as usize
 }
 
+// A number below 2m modulo m, without a branch: `over` is 1 if it reaches m, and 0 else.
+fn reduce(s: u32, m: u32) -> u32
+    requires { ⌜ (s < m + m) × (m ≤ 2147483648) ⌝ }
+    ensures { λ r. ⌜ (r ≡ s % m) × (r < m) ⌝ }
+{
+    let over = (s + (2147483648 - m)) / 2147483648;
+    s - m * over
+}
+
 // The sum modulo m of two numbers below m.
 pub fn add_mod(a: u32, b: u32, m: u32) -> u32
     requires { ⌜ (a < m) × (b < m) × (m ≤ 2147483648) ⌝ }
     ensures { λ r. ⌜ (r ≡ (a + b) % m) × (r < m) ⌝ }
 {
-    let s = a + b;
-    if s < m { s } else { s - m }
+    reduce(a + b, m)
 }
 
 // Their difference modulo m.
@@ -59,7 +67,7 @@ pub fn sub_mod(a: u32, b: u32, m: u32) -> u32
     requires { ⌜ (a < m) × (b < m) × (m ≤ 2147483648) ⌝ }
     ensures { λ r. ⌜ (r ≡ less m a b) × (r < m) ⌝ }
 {
-    if b <= a { a - b } else { a + (m - b) }
+    reduce(a + (m - b), m)
 }
 
 // Word k of a line.

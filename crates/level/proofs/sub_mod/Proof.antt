@@ -1,21 +1,21 @@
--- `sub_mod`: a difference, or m more where it would be below 0.
-use native.Mathlib.Omega.{arith}
-use Rattle.level.proofs.Columns.{less-below, less-above}
+-- `sub_mod`: a difference, and m more.
+use mathlib.Core.Path.{_∙_}
+use Rattle.level.proofs.Columns.{less-is}
 use borrow.Author.Needs.{needs}
 use Rattle.level.proofs.sub_mod.Statement.{statement}
 use Rattle.level.proofs.sub_mod.Tie as tie
 
-sub-result : tie.Need-sub-result
-sub-result c = search needs
+sub-reduce : tie.Need-sub-reduce
+sub-reduce c = search needs
 
-add-result : tie.Need-add-result
-add-result c = search needs
+add-reduce : tie.Need-add-reduce
+add-reduce c = search needs
+
+reduce-requires : tie.Need-reduce-requires
+reduce-requires c κs = search needs
 
 returns : tie.Need-returns
-returns c = (less-below _ _ _ (omega arith) (omega arith) (omega arith), omega arith)
-
-returns-2 : tie.Need-returns-2
-returns-2 c = (less-above _ _ _ (omega arith) (omega arith), omega arith)
+returns c = let z = c .before in (c .reduce .ensures .0 ∙ less-is (z .args .m) (z .args .a) (z .args .b) (z .pre .1), c .reduce .ensures .1)
 
 pub sub-mod-spec : {M : Type 1} → statement M
-sub-mod-spec = tie.close (tie.spec sub-result add-result returns returns-2)
+sub-mod-spec = tie.close (tie.spec sub-reduce add-reduce reduce-requires returns)

@@ -1,0 +1,28 @@
+-- `reduce`: what is taken off.
+use native.Mathlib.Omega.{arith}
+use borrow.Author.Needs.{needs}
+use Rattle.level.proofs.Columns.{Reduced, reduced}
+use Rattle.level.proofs.reduce.Statement.{statement}
+use Rattle.level.proofs.reduce.Tie as tie
+
+sub-over : tie.Need-sub-over
+sub-over c = search needs
+
+add-over : tie.Need-add-over
+add-over c = search needs
+
+-- what the law says of the number
+left : (c : tie.Start) → Reduced (c .args .s) (c .args .m)
+left c = reduced (c .args .s) (c .args .m) (c .pre .1) (c .pre .0)
+
+mul-result : tie.Need-mul-result
+mul-result c = omega (arith, left c .0)
+
+sub-result : tie.Need-sub-result
+sub-result c = left c .0
+
+returns : tie.Need-returns
+returns c = let s = left c in (s .1, omega (arith, s .1, s .2))
+
+pub reduce-spec : {M : Type 1} → statement M
+reduce-spec = tie.close (tie.spec sub-over add-over mul-result sub-result returns)
