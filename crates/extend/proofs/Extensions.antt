@@ -5,8 +5,9 @@
 --   extends-copies             and what one generator asks for
 --   power-known                the power of the generator on top, read in a word
 --   targets-small              bounds of what is held of targets
---   factor-top, factor-other, factor-below      the constants of the generators
+--   factor-top, factor-other   the constants of the generators
 --   piece-copied, piece-lines, copy-length     the lines of a generator as a piece, and their length
+--   same-lines, same-below     those of a generator other than the one on top, as they stand, and where
 --   copy-asked, low-last       what a generator up to the one on top asks, behind those below it; when the last is written
 --   matrixWords                the words of a generator, by the formulas
 --   copy-low, copy-above       what is copied has these words, up to the generator on top and above
@@ -18,11 +19,11 @@ use mathlib.Core.List.{List, [], _∷_}
 use Prim.Native.Nat.{ℕ, suc, _+_, _*_, _/_, _%_, _<_, _≤_}
 use native.Mathlib.Omega.{arith}
 use native.Mathlib.Numerals.{add-one}
-use native.Mathlib.Nat.{zero-add, mod-lt, le-refl, div-le-self, div-lt-iff-lt-mul, mul-comm, mul-le-mul-left, mul-le-mul-right}
-use lib.ListN.{length, getD}
+use native.Mathlib.Nat.{zero-add, mod-lt, le-refl, min-le-left, div-le-self, div-lt-iff-lt-mul, mul-comm, mul-le-mul-left, mul-le-mul-right}
+use lib.ListN.{length, getD, length-take}
 use lib.Dec.{eqb, leb}
 use borrow.Author.Tests.{le-leb, lt-leb}
-use mathlib.Core.Bool.{Bool, true, false, cond}
+use mathlib.Core.Bool.{cond}
 use Rattle.numbers.proofs.Bools.{cond-true, cond-false, cond-eq, cond-ne}
 use Rattle.definitions.specs.declared.Entry.{Entry}
 use Rattle.definitions.specs.Lists.{blocks}
@@ -35,7 +36,9 @@ use Rattle.formulas.specs.Formulas.{Source, made, start, shift, landing, extens
 use Rattle.level.specs.declared.Listed.{Listed}
 use Rattle.level.specs.Stored.{entryIn, matrixIn, lineIn, Holds}
 use Rattle.level.proofs.Columns.{col-matrixIn, col-scale}
-use Rattle.lines.specs.Lines.{headLine, blockLines, Copied, Space, Appended}
+use Rattle.lines.specs.declared.Head.{Head}
+use Rattle.lines.specs.Lines.{headLine, copyLines, blockLines, Copied, Space, Appended}
+use Rattle.lines.proofs.Written.{copy-block}
 use Rattle.lines.proofs.Appending.{Going, going-more, going-even, space-none}
 use Rattle.survey.specs.declared.Frame.{Frame}
 use Rattle.survey.specs.Below.{lowOf, degOf, matrixOf, sourceIn, LevelStands, Fixed, Sound, Surveyed}
@@ -125,32 +128,39 @@ factor-top f o k = sym (cond-eq (f .top) (f .top) _ 0 refl)
 pub factor-other : (f : Frame) (o : Origin) (g k : ℕ) → ¬ (g ≡ f .top) → 0 ≡ factorOf f o g k
 factor-other f o g k n = sym (cond-ne g (f .top) _ 0 n)
 
-module _ {f : Frame} {W : List ℕ} {o : Origin} (C : Copies f W o) where
-  pub factor-below : (g k : ℕ) → k < f .p → factorOf f o g k < f .m
-  factor-below g k l = go (eqb g (f .top))
-    where
-      go : (b : Bool) → cond b (o .root + k * o .step) 0 < f .m
-      go true = C .factor-below k l
-      go false = C .located .stands .modulus .0
+pub piece-copied : {f : Frame} {W : List ℕ} {o : Origin} → Copies f W o → (g : ℕ) → g < f .gens
+    → {src c : ℕ} → src ≡ lineIn (o .source) g → c < f .m → Copied (f .m) W (copyPiece o src c)
+piece-copied {f} {W} {o} C g l e h =
+    let D = C .located in
+    let S = D .stands in
+    let small : o .source .deg ≤ 65536 =
+    subst (λ x. x ≤ 65536) (sym (located-degree D)) (factor-small (f .p) _ 65536 (S .prime .0) (S .wide (o .rep) (D .listed) .1)) in
+    record {
+      holds = subst (λ a. Holds (f .m) W a (o .source .deg)) (sym e) (located-stored D (suc g) l .holds g (le-refl _));
+      by-below = h;
+      columns = omega (arith, small);
+      rows = omega (arith, small);
+    }
 
-  pub piece-copied : (g : ℕ) → g < f .gens → {src c : ℕ} → src ≡ lineIn (o .source) g → c < f .m
-      → Copied (f .m) W (copyPiece o src c)
-  piece-copied g l e h =
-      let D = C .located in
-      let S = D .stands in
-      let small : o .source .deg ≤ 65536 =
-      subst (λ x. x ≤ 65536) (sym (located-degree D)) (factor-small (f .p) _ 65536 (S .prime .0) (S .wide (o .rep) (D .listed) .1)) in
-      record {
-        holds = subst (λ a. Holds (f .m) W a (o .source .deg)) (sym e) (located-stored D (suc g) l .holds g (le-refl _));
-        by-below = h;
-        columns = omega (arith, small);
-        rows = omega (arith, small);
-      }
-
-pub piece-lines : (f : Frame) (W : List ℕ) (o : Origin) (k g x : ℕ) {src c : ℕ} → src ≡ lineIn (o .source) g → c ≡ factorOf f o g k
-    → blockLines (f .m) (copyHead f o k g x) (copyPiece o src c) W ≡ copyWords f W o k g x
+pub piece-lines : (f : Frame) (W : List ℕ) (o : Origin) (k g x : ℕ) {h : Head} {src c : ℕ} → h ≡ copyHead f o k g x → src ≡ lineIn (o .source) g
+    → c ≡ factorOf f o g k → blockLines (f .m) h (copyPiece o src c) W ≡ copyWords f W o k g x
 unfolding copyWords
-piece-lines f W o k g x es ec = ap₂ (λ s t. blockLines (f .m) (copyHead f o k g x) (copyPiece o s t) W) es ec
+piece-lines f W o k g x eh es ec = λ i. blockLines (f .m) (eh i) (copyPiece o (es i) (ec i)) W
+
+-- the lines of a generator other than the one on top, as they stand
+pub same-lines : {f : Frame} {W : List ℕ} {o : Origin} → Copies f W o → (k g x : ℕ) → g < f .gens → ¬ (g ≡ f .top)
+    → {h : Head} {src : ℕ} → h ≡ copyHead f o k g x → src ≡ lineIn (o .source) g → copyLines h src W ≡ copyWords f W o k g x
+same-lines {f} {W} {o} C k g x l n eh es =
+    ap₂ (λ h s. copyLines h s W) eh es
+    ∙ copy-block (f .m) (copyHead f o k g x) (lineIn (o .source) g) W (located-stored (C .located) (suc g) l .holds g (le-refl _))
+    ∙ piece-lines f W o k g x refl refl (factor-other f o g k n)
+
+-- and they stand below
+pub same-below : {f : Frame} (w : List ℕ) {o : Origin} → Copies f (lowOf f w) o → (g : ℕ) → g < f .gens
+    → lineIn (o .source) g + o .source .deg ≤ f .end
+same-below {f} w C g l =
+    let fits = located-stored (C .located) (suc g) l .holds g (le-refl _) .fits in
+    omega (arith, fits, length-take (8 * f .end) w, min-le-left (8 * f .end) (length w))
 
 pub copy-length : (f : Frame) (W : List ℕ) (o : Origin) (k g x : ℕ) → length (copyWords f W o k g x) ≡ 8 * o .source .deg
 unfolding copyWords blockLines headLine
@@ -159,13 +169,12 @@ copy-length f W o k g x = length-even _ 8 (o .source .deg) (λ c l. refl) ∙ om
 pub going-at : {low : ℕ} {f : ℕ → List ℕ} {w₀ : List ℕ} {at₀ g n : ℕ} {w : List ℕ} {at : ℕ} → g ≡ n → Going low f w₀ at₀ g w at → Going low f w₀ at₀ n w at
 going-at {low} {f} {w₀} {at₀} {g} {n} {w} {at} e G = subst (λ n. Going low f w₀ at₀ n w at) e G
 
--- generator g is asked for behind the generators below it
-pub copy-asked : (f : Frame) (w₀ : List ℕ) (o : Origin) {k g at₀ at c : ℕ} {w : List ℕ} → Copies f (lowOf f w₀) o → k < f .p
-    → Going (f .end) (λ j. copyWords f (lowOf f w₀) o k j (o .rep)) w₀ at₀ g w at → g ≤ f .top → c ≡ factorOf f o g k
-    → Space (f .end) at₀ (8 * ((f .top + 1) * o .source .deg)) w₀
-    → (Copies f (lowOf f w) o × (k < f .p) × (g < f .gens) × (c ≡ factorOf f o g k)) × Space (f .end) at (8 * o .source .deg) w
-copy-asked f w₀ o {k} C l G h e s = (
-  (subst (λ W. Copies f W o) (sym (G .below)) C, l, omega (arith, C .located .stands .gens), e),
+-- what generator g asks for, behind the generators below it
+pub copy-asked : (f : Frame) (w₀ : List ℕ) (o : Origin) (k : ℕ) {g at₀ at : ℕ} {w : List ℕ} → Copies f (lowOf f w₀) o
+    → Going (f .end) (λ j. copyWords f (lowOf f w₀) o k j (o .rep)) w₀ at₀ g w at → g ≤ f .top
+    → Space (f .end) at₀ (8 * ((f .top + 1) * o .source .deg)) w₀ → Copies f (lowOf f w) o × Space (f .end) at (8 * o .source .deg) w
+copy-asked f w₀ o k C G h s = (
+  subst (λ W. Copies f W o) (sym (G .below)) C,
   going-even (f .top + 1) (8 * o .source .deg) (λ j. copy-length f _ o k j (o .rep)) G (omega arith) (omega (arith, s .room)),
 )
 

@@ -2,7 +2,8 @@
 //
 //   Origin, find_origin          what the extensions are copied from
 //   power, reference             the reference of a generator in an extension
-//   append_matrix                one generator of an extension
+//   head                         what the lines of one generator share
+//   append_matrix, append_top    one generator of an extension, other than the one on top, and that
 //   append_low, append_extension      the generators up to the one on top; one extension
 //   append_each, append_extensions     all of them
 ghost use mathlib.Core.Path.{_≡_};
@@ -11,8 +12,8 @@ ghost use Prim.Native.Nat.{ℕ, _+_, _*_, _≤_, _<_};
 ghost use Rattle.lines.specs.Lines.{Space, Appended};
 ghost use Rattle.survey.specs.Below.{lowOf, degOf, Fixed, Sound, Surveyed};
 ghost use Rattle.targets.specs.Reached.{Aimed};
-ghost use Rattle.extend.specs.Extending.{originOf, factorOf, powerOf, referenceOf, Extends, Copies};
-ghost use Rattle.extend.specs.Extending.{copyWords, lowWords, extensionWords, extensionsWords};
+ghost use Rattle.extend.specs.Extending.{originOf, powerOf, referenceOf, Extends, Copies};
+ghost use Rattle.extend.specs.Extending.{copyHead, copyWords, lowWords, extensionWords, extensionsWords};
 use level::Listed;
 use lines::Head;
 use lines::Piece;
@@ -66,32 +67,43 @@ fn reference(rows: &Rows, targets: &[u32], f: Frame, g: u32, k: u32) -> u32
     targets::target(targets, START, g) + (l + k * a) % f.p
 }
 
-// Appends generator g of extension k, with reference x and constant c, behind the level below. Returns the next line's number.
-fn append_matrix(
-    words: &mut [u32],
-    f: Frame,
-    o: Origin,
-    at: usize,
-    k: u32,
-    g: u32,
-    x: u32,
-    c: u32,
-) -> usize
-    requires { ⌜ Copies f (lowOf f (now words)) o × (k < f .p) × (g < f .gens) × (c ≡ factorOf f o g k) ⌝ }
+// What the lines of generator g of extension k share, with reference x.
+fn head(f: Frame, o: Origin, k: u32, g: u32, x: u32) -> Head
+    requires { ⌜ ((W : List ℕ) × Copies f W o) × (k < f .p) × (g < f .gens) ⌝ }
+    ensures { λ h. ⌜ h ≡ copyHead f o k g x ⌝ }
+{
+    Head {
+        level: f.top + 1,
+        rep: o.number + k,
+        deg: o.source.deg,
+        generator: g + 1,
+        refn: x,
+    }
+}
+
+// Appends generator g of extension k, other than the one on top, with reference x, behind the level below, where its matrix stands.
+// Returns the next line's number.
+fn append_matrix(words: &mut [u32], f: Frame, o: Origin, at: usize, k: u32, g: u32, x: u32) -> usize
+    requires { ⌜ Copies f (lowOf f (now words)) o × (k < f .p) × (g < f .gens) × ¬ (g ≡ f .top) ⌝ }
     requires { ⌜ Space (f .end) at (8 * o .source .deg) (now words) ⌝ }
     ensures { λ y. ⌜ Appended (now (words .entry)) at (copyWords f (lowOf f (now (words .entry))) o k g x) (now (words .exit)) y ⌝ }
 {
-    let d = o.source;
-    let h = Head {
-        level: f.top + 1,
-        rep: o.number + k,
-        deg: d.deg,
-        generator: g + 1,
-        refn: x,
-    };
+    let h = head(f, o, k, g, x);
+    lines::append_copy(words, f.end, at, h, level::matrix_line(o.source, g))
+}
+
+// Appends the generator on top of extension k, which alone has a constant. Returns the next line's number.
+fn append_top(words: &mut [u32], f: Frame, o: Origin, at: usize, k: u32) -> usize
+    requires { ⌜ Copies f (lowOf f (now words)) o × (k < f .p) ⌝ }
+    requires { ⌜ Space (f .end) at (8 * o .source .deg) (now words) ⌝ }
+    ensures { λ y. ⌜ Appended (now (words .entry)) at (copyWords f (lowOf f (now (words .entry))) o k (f .top) (o .rep)) (now (words .exit)) y ⌝ }
+{
+    let top = f.top;
+    let h = head(f, o, k, top, o.rep);
+    let c = o.root + k * o.step;
     let b = Piece {
-        src: level::matrix_line(d, g),
-        deg: d.deg,
+        src: level::matrix_line(o.source, top),
+        deg: o.source.deg,
         col: 0,
         row: 0,
         by: c,
@@ -99,8 +111,7 @@ fn append_matrix(
     lines::append_block(words, f.end, at, h, b, f.m)
 }
 
-// Appends those generators of extension k that are not above the one on top: the reference of each is the number of what is
-// extended, and the one on top alone has a constant.
+// Appends those generators of extension k that are not above the one on top: the reference of each is the number of what is extended.
 fn append_low(words: &mut [u32], f: Frame, o: Origin, at: usize, k: u32) -> usize
     requires { ⌜ Copies f (lowOf f (now words)) o × (k < f .p) ⌝ }
     requires { ⌜ Space (f .end) at (8 * ((f .top + 1) * o .source .deg)) (now words) ⌝ }
@@ -109,9 +120,9 @@ fn append_low(words: &mut [u32], f: Frame, o: Origin, at: usize, k: u32) -> usiz
     let mut pos = at;
     let top = f.top;
     for g in 0..top {
-        pos = append_matrix(words, f, o, pos, k, g, o.rep, 0);
+        pos = append_matrix(words, f, o, pos, k, g, o.rep);
     }
-    append_matrix(words, f, o, pos, k, top, o.rep, o.root + k * o.step)
+    append_top(words, f, o, pos, k)
 }
 
 // Appends extension k, generator after generator.
@@ -133,7 +144,7 @@ fn append_extension(
     let gens = f.gens;
     for g in above..gens {
         let x = reference(rows, targets, f, g, k);
-        pos = append_matrix(words, f, o, pos, k, g, x, 0);
+        pos = append_matrix(words, f, o, pos, k, g, x);
     }
     pos
 }

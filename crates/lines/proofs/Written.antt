@@ -2,9 +2,12 @@
 --
 --   headLine-eight             eight words
 --   put-eight                  eight stores in a row
+--   copy-single                the one line of a matrix of degree 1, as it stands
+--   copy-block                 lines as they stand are those of a piece that is multiplied by none
 --   single-below, block-single the exponent of a piece of degree 1; its one line
 use mathlib.Core.Path.{_≡_, refl, ap, sym, _∙_, subst}
 use Prim.Native.Nat.{ℕ, suc, _+_, _%_, _<_, _≤_}
+use native.Mathlib.Nat.{add-zero, zero-add, mod-eq-of-lt}
 use native.Mathlib.Omega.{arith}
 use mathlib.Core.List.{List, [], _∷_, _++_}
 use lib.ListN.{length, set}
@@ -13,12 +16,12 @@ use Rattle.definitions.specs.declared.Entry.{Entry}
 use Rattle.definitions.specs.Lists.{blocks}
 use Rattle.definitions.specs.Monomial.{entry}
 use Rattle.definitions.specs.Table.{EXP, wordAt}
-use Rattle.numbers.proofs.Blocks.{blocks-zero, blocks-suc}
+use Rattle.numbers.proofs.Blocks.{blocks-zero, blocks-suc, blocks-below}
 use Rattle.text.specs.Writing.{put}
-use Rattle.level.specs.Stored.{entryIn}
+use Rattle.level.specs.Stored.{entryIn, Holds}
 use Rattle.lines.specs.declared.Head.{Head}
 use Rattle.lines.specs.declared.Piece.{Piece}
-use Rattle.lines.specs.Lines.{headLine, blockEntry, blockLines, Copied}
+use Rattle.lines.specs.Lines.{headLine, copyLines, blockEntry, blockLines, Copied}
 
 pub headLine-eight : (h : Head) (k : ℕ) (x : Entry) → length (headLine h k x) ≡ 8
 unfolding headLine
@@ -39,6 +42,25 @@ put-eight w i a b c d e f g h l =
     let e6 : i + 6 ≡ suc (suc (suc (suc (suc (suc i))))) = omega arith in
     let e7 : i + 7 ≡ suc (suc (suc (suc (suc (suc (suc i)))))) = omega arith in
     rw (e0, e1, e2, e3, e4, e5, e6, e7) (sets-eq (a ∷ b ∷ c ∷ d ∷ e ∷ f ∷ g ∷ h ∷ []) w i l)
+
+-- ---- Lines as they stand
+
+pub copy-single : (h : Head) (src : ℕ) (W : List ℕ) → h .deg ≡ 1 → headLine h 0 (entryIn W src) ≡ copyLines h src W
+unfolding copyLines
+copy-single h src W one =
+    sym (ap (λ n. blocks n F) one ∙ blocks-suc 0 F ∙ ap (λ t. t ++ F 0) (blocks-zero F) ∙ ap (λ l. headLine h 0 (entryIn W l)) (add-zero src))
+  where
+    F : ℕ → List ℕ
+    F k = headLine h k (entryIn W (src + k))
+
+pub copy-block : (m : ℕ) (h : Head) (src : ℕ) (W : List ℕ) → Holds m W src (h .deg)
+    → copyLines h src W ≡ blockLines m h (record { src = src; deg = h .deg; col = 0; row = 0; by = 0 }) W
+unfolding copyLines blockLines
+copy-block m h src W H =
+    sym (blocks-below (h .deg) _ _ (λ k l. λ o. headLine h (zero-add k o) (entry (zero-add (entryIn W (src + k) .row) o) (exponent k l o))))
+  where
+    exponent : (k : ℕ) → k < h .deg → (entryIn W (src + k) .exp + 0) % m ≡ entryIn W (src + k) .exp
+    exponent k l = ap (λ t. t % m) (add-zero _) ∙ mod-eq-of-lt (H .valid k l .exp)
 
 -- ---- Degree 1
 

@@ -1,6 +1,7 @@
 -- What is written as lines.
 --
 --   headLine h k x             the line of column k with head h
+--   copyLines h src W          the lines of the matrix at line src, as it stands, with head h
 --   blockEntry m b W k         column k of a piece, in the greater matrix
 --   blockLines m h b W         the lines of a piece
 --   Copied m W b               the matrix of a piece stands in W, and its entries fit
@@ -19,6 +20,9 @@ use Rattle.lines.specs.declared.Piece.{Piece}
 
 unfoldable pub headLine : Head → ℕ → Entry → List ℕ
 headLine h k x = h .level ∷ h .rep ∷ h .deg ∷ h .generator ∷ h .refn ∷ k ∷ x .row ∷ x .exp ∷ []
+
+unfoldable pub copyLines : Head → ℕ → List ℕ → List ℕ
+copyLines h src W = blocks (h .deg) (λ (k : ℕ). headLine h k (entryIn W (src + k)))
 
 abbrev pub blockEntry : (m : ℕ) → Piece → List ℕ → ℕ → Entry
 blockEntry m b W k = entry (b .row + entryIn W (b .src + k) .row) ((entryIn W (b .src + k) .exp + b .by) % m)

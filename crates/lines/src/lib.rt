@@ -3,12 +3,13 @@
 //   Head                         what the lines of one matrix share
 //   Piece                        a matrix as a block of a greater one
 //   put_line                     one line
-//   shifted, block_entry         an exponent, and a column of a piece, as they stand in the greater matrix
+//   append_copy                  the lines of a matrix as it stands, with another head
+//   block_entry                  a column of a piece, as it stands in the greater matrix
 //   append_line, append_block    the line of a piece of degree 1; the lines of a piece
 ghost use mathlib.Core.Path.{_≡_};
-ghost use Prim.Native.Nat.{_+_, _*_, _%_, _≤_, _<_};
+ghost use Prim.Native.Nat.{_+_, _*_, _≤_, _<_};
 ghost use lib.ListN.{length, take};
-ghost use Rattle.lines.specs.Lines.{headLine, blockEntry, blockLines, Copied, Space, Appended};
+ghost use Rattle.lines.specs.Lines.{headLine, copyLines, blockEntry, blockLines, Copied, Space, Appended};
 use definitions::Entry;
 
 // What the lines of one matrix share.
@@ -47,15 +48,23 @@ pub fn put_line(words: &mut [u32], at: usize, h: Head, k: u32, x: Entry) -> usiz
     at + 1
 }
 
-// The sum modulo m of an exponent and the power of the root that a piece is multiplied by; most are multiplied by none.
-fn shifted(e: u32, by: u32, m: u32) -> u32
-    requires { ⌜ (e < m) × (by < m) × (m ≤ 2147483648) ⌝ }
-    ensures { λ r. ⌜ r ≡ (e + by) % m ⌝ }
+// Appends the lines of the matrix at line src, below line low, with another head. Returns the next line's number.
+pub fn append_copy(words: &mut [u32], low: usize, at: usize, h: Head, src: usize) -> usize
+    requires { ⌜ (src + h .deg ≤ low) × Space low at (8 * h .deg) (now words) ⌝ }
+    ensures { λ r. ⌜ Appended (now (words .entry)) at (copyLines h src (take (8 * low) (now (words .entry)))) (now (words .exit)) r ⌝ }
 {
-    if by == 0 {
-        return e;
+    let deg = h.deg;
+    let n = 8 * low;
+    if deg == 1 {
+        let x = level::entry_at(&words[..n], src);
+        return put_line(words, at, h, 0, x);
     }
-    level::add_mod(e, by, m)
+    let mut pos = at;
+    for k in 0..deg {
+        let x = level::entry_at(&words[..n], src + level::up(k));
+        pos = put_line(words, pos, h, k, x);
+    }
+    pos
 }
 
 // Column k of a piece, its row and its exponent as they stand in the greater matrix.
@@ -66,7 +75,7 @@ fn block_entry(words: &[u32], b: Piece, k: u32, m: u32) -> Entry
     let e = level::column(words, b.src, b.deg, k, m);
     Entry {
         row: b.row + e.row,
-        exp: shifted(e.exp, b.by, m),
+        exp: level::add_mod(e.exp, b.by, m),
     }
 }
 
@@ -79,7 +88,7 @@ fn append_line(words: &mut [u32], low: usize, at: usize, h: Head, b: Piece, m: u
     let e = level::word_at(&words[..n], b.src, level::EXP);
     let x = Entry {
         row: b.row,
-        exp: shifted(e, b.by, m),
+        exp: level::add_mod(e, b.by, m),
     };
     put_line(words, at, h, b.col, x)
 }

@@ -8,7 +8,7 @@ use Rattle.text.proofs.Writing.{wrote-as}
 use Rattle.lines.proofs.Appending.{going-more, going-even}
 use Rattle.survey.specs.Below.{lowOf}
 use Rattle.extend.specs.Extending.{Copies}
-use Rattle.extend.proofs.Extensions.{factor-other, extends-copies, matrixWords, copy-above, extension-words, matrix-length, Onward, low-space, low-done}
+use Rattle.extend.proofs.Extensions.{extends-copies, matrixWords, copy-above, extension-words, matrix-length, Onward, low-space, low-done}
 use Rattle.extend.proofs.append_extension.Statement.{statement}
 use Rattle.extend.proofs.append_extension.Tie as tie
 
@@ -46,7 +46,7 @@ append-matrix-requires c κs = let l = c .before .before .before .loop in
     let L = low-done E (z .args .k) (z .pre .1) (low .append-low .ensures) in
     let G = l .inv .3 _ _ (L .1) in
     let less : l .g < f .gens = search needs in (
-      (subst (λ W. Copies f W o) (sym (G .below)) (extends-copies E), z .pre .0 .1, less, factor-other f o (l .g) (z .args .k) (λ e. omega (arith, e, l .inv .0))),
+      (subst (λ W. Copies f W o) (sym (G .below)) (extends-copies E), z .pre .0 .1, less, (λ e. omega (arith, e, l .inv .0))),
       going-even (f .gens) (8 * o .source .deg) (matrix-length (L .0) (z .args .k)) G less (omega (arith, z .pre .1 .room)),
     )
 

@@ -11,7 +11,7 @@ use Rattle.text.proofs.Writing.{wrote-as}
 use Rattle.lines.proofs.Appending.{Going, going-more, space-none}
 use Rattle.survey.specs.Below.{lowOf}
 use Rattle.extend.specs.Extending.{copyWords}
-use Rattle.extend.proofs.Extensions.{factor-top, factor-other, going-at, copy-asked, low-last}
+use Rattle.extend.proofs.Extensions.{going-at, copy-asked, low-last}
 use Rattle.extend.proofs.append_low.Statement.{statement}
 use Rattle.extend.proofs.append_low.Tie as tie
 
@@ -30,8 +30,8 @@ append-matrix-requires c κs = let l = c .before .before .loop in
     let z = c .before .before .before .before in
     let a = z .args in
     let less : l .g < a .f .top = search needs in
-    let none = factor-other (a .f) (a .o) (l .g) (a .k) (λ e. omega (arith, e)) in
-    copy-asked (a .f) _ (a .o) (z .pre .0 .0) (z .pre .0 .1) (l .inv .2) (omega arith) none (z .pre .1)
+    let A = copy-asked (a .f) _ (a .o) (a .k) (z .pre .0 .0) (l .inv .2) (omega arith) (z .pre .1) in
+    ((A .0, z .pre .0 .1, omega (arith, z .pre .0 .0 .located .stands .gens), λ e. omega (arith, e)), A .1)
 
 add-g : tie.Need-add-g Inv-loop μ-loop
 add-g c = search needs
@@ -43,38 +43,28 @@ loop-again : tie.Need-loop-again Inv-loop μ-loop
 loop-again c = let G = c .before .before .before .before .before .loop .inv .2 in
     (search needs, search needs, going-more G (rw (G .below) at (c .before .before .append-matrix .ensures)))
 
-mul-append-matrix : tie.Need-mul-append-matrix Inv-loop μ-loop
-mul-append-matrix c = let z = c .before .before .before .before .before in
-    let C = z .pre .0 .0 in
-    omega (arith, C .factor-below (z .args .k) (z .pre .0 .1), C .located .stands .modulus)
-
-add-append-matrix : tie.Need-add-append-matrix Inv-loop μ-loop
-add-append-matrix c = let z = c .before .before .before .before .before .before in
-    let C = z .pre .0 .0 in
-    omega (arith, C .factor-below (z .args .k) (z .pre .0 .1), C .located .stands .modulus)
-
-append-matrix-requires-2 : tie.Need-append-matrix-requires-2 Inv-loop μ-loop
-append-matrix-requires-2 c κs = let t = c .before .before .before .before in
+append-top-requires : tie.Need-append-top-requires Inv-loop μ-loop
+append-top-requires c κs = let t = c .before .before in
     let z = t .before .before in
     let a = z .args in
     let e : t .loop .g ≡ a .f .top = omega arith in
-    copy-asked (a .f) _ (a .o) (z .pre .0 .0) (z .pre .0 .1) (going-at e (t .loop .inv .2)) (le-refl _) (factor-top (a .f) (a .o) (a .k)) (z .pre .1)
+    let A = copy-asked (a .f) _ (a .o) (a .k) (z .pre .0 .0) (going-at e (t .loop .inv .2)) (le-refl _) (z .pre .1) in
+    ((A .0, z .pre .0 .1), A .1)
 
 same-length : tie.Need-same-length Inv-loop μ-loop
-same-length c = let t = c .before .before .before .before .before .before .before in
+same-length c = let t = c .before .before .before .before .before in
     let a = t .before .before .args in
     let e : t .loop .g ≡ a .f .top = omega arith in
-    low-last (a .f) _ (a .o) (a .k) (going-at e (t .loop .inv .2)) (c .before .before .append-matrix2 .ensures) .len
+    low-last (a .f) _ (a .o) (a .k) (going-at e (t .loop .inv .2)) (c .before .before .append-top .ensures) .len
 
 returns : tie.Need-returns Inv-loop μ-loop
-returns c = let t = c .before .before .before .before .before .before .before in
+returns c = let t = c .before .before .before .before .before in
     let a = t .before .before .args in
     let e : t .loop .g ≡ a .f .top = omega arith in
-    let G = low-last (a .f) _ (a .o) (a .k) (going-at e (t .loop .inv .2)) (c .before .before .append-matrix2 .ensures) in
+    let G = low-last (a .f) _ (a .o) (a .k) (going-at e (t .loop .inv .2)) (c .before .before .append-top .ensures) in
     wrote-as (G .wrote) (ap (λ n. blocks n (λ j. copyWords (a .f) (lowOf (a .f) (now (a .words))) (a .o) (a .k) j (a .o .rep))) (add-one (a .f .top)))
 
 pub append-low-spec : {M : Type 1} → statement M
 append-low-spec =
     tie.close
-    (tie.spec
-    Inv-loop μ-loop loop-holds append-matrix-requires add-g loop-less loop-again mul-append-matrix add-append-matrix append-matrix-requires-2 same-length returns)
+    (tie.spec Inv-loop μ-loop loop-holds append-matrix-requires add-g loop-less loop-again append-top-requires same-length returns)

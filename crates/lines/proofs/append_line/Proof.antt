@@ -23,8 +23,8 @@ slice-aggregate-word-at c = let z = c .before .before in sym (length-take-le _ (
 word-at-requires : tie.Need-word-at-requires
 word-at-requires c κs = search needs
 
-shifted-requires : tie.Need-shifted-requires
-shifted-requires c κs = let z = c .before .before .before in
+add-mod-requires : tie.Need-add-mod-requires
+add-mod-requires c κs = let z = c .before .before .before in
     let C = z .pre .0 in
     (subst (λ x. x < z .args .m) (sym (c .word-at .ensures)) (single-below C (z .pre .2)), C .by-below, C .holds .small)
 
@@ -39,11 +39,11 @@ returns c = let z = c .before .before .before .before .before .before .before .b
     let a = z .args in
     let W = take (8 * a .low) (now (a .words)) in
     let word = c .before .before .before .before .before .word-at .ensures in
-    let sum = c .before .before .before .before .shifted .ensures in
+    let sum = c .before .before .before .before .add-mod .ensures .0 in
     wrote-as (c .before .before .put-line .ensures) (block-single (a .m) (a .h) (a .b) W _ (z .pre .0) (z .pre .2) (sum ∙ ap (λ t. (t + a .b .by) % a .m) word))
 
 pub append-line-spec : {M : Type 1} → statement M
 append-line-spec =
     tie.close
     (tie.spec
-    mul-n slice-reshare-prefix-word-at slice-aggregate-word-at word-at-requires shifted-requires put-line-requires same-length returns)
+    mul-n slice-reshare-prefix-word-at slice-aggregate-word-at word-at-requires add-mod-requires put-line-requires same-length returns)

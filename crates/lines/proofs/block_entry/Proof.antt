@@ -13,14 +13,14 @@ column-requires c κs = search needs
 add-t6 : tie.Need-add-t6
 add-t6 c = search needs
 
-shifted-requires : tie.Need-shifted-requires
-shifted-requires c κs = search needs
+add-mod-requires : tie.Need-add-mod-requires
+add-mod-requires c κs = search needs
 
 returns : tie.Need-returns
 returns c = let z = c .before .before .before .before .before in
     let b = z .args .b in
     let e = c .before .before .before .column .ensures .0 in
-    ap₂ entry (ap (λ (x : Entry). b .row + x .row) e) (c .shifted .ensures ∙ ap (λ (x : Entry). (x .exp + b .by) % z .args .m) e)
+    ap₂ entry (ap (λ (x : Entry). b .row + x .row) e) (c .add-mod .ensures .0 ∙ ap (λ (x : Entry). (x .exp + b .by) % z .args .m) e)
 
 pub block-entry-spec : {M : Type 1} → statement M
-block-entry-spec = tie.close (tie.spec column-requires add-t6 shifted-requires returns)
+block-entry-spec = tie.close (tie.spec column-requires add-t6 add-mod-requires returns)
