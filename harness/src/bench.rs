@@ -67,7 +67,7 @@ fn times(text: &[u8]) -> Option<Times> {
         check: least(|| check(black_box(text), black_box(&words))),
         write: least(|| write_table(black_box(&words), &mut out)),
         read: least(|| read_table(black_box(&written), &mut buffer)),
-        copy: least(|| copy(black_box(&words), black_box(0), black_box(0), black_box(u32::MAX), &mut buffer)),
+        copy: least(|| copy(black_box(&words), &mut buffer)),
     })
 }
 

@@ -9,6 +9,8 @@
 //!                                      of building and of reading it; as quotient the median over the turns in which all are
 //!                                      timed, and the range of the middle half
 //!     harness tables LINES..           so many lines written as table text and read back: the bytes, and the median times
+//!     harness sums LINES..             so many lines copied with a sum of two exponents each, made by a comparison and by arithmetic
+//!                                      alone: the time of a line, and the quotient
 //!     harness bench FILE..             all calls on each text, nanoseconds a word
 //!     harness growth                   the same on groups of order 64 to 4,096
 //!     harness groups FOLDER COUNT ORDER [SEED]    so many presentation texts of at most that order, taken at random, in a folder
@@ -29,7 +31,7 @@ use random::Random;
 use soak::Soak;
 
 const USAGE: &str =
-    "usage: harness soak SECONDS [SEED] | rounds COUNT [SEED] | answers|times|builds|checks|bench FILE.. | tables LINES.. | growth | groups FOLDER COUNT ORDER [SEED] | draw FILE";
+    "usage: harness soak SECONDS [SEED] | rounds COUNT [SEED] | answers|times|builds|checks|bench FILE.. | tables|sums LINES.. | growth | groups FOLDER COUNT ORDER [SEED] | draw FILE";
 
 /// A number among the arguments.
 fn number(argument: Option<&String>) -> Option<u64> {
@@ -77,6 +79,7 @@ fn main() {
         ("soak", Some(seconds)) => Soak::new(seed(rest.get(1))).run(seconds),
         ("rounds", Some(count)) => Soak::new(seed(rest.get(1))).rounds(count as usize),
         ("tables", _) => rest.iter().filter_map(|lines| lines.parse().ok()).for_each(times::tables),
+        ("sums", _) => rest.iter().filter_map(|lines| lines.parse().ok()).for_each(times::sums),
         ("bench", _) => bench::texts(rest),
         ("growth", _) => bench::growth(),
         ("groups", _) if rest.len() >= 3 => written(rest),

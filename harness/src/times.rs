@@ -6,6 +6,7 @@
 //!   checks     the times of checking the table that is built, and one in other bases, beside those of building and of reading it,
 //!              sampled by turns
 //!   tables     so many lines written as table text and read back: the bytes, and the median times
+//!   sums       so many lines copied with a sum of two exponents each, made by a comparison and by arithmetic alone
 
 use crate::naive;
 use crate::random::Random;
@@ -48,6 +49,21 @@ pub fn median<T>(mut call: impl FnMut() -> T) -> f64 {
     quarters((0..SAMPLES).map(|_| each(calls(&mut call, count), count)))[1]
 }
 
+/// The times of several things in microseconds, in each of so many turns. A turn does all of them, each as often as it is told, so
+/// that a machine whose speed changes is as fast for one as for the next.
+fn by_turns<const THINGS: usize>(mut turn: impl FnMut([u32; THINGS]) -> [Duration; THINGS]) -> Vec<[f64; THINGS]> {
+    let mut counts = [1; THINGS];
+    while let Some(short) = turn(counts).iter().position(|&time| time < SAMPLE) {
+        counts[short] *= 2;
+    }
+    (0..SAMPLES)
+        .map(|_| {
+            let times = turn(counts);
+            std::array::from_fn(|k| each(times[k], counts[k]))
+        })
+        .collect()
+}
+
 /// The text with its last exponent made 1, where no word may have that generator: it is read whole, and refused with 14
 /// before the consistency test.
 fn misused(text: &[u8]) -> Vec<u8> {
@@ -81,14 +97,53 @@ pub fn tables(lines: usize) {
 pub const LINE: usize = 8;
 pub const WORDS: usize = 786_240;
 
+/// The sum modulo `m` of two numbers below it, by a comparison.
+fn compared(a: u32, b: u32, m: u32) -> u32 {
+    let sum = a + b;
+    if sum < m {
+        sum
+    } else {
+        sum - m
+    }
+}
+
+/// The sum modulo `m` of two numbers below it, by arithmetic alone, as the library makes it.
+fn carried(a: u32, b: u32, m: u32) -> u32 {
+    let sum = a + b;
+    let over = (sum + ((1 << 31) - m)) / (1 << 31);
+    sum - m * over
+}
+
 /// Writes lines again from a copy of them. Each is made as a builder makes it from a line of the level below: `up` is added
 /// to the row and `more` to the exponent, modulo `order`, and eight words are stored.
-pub fn copy(lines: &[u32], up: u32, more: u32, order: u32, words: &mut [u32]) {
+fn copied(add: impl Fn(u32, u32, u32) -> u32, lines: &[u32], [up, more, order]: [u32; 3], words: &mut [u32]) {
     for (from, to) in lines.chunks_exact(LINE).zip(words.chunks_exact_mut(LINE)) {
-        let sum = from[7] + more;
-        let exponent = if sum < order { sum } else { sum - order };
+        let exponent = add(from[7], more, order);
         to.copy_from_slice(&[from[0], from[1], from[2], from[3], from[4], from[5], from[6] + up, exponent]);
     }
+}
+
+/// Writes lines again as they are.
+pub fn copy(lines: &[u32], words: &mut [u32]) {
+    copied(compared, lines, black_box([0, 0, u32::MAX]), words);
+}
+
+/// Copies so many lines of random words below 4,096, with half of that added to the exponents, and times both sums by turns.
+pub fn sums(lines: usize) {
+    let mut random = Random::new(1);
+    let from: Vec<u32> = (0..LINE * lines).map(|_| random.below(4096) as u32).collect();
+    let [mut one, mut other] = [0, 1].map(|_| vec![0u32; from.len()]);
+    let turns = by_turns(|[compares, carries]| {
+        let added = black_box([0, 2048, 4096]);
+        [
+            calls(&mut || copied(compared, black_box(&from), added, &mut one), compares),
+            calls(&mut || copied(carried, black_box(&from), added, &mut other), carries),
+        ]
+    });
+    assert!(one == other);
+    let time = |k: usize| quarters(turns.iter().map(|turn| turn[k] * 1e3 / lines as f64))[1];
+    let [low, middle, high] = quarters(turns.iter().map(|turn| turn[1] / turn[0]));
+    println!("{lines} lines: compared {:.2} ns a line, carried {:.2}, {middle:.2} times ({low:.2} to {high:.2})", time(0), time(1));
 }
 
 /// Builds the table of a text, and times that and the copy.
@@ -101,7 +156,7 @@ pub fn builds(text: &[u8], path: &str) {
     print!("{answer:2} {count:6} lines: built {building:.2} us");
     if size > 0 {
         let lines = words[..size].to_vec();
-        let copying = median(|| copy(black_box(&lines), black_box(0), black_box(0), black_box(u32::MAX), &mut words));
+        let copying = median(|| copy(black_box(&lines), &mut words));
         assert!(words[..size] == lines);
         let word = |time: f64| time * 1e3 / size as f64;
         print!(", {:.2} ns a word; the same lines copied by a loop in Rust", word(building));
@@ -121,32 +176,21 @@ fn foreign(text: &[u8]) -> Vec<u32> {
     other_basis(&mut Random::new(1), &naive::steps::levels(&relations), relations.order() as u32)
 }
 
-/// Checks the table that is built of a text, and the same in other bases; times both, the build, and a plain read. They are
-/// timed by turns, so that a machine whose speed changes is as fast for one as for the next: the quotient is the median over the
-/// turns of check to build, with the range of its middle half.
+/// Checks the table that is built of a text, and the same in other bases; times both, the build, and a plain read, by turns. The
+/// quotient is the median over the turns of check to build, with the range of its middle half.
 pub fn checks(text: &[u8], path: &str) {
     let mut words = vec![7u32; WORDS];
     let size = LINE * build(text, &mut words).count;
     let table = foreign(text);
     let answers = [check(text, &words[..size]), check(text, &table)];
-    let mut turn = |counts: [u32; 4]| {
+    let turns = by_turns(|counts: [u32; 4]| {
         [
             calls(&mut || build(black_box(text), &mut words), counts[0]),
             calls(&mut || sum(black_box(&words[..size])), counts[1]),
             calls(&mut || check(black_box(text), black_box(&words[..size])), counts[2]),
             calls(&mut || check(black_box(text), black_box(&table)), counts[3]),
         ]
-    };
-    let mut counts = [1; 4];
-    while let Some(short) = turn(counts).iter().position(|&time| time < SAMPLE) {
-        counts[short] *= 2;
-    }
-    let turns: Vec<[f64; 4]> = (0..SAMPLES)
-        .map(|_| {
-            let times = turn(counts);
-            [0, 1, 2, 3].map(|k| each(times[k], counts[k]))
-        })
-        .collect();
+    });
     let time = |k: usize| quarters(turns.iter().map(|turn| turn[k]))[1];
     print!("{size:7} words: built {:.2} us, read {:.2} us", time(0), time(1));
     for (basis, k, answer) in [("checked", 2, answers[0]), ("in other bases", 3, answers[1])] {
