@@ -2,6 +2,7 @@
 --
 --   headLine-eight             eight words
 --   put-eight                  eight stores in a row
+--   blocks-one                 one list of a counted family
 --   copy-single                the one line of a matrix of degree 1, as it stands
 --   copy-block                 lines as they stand are those of a piece that is multiplied by none
 --   single-below, block-single the exponent of a piece of degree 1; its one line
@@ -43,15 +44,14 @@ put-eight w i a b c d e f g h l =
     let e7 : i + 7 ≡ suc (suc (suc (suc (suc (suc (suc i)))))) = omega arith in
     rw (e0, e1, e2, e3, e4, e5, e6, e7) (sets-eq (a ∷ b ∷ c ∷ d ∷ e ∷ f ∷ g ∷ h ∷ []) w i l)
 
+blocks-one : {n : ℕ} (f : ℕ → List ℕ) → n ≡ 1 → blocks n f ≡ f 0
+blocks-one f e = ap (λ n. blocks n f) e ∙ blocks-suc 0 f ∙ ap (λ t. t ++ f 0) (blocks-zero f)
+
 -- ---- Lines as they stand
 
 pub copy-single : (h : Head) (src : ℕ) (W : List ℕ) → h .deg ≡ 1 → headLine h 0 (entryIn W src) ≡ copyLines h src W
 unfolding copyLines
-copy-single h src W one =
-    sym (ap (λ n. blocks n F) one ∙ blocks-suc 0 F ∙ ap (λ t. t ++ F 0) (blocks-zero F) ∙ ap (λ l. headLine h 0 (entryIn W l)) (add-zero src))
-  where
-    F : ℕ → List ℕ
-    F k = headLine h k (entryIn W (src + k))
+copy-single h src W one = sym (blocks-one (λ k. headLine h k (entryIn W (src + k))) one ∙ ap (λ l. headLine h 0 (entryIn W l)) (add-zero src))
 
 pub copy-block : (m : ℕ) (h : Head) (src : ℕ) (W : List ℕ) → Holds m W src (h .deg)
     → copyLines h src W ≡ blockLines m h (record { src = src; deg = h .deg; col = 0; row = 0; by = 0 }) W
@@ -73,11 +73,8 @@ pub block-single : (m : ℕ) (h : Head) (b : Piece) (W : List ℕ) (e : ℕ) →
     → headLine h (b .col) (entry (b .row) e) ≡ blockLines m h b W
 unfolding blockLines
 block-single m h b W e C one q =
-    sym (ap (λ n. blocks n F) one ∙ blocks-suc 0 F ∙ ap (λ t. t ++ F 0) (blocks-zero F) ∙ (λ o. headLine h (column o) (entry (row o) (exponent o))))
+    sym (blocks-one (λ k. headLine h (b .col + k) (blockEntry m b W k)) one ∙ (λ o. headLine h (column o) (entry (row o) (exponent o))))
   where
-    F : ℕ → List ℕ
-    F k = headLine h (b .col + k) (blockEntry m b W k)
-
     column : b .col + 0 ≡ b .col
     column = omega arith
 
