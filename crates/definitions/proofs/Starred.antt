@@ -28,7 +28,7 @@ use Rattle.definitions.specs.Table.{lineOf, repWords, levelWords, wordAt
 use Rattle.definitions.specs.Table.{complete, tableNames, rowsOf, tableText, writable}
 use Rattle.definitions.specs.Steps.{lift, fixed, orbit, leader, position, made, start, s, extended, l, a, extension, along, lastBlock, blockDiagonal}
 use Rattle.definitions.specs.Steps.{blockCycle, blockIntertwiner, leftSide, rightSide, nextBlock, blockAfter, scalarAfter, c, induction, givenBy}
-use Rattle.definitions.specs.Steps.{nextLevel, levels, tableWith, tableOf}
+use Rattle.definitions.specs.Steps.{nextLevel, levels, tableWith, tableOf, topDegreesOne}
 use Rattle.definitions.specs.Judgement.{allForms, cutsFrom, cuts, wholeBlock, everywhere, everyLevel, matricesValid, blocksWhole, targetsListed}
 use Rattle.definitions.specs.Judgement.{malformed, powerHolds, commutatorHolds, relationsHold, relationFails, blockRestricts, restricts, restrictionFails}
 use Rattle.definitions.specs.Judgement.{intertwines, intertwinersHold, intertwinerFails, reaches, tells, separates, notSeparated, squares, squaresFail}
@@ -56,6 +56,8 @@ pub data Star : Type 0 where
   writes : List ℕ → Bool → Star
   -- the built degrees of level i
   has-degrees : Relations → (i : ℕ) → List ℕ → Star
+  -- whether all built degrees of the top level are 1
+  commutes : Relations → Bool → Star
   -- generator g (from 1) in representation r of the built level i: row and exponent, column by column
   has-matrix : Relations → (i r g : ℕ) → List ℕ → Star
   -- the text of an answer
@@ -81,6 +83,7 @@ holds (builds R texts) = writable (table R) && equal (tableText (table R)) (flat
 holds (tabulates R texts) = equal (table R) (words texts)
 holds (writes T b) = cond b (writable T) (not (writable T))
 holds (has-degrees R i ds) = equal (map (λ (D : Rep). D .deg) (built R i)) ds
+holds (commutes R b) = cond b (topDegreesOne (presentation R)) (not (topDegreesOne (presentation R)))
 holds (has-matrix R i r zero xs) = false
 holds (has-matrix R i r (suc g) xs) = equal (flat (repOf (built R i) r .matrix g)) xs
 holds (prints a t) = equal (answerText a) (bytes t)
@@ -95,6 +98,7 @@ groups =
     ∷ "1 2 1 2 1 0 0 0\n2 0 1 1 0 0 0 0\n2 0 1 2 0 0 0 0\n2 1 1 1 0 0 0 0\n2 1 1 2 0 0 0 3\n2 2 2 1 1 0 0 2\n2 2 2 1 2 1 1 4\n"
     ∷ "2 2 2 2 1 0 1 0\n2 2 2 2 2 1 0 0\n"
     ∷ [])
+    ∷ commutes S3 false
     ∷ judged S3 (table S3) 0
     ∷ judged S3 (change 12 7 1 (change 13 7 5 (table S3))) 0
     ∷ reads (relations (4 ∷ []) []) "j i p e1\n1 1 4 0\n" 12
@@ -109,6 +113,7 @@ groups =
     ∷ judged S3 (change 9 7 0 (table S3)) 25
     ∷ judged S3 (take (lineWords * 10) (table S3)) 26
     ∷ reads C4 "j i p e1 e2\n1 1 2 0 0\n2 2 2 1 0\n2 1 0 0 0\n" 0
+    ∷ commutes C4 true
     ∷ has-matrix C4 2 0 1 (0 ∷ 0 ∷ [])
     ∷ has-matrix C4 2 0 2 (0 ∷ 0 ∷ [])
     ∷ has-matrix C4 2 1 1 (0 ∷ 0 ∷ [])
@@ -119,11 +124,13 @@ groups =
     ∷ has-matrix C4 2 3 2 (0 ∷ 3 ∷ [])
     ∷ reads Q8 "j i p e1 e2 e3\n1 1 2 0 0 0\n2 2 2 1 0 0\n2 1 0 0 0 0\n3 3 2 1 0 0\n3 1 0 0 0 0\n3 2 0 1 0 0\n" 0
     ∷ has-degrees Q8 3 (1 ∷ 1 ∷ 1 ∷ 1 ∷ 2 ∷ [])
+    ∷ commutes Q8 false
     ∷ has-matrix Q8 3 4 1 (0 ∷ 4 ∷ 1 ∷ 4 ∷ [])
     ∷ has-matrix Q8 3 4 2 (0 ∷ 2 ∷ 1 ∷ 6 ∷ [])
     ∷ has-matrix Q8 3 4 3 (1 ∷ 0 ∷ 0 ∷ 4 ∷ [])
     ∷ reads (relations (2 ∷ []) []) "j i p e1\n1 1 2 0\n" 0
     ∷ wants (relations (2 ∷ []) []) 16
+    ∷ commutes (relations (2 ∷ []) []) true
     ∷ reads dense12 "j i p e1 e2 e3\n1 1 3 0 0 0\n2 2 2 0 0 0\n2 1 0 1 0 0\n3 3 2 0 0 0\n3 1 0 1 0 0\n3 2 0 2 0 0\n" 0
     ∷ judged dense12 (table dense12) 0
     ∷ has-matrix dense12 3 5 3 (1 ∷ 10 ∷ 0 ∷ 2 ∷ [])
@@ -230,7 +237,7 @@ unfolding starred every groups presentations tables checks holds refusal flat bu
     sameEntry sameMatrix repOf image conjugate lineOf repWords levelWords levelZero wordAt lineCount begins degrees columns firstLine repAt
     levelAt complete tableNames rowsOf tableText writable lift fixed orbit leader position made start s extended l a extension along lastBlock
     blockDiagonal blockCycle blockIntertwiner leftSide rightSide nextBlock blockAfter scalarAfter c induction givenBy nextLevel levels tableWith
-    tableOf allForms cutsFrom cuts wholeBlock everywhere everyLevel matricesValid blocksWhole targetsListed malformed powerHolds commutatorHolds
+    tableOf topDegreesOne allForms cutsFrom cuts wholeBlock everywhere everyLevel matricesValid blocksWhole targetsListed malformed powerHolds commutatorHolds
     relationsHold relationFails blockRestricts restricts restrictionFails intertwines intertwinersHold intertwinerFails reaches tells separates
     notSeparated squares squaresFail firstOf judgement answerNames answerText
 starred-hold = (refl, not-consistent)

@@ -1,13 +1,13 @@
--- One input has at most one result, for each of the six calls and for the program repcheck: answer, count and the caller's whole buffer. (That there
+-- One input has at most one result, for each of the seven calls and for the program repcheck: answer, count and the caller's whole buffer. (That there
 -- is a result is what the proved functions show.)
 --
 --   leaves-unique, call-unique what a call leaves; its answer and what it leaves
 --   words-of-rows              the words of whole lines are those of their rows
 --   table-says-unique          a table text is that of one table
---   accept-unique, measure-unique, build-unique, check-unique, read-unique, write-unique      the calls
+--   accept-unique, measure-unique, commutative-unique, build-unique, check-unique, read-unique, write-unique      the calls
 --   repcheck-unique            what repcheck answers to the bytes of its files
 use mathlib.Core.Path.{_≡_, refl, sym, _∙_, ap}
-use mathlib.Core.Bool.{true}
+use mathlib.Core.Bool.{true, cond}
 use mathlib.Core.List.{List, [], _∷_, _++_, map, append-nil, append-assoc}
 use Prim.Native.Nat.{ℕ, zero, suc, _+_, _*_, _/_, _%_, _<_}
 use native.Mathlib.Nat.{div-add-mod'}
@@ -19,11 +19,11 @@ use lib.Dec.{eqb}
 use borrow.Author.Tests.{eqb-true}
 use Rattle.definitions.specs.Lists.{upto, blocks}
 use Rattle.definitions.specs.Text.{Bytes, small}
-use Rattle.definitions.specs.Presentation.{lineWords, order, buildWords, presentation}
+use Rattle.definitions.specs.Presentation.{lineWords, Relations, order, buildWords, presentation}
 use Rattle.definitions.specs.Table.{lineCount, tableNames, rowsOf, tableText, writable}
-use Rattle.definitions.specs.Steps.{tableOf}
+use Rattle.definitions.specs.Steps.{tableOf, topDegreesOne}
 use Rattle.definitions.specs.Answers.{First, says, presentationRefusals, buildRefusals, checkRefusals, readRefusals, writeRefusals, TableSays, over}
-use Rattle.definitions.specs.Answers.{Leaves, Accept, Measure, Build, Check, ReadTable, WriteTable}
+use Rattle.definitions.specs.Answers.{Leaves, Accept, Measure, Commutative, Build, Check, ReadTable, WriteTable}
 use Rattle.definitions.specs.Programs.{repcheckRefusals, Repcheck}
 use Rattle.definitions.proofs.Refusals.{first-unique}
 use Rattle.definitions.proofs.Rendering.{Plain, Fields, and-left, render-injective, says-unique}
@@ -113,14 +113,20 @@ accept-unique t a a′ = first-unique (presentationRefusals t) a a′
 pub check-unique : (t : Bytes) (T : List ℕ) (a a′ : ℕ) → Check t T a → Check t T a′ → a ≡ a′
 check-unique t T a a′ = first-unique (checkRefusals t (λ P. order P (P .n)) T) a a′
 
+-- what is handed over is a number that the relations of the text give, and there is no buffer
+said : (t : Bytes) (f : Relations → ℕ) → Determined (λ k (w : Unit {0}). says t (λ R. k ≡ f R))
+said t f k k′ w w′ x y = (x .2 ∙ ap f (says-unique t (x .0) (y .0) (x .1) (y .1)) ∙ sym (y .2), refl)
+
 pub measure-unique : (t : Bytes) (a a′ k k′ : ℕ) → Measure t a k → Measure t a′ k′ → (a ≡ a′) × (k ≡ k′)
 measure-unique t a a′ k k′ p q =
-    let u = call-unique determined (presentationRefusals t) (p .answered) (q .answered) (p .leaves) (q .leaves) in
+    let u = call-unique (said t (λ R. buildWords (presentation R))) (presentationRefusals t) (p .answered) (q .answered) (p .leaves) (q .leaves) in
     (u .0, u .1)
-  where
-    determined : Determined (λ k (w : Unit {0}). says t (λ R. k ≡ buildWords (presentation R)))
-    determined k k′ w w′ x y =
-        (x .2 ∙ ap (λ R. buildWords (presentation R)) (says-unique t (x .0) (y .0) (x .1) (y .1)) ∙ sym (y .2), refl)
+
+pub commutative-unique : (t : Bytes) (a a′ v v′ : ℕ) → Commutative t a v → Commutative t a′ v′ → (a ≡ a′) × (v ≡ v′)
+commutative-unique t a a′ v v′ p q =
+    let one : Relations → ℕ = λ R. cond (topDegreesOne (presentation R)) 1 0 in
+    let u = call-unique (said t one) (presentationRefusals t) (p .answered) (q .answered) (p .leaves) (q .leaves) in
+    (u .0, u .1)
 
 pub build-unique : (t : Bytes) (before : List ℕ) (a a′ k k′ : ℕ) (w w′ : List ℕ) → Build t before a k w → Build t before a′ k′ w′
     → (a ≡ a′) × (k ≡ k′) × (w ≡ w′)

@@ -14,7 +14,7 @@
 --   readRefusals, writeRefusals      16 and 20; 21 and 16
 --   over before s              a buffer after s was written at its start
 --   Leaves                     what a call hands over and leaves in its buffers: all of a finished call, or nothing
---   Accept, Measure, Build, Check, ReadTable, WriteTable      the six calls
+--   Accept, Measure, Commutative, Build, Check, ReadTable, WriteTable      the seven calls
 use mathlib.Core.Path.{_≡_}
 use mathlib.Core.Logic.{_⊎_}
 use Prim.Native.Nat.{ℕ, _+_, _*_, _-_, _<_}
@@ -27,7 +27,7 @@ use Rattle.definitions.specs.Presentation.{lineWords, Presentation, orde
 use Rattle.definitions.specs.Presentation.{misused}
 use Rattle.definitions.specs.Consistency.{Consistent}
 use Rattle.definitions.specs.Table.{lineCount, tableText, writable}
-use Rattle.definitions.specs.Steps.{tableOf}
+use Rattle.definitions.specs.Steps.{tableOf, topDegreesOne}
 use Rattle.definitions.specs.Judgement.{malformed, relationFails, restrictionFails, intertwinerFails, notSeparated, squaresFail}
 
 -- ---- The smallest number that applies
@@ -122,6 +122,11 @@ Accept t answer = First (presentationRefusals t) answer
 pub record Measure (t : Bytes) (answer count : ℕ) : Type 0 where
   pub answered : Accept t answer
   pub leaves : Leaves (λ k (w : Unit {0}). says t (λ R. k ≡ buildWords (presentation R))) 0 tt answer count tt
+
+-- 1 where every representation of the top level has degree 1, or 0; there is no buffer
+pub record Commutative (t : Bytes) (answer yes : ℕ) : Type 0 where
+  pub answered : Accept t answer
+  pub leaves : Leaves (λ v (w : Unit {0}). says t (λ R. v ≡ cond (topDegreesOne (presentation R)) 1 0)) 0 tt answer yes tt
 
 pub record Build (t : Bytes) (before : List ℕ) (answer count : ℕ) (after : List ℕ) : Type 0 where
   pub answered : First (buildRefusals t (length before)) answer

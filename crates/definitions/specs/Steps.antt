@@ -10,17 +10,18 @@
 --   nextLevel                  all of them, in order
 --   levels P m i               level i, from level 0
 --   tableOf P                  the built table, as words
+--   topDegreesOne P            whether every degree that it lists on the top level is 1
 use Prim.Native.Nat.{ℕ, zero, suc, _+_, _*_, _-_, _/_, _%_}
 use mathlib.Core.Bool.{Bool, cond}
 use mathlib.Core.List.{List, [], _∷_, _++_, map}
 use lib.ListN.{length}
 use lib.Dec.{eqb, ltb, leb}
 use Rattle.definitions.specs.declared.Entry.{Entry}
-use Rattle.definitions.specs.Lists.{upto, blocks, sum, anyBelow, least, iter}
+use Rattle.definitions.specs.Lists.{upto, blocks, sum, anyBelow, all, least, iter}
 use Rattle.definitions.specs.Presentation.{Presentation, order, power}
 use Rattle.definitions.specs.Monomial.{Matrix, entry, col, identity, less, product, scale, inverse, matrices, sameMatrix, Rep, Level, repOf, image}
 use Rattle.definitions.specs.Monomial.{conjugate}
-use Rattle.definitions.specs.Table.{levelZero, levelWords}
+use Rattle.definitions.specs.Table.{levelZero, levelWords, degrees}
 
 -- the rows of M moved up by o
 unfoldable pub lift : ℕ → Matrix → Matrix
@@ -173,3 +174,7 @@ tableWith m P = blocks (P .n) (λ i. levelWords (P .n) (suc i) (levels P m (suc 
 -- modulo the order
 unfoldable pub tableOf : Presentation → List ℕ
 tableOf P = tableWith (order P (P .n)) P
+
+-- read off the words of the whole table
+unfoldable pub topDegreesOne : Presentation → Bool
+topDegreesOne P = all (λ d. eqb d 1) (degrees (tableOf P) (P .n))
