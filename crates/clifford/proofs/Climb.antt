@@ -16,7 +16,7 @@ use Rattle.numbers.proofs.Blocks.{getD-even}
 use Rattle.numbers.proofs.Orbits.{leader}
 use Rattle.group.specs.Context.{Context}
 use Rattle.clifford.specs.Stands.{Stands, Restricts, Rung}
-use Rattle.clifford.proofs.Numbering.{P, p, N, deg, rep, τ, O, rep-below, made, next, made-of, made-of-fixed}
+use Rattle.clifford.proofs.Numbering.{P, p, N, deg, rep, τ, O, rep-below, next, made-some}
 use Rattle.clifford.proofs.Indices.{Index, base, mk, next-rep, wide, wide-below, next-complete, next-find, next-below, degree-fixed, degree-moved}
 use Rattle.clifford.proofs.Extensions.{first}
 use Rattle.clifford.proofs.Next.{target-fixed, target-moved, next-target, next-X, next-X-is, mapped, family}
@@ -42,14 +42,10 @@ module _ (R : Rung) where
       (λ e. subst (λ (D : Rep). 0 < D .deg) (sym (e .rep-is)) (mul-pos (omega (arith, two)) (stands .degree-pos (e .s) (e .s-below))))
 
   some-index : Index R
-  some-index = mk R a 0 (go (ℕ-discrete (τ R (rep R a)) (rep R a)))
+  some-index = mk R a 0 (made-some R (rep R a) (rep-below R a))
     where
       a : Ω
       a = first R 0
-
-      go : Dec (τ R (rep R a) ≡ rep R a) → 0 < made R (leader (O R) (rep R a))
-      go (yes f) = omega (arith, made-of-fixed R (rep R a) (rep-below R a) f, two)
-      go (no f) = omega (arith, made-of R (rep R a) (rep-below R a) f)
 
   next-nonempty : 0 < length (next R)
   next-nonempty = omega (arith, next-below R some-index)

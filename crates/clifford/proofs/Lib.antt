@@ -9,6 +9,7 @@ pub mod Indices
 pub mod Extensions
 pub mod Between
 pub mod Next
+pub mod Faithful
 pub mod Inductions
 pub mod Intertwiners
 pub mod Rise
@@ -24,5 +25,6 @@ pub mod Judged
 pub mod Cuts
 pub mod Passing
 pub mod Theorem
+pub mod Commutative
 pub mod Formulas
 pub mod Calls

@@ -194,6 +194,13 @@ module _ (R : Rung) where
   pub made-of-fixed : (r : ℕ) → r < N → τ r ≡ r → made (leader O r) ≡ p
   made-of-fixed r h f = ap made (leader-fixed O r h f) ∙ made-fixed r f
 
+  pub made-some : (r : ℕ) → r < N → 0 < made (leader O r)
+  made-some r h = go (ℕ-discrete (τ r) r)
+    where
+      go : Dec (τ r ≡ r) → 0 < made (leader O r)
+      go (yes f) = omega (arith, made-of-fixed r h f, T .context .two i)
+      go (no f) = omega (arith, made-of r h f)
+
   -- a representation that gives one: it is its own leader
   pub record GivenBy (r : ℕ) : Type 0 where
     pub s : ℕ

@@ -4,6 +4,7 @@
 --   Setting              a tested presentation, a modulus, and what the steps need of both
 --   Standing             a level that stands, with the references of the level as targets
 --   standing             every level of the steps does
+--   standing-faithful    on a family that tells the elements of its group apart
 --   restricts            every representation of a level above 0 is cut into blocks of the level below
 --   order-split          the order of a level and its prime divide the order of the group
 --   setting              an accepted presentation, modulo its order
@@ -19,7 +20,7 @@ use Rattle.definitions.specs.Monomial.{Level, repOf}
 use Rattle.definitions.specs.Table.{levelZero}
 use Rattle.definitions.specs.Steps
 use Rattle.numbers.proofs.Prime.{Units}
-use Rattle.group.proofs.Level.{level, conjNf}
+use Rattle.group.proofs.Level.{Nf-path, level, conjNf}
 use Rattle.group.proofs.Group.{TestedContext}
 use Rattle.group.proofs.Order.{order-positive}
 use Rattle.monomial.specs.Maps.{maps}
@@ -32,6 +33,7 @@ use Rattle.clifford.specs.Stands.{frame, Stands, Restricts, Rung}
 use Rattle.clifford.specs.Accepted.{Accepted}
 use Rattle.clifford.proofs.Indices.{Index}
 use Rattle.clifford.proofs.Next.{family}
+use Rattle.clifford.proofs.Faithful.{Faithful, next-faithful}
 use Rattle.clifford.proofs.Climb.{next-stands, next-restricts}
 
 -- ---- The one representation of level 0
@@ -151,6 +153,11 @@ module _ (G : Setting) where
   unfolding Steps.levels
   standing zero l = record { Ω = Unit {0}; F = zero-family; stands = zero-stands; literal = λ j r. refl }
   standing (suc i) l = climb i l (Steps.levels P m i) (standing i (omega arith))
+
+  pub standing-faithful : (i : ℕ) (l : i ≤ G .T .n) → Faithful (standing i l .F)
+  unfolding Steps.levels rung climb standing
+  standing-faithful zero l = record { unit = λ x e. Nf-path (T .context) 0 _ _ refl }
+  standing-faithful (suc i) l = next-faithful (rung i l (Steps.levels P m i) (standing i (omega arith))) (standing-faithful i (omega arith))
 
   pub restricts : (i : ℕ) → i < T .n → (r : ℕ) → r < length (Steps.levels P m (suc i)) → Restricts i (Steps.levels P m i) (repOf (Steps.levels P m (suc i)) r)
   unfolding Steps.levels rung

@@ -4,6 +4,7 @@
 --
 --   Roots             an exponent ε with p different multiples
 --   numbered κ        the scalars of the extension of number κ; numbered-zero: those of number 0
+--   raised-numbered   what an element does there, beside what it does in extension 0
 --   StepUp              what the next level is, over the level below
 --   next              a Step is a family of the next level
 use mathlib.Core.Path.{_≡_, refl, sym, _∙_, ap, ap₂, subst, fun-ext}
@@ -80,14 +81,24 @@ module _ {G G⁺ : Type 0} {𝓖 : Mul G} {𝓖⁺ : Mul G⁺} {conj : ℕ → G
     power-numbered : (κ k : ℕ) (a : Ω) → pow (Y S F (numbered κ)) k a ≡ ((pow (Y S F 𝓢) k a) .0, add (times 𝓔 k (ε^ κ)) ((pow (Y S F 𝓢) k a) .1))
     power-numbered κ k a = ap (λ f. pow f k a) (Y-numbered κ) ∙ power-diagonal 𝓔 (Y S F 𝓢) (λ a. ε^ κ) k a
 
+    -- a power of the new matrix, behind an element of the group
+    behind-numbered : (κ k : ℕ) (x : G) (a : Ω)
+        → (pow (Y S F (numbered κ)) k * d x) a ≡ (((pow (Y S F 𝓢) k * d x) a) .0, add (times 𝓔 k (ε^ κ)) (((pow (Y S F 𝓢) k * d x) a) .1))
+    behind-numbered κ k x a =
+        let v : Ω × E = d x a in
+        at-mul 𝓔 _ (d x) a ∙ ap (λ s. (s .0, add (s .1) (v .1))) (power-numbered κ k (v .0)) ∙ pair 𝓔 refl (𝓔 .assoc _ _ _)
+        ∙ ap (λ s. (s .0, add (times 𝓔 k (ε^ κ)) (s .1))) (sym (at-mul 𝓔 (pow (Y S F 𝓢) k) (d x) a))
+
+    pub raised-numbered : (κ : ℕ) (x : G⁺) (a : Ω)
+        → raised S F (numbered κ) x a ≡ ((raised S F 𝓢 x a) .0, add (times 𝓔 (S .exponent x) (times 𝓔 κ (R .ε))) ((raised S F 𝓢 x a) .1))
+    unfolding raised
+    raised-numbered κ x a = behind-numbered κ (exponent x) (S .rest x) a
+
     φ-numbered : (j : ℕ) (ij : i < j) (jn : j < n) (κ : ℕ) (a : Ω)
         → φ S F (numbered κ) j ij jn a ≡ ((φ S F 𝓢 j ij jn a) .0, add (times 𝓔 (shift j) (ε^ κ)) ((φ S F 𝓢 j ij jn a) .1))
     φ-numbered j ij jn κ a =
-        let v : Ω × E = d (tail j) a in
-        at-column 𝓔 (φ-is S F (numbered κ) j ij jn) a ∙ at-mul 𝓔 _ (d (tail j)) a
-        ∙ ap (λ s. (s .0, add (s .1) (v .1))) (power-numbered κ (shift j) (v .0)) ∙ pair 𝓔 refl (𝓔 .assoc _ _ _)
-        ∙ ap (λ s. (s .0, add (times 𝓔 (shift j) (ε^ κ)) (s .1)))
-        (sym (at-mul 𝓔 (pow (Y S F 𝓢) (shift j)) (d (tail j)) a) ∙ at-column 𝓔 (sym (φ-is S F 𝓢 j ij jn)) a)
+        at-column 𝓔 (φ-is S F (numbered κ) j ij jn) a ∙ behind-numbered κ (shift j) (tail j) a
+        ∙ ap (λ s. (s .0, add (times 𝓔 (shift j) (ε^ κ)) (s .1))) (at-column 𝓔 (sym (φ-is S F 𝓢 j ij jn)) a)
 
     -- ---- The next level
 

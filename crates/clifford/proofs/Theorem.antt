@@ -76,10 +76,11 @@ module _ (A : Accepted) where
   abbrev G : Setting
   G = setting A
 
-  abbrev W : LevelsListed
+  -- the levels of the steps, as a list
+  abbrev pub W : LevelsListed
   W = record { n = n; positive = positive; L = λ k. levels P m (suc k); degree-pos = λ k r l h. standing G (suc k) l .stands .degree-pos r h }
 
-  table-is : tableOf P ≡ table W
+  pub table-is : tableOf (A .C .P) ≡ table W
   unfolding tableOf tableWith table
   table-is = refl
 

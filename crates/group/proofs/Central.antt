@@ -15,9 +15,10 @@ use Rattle.definitions.specs.Presentation.{NF, trivial, Mul, value}
 use Rattle.definitions.specs.Consistency.{mul, conj, forms, generator, image, levelTest}
 use Rattle.numbers.proofs.Lists.{iter-fix}
 use Rattle.group.specs.Context.{Context, Nf}
-use Rattle.group.proofs.Values.{value-trivial, value-ind}
+use Rattle.group.proofs.Values.{value-trivial}
 use Rattle.group.proofs.Level.{level, conjNf, uNf, genNf}
 use Rattle.group.proofs.Group.{imageNf, Group, group}
+use Rattle.group.proofs.Commutative.{with-generators}
 use Rattle.group.proofs.Tests.{testedBelow, commutator-raw, inner-raw}
 
 pub groupBelow : (C : Context) (i : ℕ) → ((j : ℕ) → j < i → levelTest (C .P) j ≡ true) → Group C i
@@ -37,16 +38,10 @@ module _ (C : Context) (i c : ℕ) (l : c < i) (G : Group C i)
   empty-value h k x e = ap (value (level C i) h k) e ∙ value-trivial (G .laws) h k
 
   pub commutes : (x : Nf C i) → level C i .mul (genNf C i c) x ≡ level C i .mul x (genNf C i c)
-  commutes x = subst Q (G .gen-value x) (value-ind (level C i) Q q-one q-mul (genNf C i) i (λ k a. at k a (decLt k c) (decLt c k)) (x .0))
+  commutes = with-generators C i G g (λ k a. at k a (decLt k c) (decLt c k))
     where
       Q : Nf C i → Type 0
       Q y = g * y ≡ y * g
-
-      q-one : Q one
-      q-one = G .laws .idr g ∙ sym (G .laws .idl g)
-
-      q-mul : (y z : Nf C i) → Q y → Q z → Q (y * z)
-      q-mul y z a b = sym (G .laws .assoc g y z) ∙ ap (λ t. t * z) a ∙ G .laws .assoc y g z ∙ ap (λ t. y * t) b ∙ sym (G .laws .assoc y z g)
 
       at : (k : ℕ) → k < i → Dec (k < c) → Dec (c < k) → Q (genNf C i k)
       at k a (yes b) d =

@@ -14,4 +14,5 @@ pub mod Accept
 pub mod Rows
 pub mod Pairs
 pub mod Context
+pub mod Commutative
 pub mod Central

@@ -4,9 +4,11 @@
 --   Hom 𝓐 𝓑 φ         φ takes product and unit to product and unit
 --   Satisfies P 𝓜 h n  the elements h satisfy the relations of P up to level n
 --   Model P n M        a monoid with such elements
+--   Abelian 𝓜         any two elements commute
+--   WordsEmpty P n     the commutator words of the first n generators are empty
 use mathlib.Core.Path.{_≡_}
 use Prim.Native.Nat.{ℕ, suc, _<_}
-use Rattle.definitions.specs.Presentation.{Presentation, Mul, power, value}
+use Rattle.definitions.specs.Presentation.{trivial, Presentation, Mul, power, value}
 
 pub record Laws {M : Type 0} (𝓜 : Mul M) : Type 0 where
   pub assoc : (a b c : M) → 𝓜 .mul (𝓜 .mul a b) c ≡ 𝓜 .mul a (𝓜 .mul b c)
@@ -27,3 +29,9 @@ pub record Model (P : Presentation) (n : ℕ) (M : Type 0) : Type 0 where
   pub laws : Laws product
   pub h : ℕ → M
   pub satisfies : Satisfies P product h n
+
+abbrev pub Abelian : {M : Type 0} → Mul M → Type 0
+Abelian {M} 𝓜 = (x y : M) → 𝓜 .mul x y ≡ 𝓜 .mul y x
+
+abbrev pub WordsEmpty : (P : Presentation) (n : ℕ) → Type 0
+WordsEmpty P n = (k j : ℕ) → k < j → j < n → P .w k j ≡ trivial (suc k)

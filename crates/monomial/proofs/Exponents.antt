@@ -3,7 +3,7 @@
 --   idr, lcomm, rcomm, negl, cancel, neg-of       what follows from the laws of an abelian group
 --   exchange, regroup                      sums of four terms in other orders
 --   total-zero, total-suc, total-ext, total-add, total-single, total-none      sums of many terms
---   times-nil, times-add, times-mul, times-swap                                multiples
+--   times-nil, times-one, times-add, times-mul, times-swap                     multiples
 use mathlib.Core.Path.{_≡_, refl, sym, _∙_, ap, ap₂}
 use Prim.Native.Nat.{ℕ, zero, suc, _+_, _*_, _<_}
 use native.Mathlib.Nat.{zero-mul}
@@ -77,6 +77,9 @@ module _ {E : Type 0} (𝓔 : Exponents E) where
 
   pub times-nil : (n : ℕ) → times 𝓔 n nil ≡ nil
   times-nil n = total-none (λ k. nil) n (λ k l. refl)
+
+  pub times-one : (x : E) → times 𝓔 1 x ≡ x
+  times-one x = total-suc (λ k. x) 0 ∙ ap (add x) (total-zero (λ k. x)) ∙ idr x
 
   pub times-add : (k l : ℕ) (x : E) → times 𝓔 (k + l) x ≡ add (times 𝓔 k x) (times 𝓔 l x)
   times-add zero l x =

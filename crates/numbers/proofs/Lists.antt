@@ -4,7 +4,7 @@
 --   allBelow-elim, allBelow-intro     a test of every number below n, and what it says
 --   allBelow-fails                    a test that fails at one number
 --   allBelow-below                    two tests that agree below n
---   all-getD                          a test of every element, at an index
+--   all-getD, all-intro               a test of every element, at an index, and from all of them
 --   blank                             an entry of a list of zeros
 --   iter-zero, iter-suc, iter-add     iterates, their clauses and their sum
 --   iter-map, iter-op, iter-fix       iterates under a map, of a product, at a fixed point
@@ -65,6 +65,11 @@ unfolding all
 all-getD q [] d h k l = absurd (omega arith)
 all-getD q (x ∷ xs) d h zero l = and-left (q x) (all q xs) h
 all-getD q (x ∷ xs) d h (suc k) l = all-getD q xs d (and-right (q x) (all q xs) h) k (omega arith)
+
+pub all-intro : {A : Type 0} (q : A → Bool) (xs : List A) (d : A) → ((k : ℕ) → k < length xs → q (getD xs k d) ≡ true) → all q xs ≡ true
+unfolding all
+all-intro q [] d h = refl
+all-intro q (x ∷ xs) d h = and-intro (q x) (all q xs) (h 0 (omega arith)) (all-intro q xs d (λ k l. h (suc k) (omega arith)))
 
 -- ---- Iterates
 
