@@ -3,6 +3,7 @@
 // A case is a line, then a text, then a form feed. The line begins with the kind of the case; numbers and a title follow.
 //   accept        the text is a presentation, and is answered
 //   measure       the text is a presentation, and is measured
+//   commutative   the text is a presentation, and is asked for its yes or no
 //   build W       its table is built into the first W of 786,240 words, which no build exceeds
 //   read W B      the text is a table, and is read into the first W of 512 words; if it is in the form, its lines are
 //                 written back into the first B of 4,096 bytes
@@ -10,13 +11,13 @@
 //                 written into the first B of 4,096 bytes
 //   check W       the text is a presentation, a vertical tab, and at most 8,192 words as above; the first W of them are checked
 //
-// For each call its answer is printed, of one that measures its count, and of one that fills a buffer its count and a sum
-// over the whole buffer, what is not lent too; words and bytes are sevens before the call. Behind a text that is written back
-// stands whether it is the same. The line of the case comes last.
+// For each call its answer is printed, of one that measures its count, of one that is asked for a yes or no 1 or 0, and of one that
+// fills a buffer its count and a sum over the whole buffer, what is not lent too; words and bytes are sevens before the call. Behind
+// a text that is written back stands whether it is the same. The line of the case comes last.
 //
 //   print, report, report_same      numbers and a word of the line
 //   write, write_back               words written, and a text that is written back
-//   accept_case, measure_case, build_case, read_case, write_case, check_case, call     a case of each kind, and of any
+//   accept_case, measure_case, commutative_case, build_case, read_case, write_case, check_case, call     a case of each kind, and of any
 //   answer, answer_at               a case, and that at a position
 ghost use Prim.Native.Nat.{_<_, _≤_};
 ghost use lib.ListN.{length};
@@ -64,6 +65,12 @@ fn measure_case(text: &[u8]) {
     print(a.count as u64);
 }
 
+fn commutative_case(text: &[u8]) {
+    let a = chieftables::commutative::commutative(text);
+    print(a.answer as u64);
+    print(a.yes as u64);
+}
+
 fn build_case(text: &[u8], have: u32) {
     let a = case_calls::build_sevens(text, have);
     report(a.answer, a.count, a.sum);
@@ -99,6 +106,8 @@ fn call(line: &[u8], text: &[u8], have: u32, room: u32) {
         accept_case(text);
     } else if text::starts(line, 0, b"measure ") {
         measure_case(text);
+    } else if text::starts(line, 0, b"commutative ") {
+        commutative_case(text);
     } else if text::starts(line, 0, b"build ") {
         build_case(text, have);
     } else if text::starts(line, 0, b"read ") {

@@ -28,8 +28,8 @@ slice-aggregate-starts-3 c = refl
 starts-requires-3 : tie.Need-starts-requires-3
 starts-requires-3 c κs = omega arith
 
-build-case-requires : tie.Need-build-case-requires
-build-case-requires c κs = tt
+commutative-case-requires : tie.Need-commutative-case-requires
+commutative-case-requires c κs = tt
 
 slice-aggregate-starts-4 : tie.Need-slice-aggregate-starts-4
 slice-aggregate-starts-4 c = refl
@@ -37,8 +37,8 @@ slice-aggregate-starts-4 c = refl
 starts-requires-4 : tie.Need-starts-requires-4
 starts-requires-4 c κs = omega arith
 
-read-case-requires : tie.Need-read-case-requires
-read-case-requires c κs = tt
+build-case-requires : tie.Need-build-case-requires
+build-case-requires c κs = tt
 
 slice-aggregate-starts-5 : tie.Need-slice-aggregate-starts-5
 slice-aggregate-starts-5 c = refl
@@ -46,14 +46,23 @@ slice-aggregate-starts-5 c = refl
 starts-requires-5 : tie.Need-starts-requires-5
 starts-requires-5 c κs = omega arith
 
-write-case-requires : tie.Need-write-case-requires
-write-case-requires c κs = tt
+read-case-requires : tie.Need-read-case-requires
+read-case-requires c κs = tt
 
 slice-aggregate-starts-6 : tie.Need-slice-aggregate-starts-6
 slice-aggregate-starts-6 c = refl
 
 starts-requires-6 : tie.Need-starts-requires-6
 starts-requires-6 c κs = omega arith
+
+write-case-requires : tie.Need-write-case-requires
+write-case-requires c κs = tt
+
+slice-aggregate-starts-7 : tie.Need-slice-aggregate-starts-7
+slice-aggregate-starts-7 c = refl
+
+starts-requires-7 : tie.Need-starts-requires-7
+starts-requires-7 c κs = omega arith
 
 check-case-requires : tie.Need-check-case-requires
 check-case-requires c κs = tt
@@ -70,16 +79,20 @@ call-spec =
     measure-case-requires
     slice-aggregate-starts-3
     starts-requires-3
-    build-case-requires
+    commutative-case-requires
     slice-aggregate-starts-4
     starts-requires-4
-    read-case-requires
+    build-case-requires
     slice-aggregate-starts-5
     starts-requires-5
-    write-case-requires
+    read-case-requires
     slice-aggregate-starts-6
     starts-requires-6
+    write-case-requires
+    slice-aggregate-starts-7
+    starts-requires-7
     check-case-requires
+    (λ c. tt)
     (λ c. tt)
     (λ c. tt)
     (λ c. tt)

@@ -1,0 +1,2 @@
+-- Laws of what is told of a presentation text.
+pub mod Ones

@@ -1,0 +1,2 @@
+-- Laws of the scan over commutator words.
+pub mod Scan

@@ -1,0 +1,2 @@
+-- Rows whose commutator words are empty.
+pub mod Empty
