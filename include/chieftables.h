@@ -5,8 +5,10 @@
  *
  *   chieftables_refusal      why a call refuses, by number
  *   chieftables_counted      an answer and a count
+ *   chieftables_verdict      an answer and a yes or no
  *   chieftables_accept       whether a presentation text is accepted
  *   chieftables_measure      the words that a build of it wants
+ *   chieftables_commutative  whether its group is commutative
  *   chieftables_build        a presentation text to the words of its table
  *   chieftables_check        whether words are a table of a presentation text
  *   chieftables_read_table   table text to words
@@ -16,8 +18,8 @@
  * that four divides, and what is written overlaps nothing that is read. With a length of 0 nothing is read or written there;
  * the pointer is still not to be null. Any bytes and any words are answered.
  *
- * What every call leaves: 0, or the number of the refusal that applies first. A refused call counts 0 and leaves the buffer
- * as it was. No call keeps anything, asks for memory, or touches a byte outside what it was given, so calls may run at the
+ * What every call leaves: 0, or the number of the refusal that applies first. A refused call counts 0, says no, and leaves the
+ * buffer as it was. No call keeps anything, asks for memory, or touches a byte outside what it was given, so calls may run at the
  * same time.
  */
 #ifndef CHIEFTABLES_H
@@ -57,11 +59,21 @@ struct chieftables_counted {
     size_t count;
 };
 
+/* An answer, and beside 0 a yes, which is 1, or a no, which is 0. */
+struct chieftables_verdict {
+    uint32_t answer;
+    uint32_t yes;
+};
+
 /* Whether the `length` bytes at `text` are an accepted presentation: 0, or 11 to 15. */
 uint32_t chieftables_accept(const uint8_t *text, size_t length);
 
 /* How many words a build of the text wants: 0 and that count, or 11 to 15. */
 struct chieftables_counted chieftables_measure(const uint8_t *text, size_t length);
+
+/* Whether the group of the text is commutative, which is whether every representation of the last level of its table has degree
+ * 1: 0 and yes or no, or 11 to 15 and no. Nothing is built. */
+struct chieftables_verdict chieftables_commutative(const uint8_t *text, size_t length);
 
 /* Builds the table of the text in the `have` words at `words`: 0 and the count of lines, or 11 to 16. The table is in the
  * first CHIEFTABLES_LINE times count words; every word behind them is as it was. */

@@ -2,6 +2,7 @@
 
     accept(text)              nothing, or raises Refusal
     measure(text)             the words that a build of the text wants
+    commutative(text)         whether the group of the text is commutative; nothing is built
     build(text)               the Table of a presentation text
     build_packed(text)        its words alone, as an array of 32-bit numbers
     check(text, words)        nothing, or raises Refusal: words as a table of the text, whoever made them
@@ -68,6 +69,10 @@ class _Counted(ctypes.Structure):
     _fields_ = [("answer", ctypes.c_uint32), ("count", ctypes.c_size_t)]
 
 
+class _Verdict(ctypes.Structure):
+    _fields_ = [("answer", ctypes.c_uint32), ("yes", ctypes.c_uint32)]
+
+
 def _path():
     top = os.path.join(os.path.dirname(os.path.abspath(__file__)), "..", "..")
     return os.environ.get("CHIEFTABLES_SO") or os.path.normpath(os.path.join(top, "target", "staticlib", "libchieftables.so"))
@@ -83,6 +88,7 @@ def _load():
     calls = {
         "accept": (ctypes.c_uint32, [byte, size]),
         "measure": (_Counted, [byte, size]),
+        "commutative": (_Verdict, [byte, size]),
         "build": (_Counted, [byte, size, word, size]),
         "check": (ctypes.c_uint32, [byte, size, word, size]),
         "read_table": (_Counted, [byte, size, word, size]),
@@ -139,6 +145,13 @@ def accept(text):
 def measure(text):
     """The words that a build of the presentation text wants."""
     return _count(_call("measure")(*_bytes(text)))
+
+
+def commutative(text):
+    """Whether the group of the presentation text is commutative: every representation of the last level has degree 1."""
+    told = _call("commutative")(*_bytes(text))
+    _answer(told.answer)
+    return told.yes == 1
 
 
 def build(text):

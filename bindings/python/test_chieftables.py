@@ -7,7 +7,7 @@ import sys
 import unittest
 
 sys.path.insert(0, os.path.dirname(os.path.abspath(__file__)))
-from chieftables import SENTENCES, Refusal, Table, accept, build, build_packed, check, measure, read_table, write_table  # noqa: E402
+from chieftables import SENTENCES, Refusal, Table, accept, build, build_packed, check, commutative, measure, read_table, write_table  # noqa: E402
 
 try:
     import numpy
@@ -41,6 +41,11 @@ class Calls(unittest.TestCase):
         check(S3, packed)
         self.assertEqual(packed.tolist(), table.words)
         self.assertEqual(write_table(packed), text)
+
+    def test_commutative(self):
+        self.assertIs(commutative("j i p e1 e2\n1 1 2 0 0\n2 2 2 1 0\n2 1 0 0 0\n"), True)
+        self.assertIs(commutative(S3), False)
+        self.refused(15, commutative, S3.replace("0 1 0", "0 2 0"))
 
     def test_views(self):
         table = build(S3)
@@ -82,6 +87,7 @@ class Calls(unittest.TestCase):
                 text = file.read()
             if measure(text) <= 50000:
                 table = build(text)
+                self.assertEqual(commutative(text), all(rep.degree == 1 for rep in table.levels[-1]))
                 self.assertEqual(Table.checked(text, read_table(write_table(table.words))).words, table.words)
 
     def test_a_missing_library_says_which_command_makes_it(self):

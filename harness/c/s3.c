@@ -26,10 +26,13 @@ int main(void)
     uint32_t words[144], back[112];
     uint8_t out[512];
     struct chieftables_counted a;
+    struct chieftables_verdict told;
 
     expect(chieftables_accept(text, length) == CHIEFTABLES_DONE, "the text is accepted");
     a = chieftables_measure(text, length);
     expect(a.answer == CHIEFTABLES_DONE && a.count == 144, "a build wants 144 words");
+    told = chieftables_commutative(text, length);
+    expect(told.answer == CHIEFTABLES_DONE && told.yes == 0, "the group is not commutative");
     a = chieftables_build(text, length, words, 143);
     expect(a.answer == CHIEFTABLES_SHORT && a.count == 0, "143 words are too few");
     a = chieftables_build(text, length, words, 144);

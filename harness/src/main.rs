@@ -8,6 +8,8 @@
 //!     harness checks FILE..            the answers to the table that is built and to one in other bases, and their times beside that
 //!                                      of building and of reading it; as quotient the median over the turns in which all are
 //!                                      timed, and the range of the middle half
+//!     harness commutative FILE..       the answer and the yes or no, also as the degrees of the built table tell it, and the time of a
+//!                                      call beside those of accepting and of building, by turns
 //!     harness tables LINES..           so many lines written as table text and read back: the bytes, and the median times
 //!     harness sums LINES..             so many lines copied with a sum of two exponents each, made by a comparison and by arithmetic
 //!                                      alone: the time of a line, and the quotient
@@ -31,7 +33,7 @@ use random::Random;
 use soak::Soak;
 
 const USAGE: &str =
-    "usage: harness soak SECONDS [SEED] | rounds COUNT [SEED] | answers|times|builds|checks|bench FILE.. | tables|sums LINES.. | growth | groups FOLDER COUNT ORDER [SEED] | draw FILE";
+    "usage: harness soak SECONDS [SEED] | rounds COUNT [SEED] | answers|times|builds|checks|commutative|bench FILE.. | tables|sums LINES.. | growth | groups FOLDER COUNT ORDER [SEED] | draw FILE";
 
 /// A number among the arguments.
 fn number(argument: Option<&String>) -> Option<u64> {
@@ -88,6 +90,7 @@ fn main() {
         ("times", _) => each(times::times),
         ("builds", _) => each(times::builds),
         ("checks", _) => each(times::checks),
+        ("commutative", _) => each(times::commutative),
         _ => {
             eprintln!("{USAGE}");
             std::process::exit(2);

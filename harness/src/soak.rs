@@ -4,7 +4,7 @@
 //! canaries on both sides of it. First come all presentations of small shape, with every table of theirs; then rounds of groups
 //! taken at random, until the time is over. A difference is printed with its input and ends the run.
 //!
-//! An input is one call's input. `presentations` are texts for accept, measure and build; `texts` are such texts with bytes or
+//! An input is one call's input. `presentations` are texts for accept, measure, commutative and build; `texts` are such texts with bytes or
 //! values changed; `tables` are tables for the check: as built, in other bases, and with one thing changed; `table texts` are
 //! words and texts for write_table and read_table, with bytes changed, and buffers that are too short.
 
@@ -12,6 +12,7 @@ use crate::groups::{random_group, random_words, shapes};
 use crate::naive::{self, judge::judge, steps, text, Relations};
 use crate::random::Random;
 use crate::tables::{damaged, instead, other_basis};
+use crate::times::ones;
 use chieftables::raw;
 use std::time::{Duration, Instant};
 
@@ -145,7 +146,7 @@ impl Soak {
         }
     }
 
-    /// Accept and measure, and if the text is refused check and build.
+    /// Accept and measure, and if the text is refused commutative, check and build.
     fn accepted(&mut self, family: usize, text: &[u8], naive: &Result<Relations, u32>) {
         let answer = *naive.as_ref().err().unwrap_or(&0);
         let wants = naive.as_ref().map_or(0, Relations::wants);
@@ -153,13 +154,14 @@ impl Soak {
         self.same(family, "accept", raw::accept(text) == answer, answer, &shown);
         self.same(family, "measure", raw::measure(text) == raw::Counted { answer, count: wants }, answer, &shown);
         if answer != 0 {
+            self.same(family, "commutative", raw::commutative(text) == raw::Verdict { answer, yes: 0 }, answer, &shown);
             self.same(family, "check", raw::check(text, &[1; 8]) == answer, answer, &shown);
             let expected = Expected { answer, count: 0, left: &[] };
             self.fills(family, "build", 24, &expected, &|words| raw::build(text, words), &shown);
         }
     }
 
-    /// The build of an accepted text, with words enough and more, and with one or more too few.
+    /// The build of an accepted text, with words enough and more, and with one or more too few; beside its table commutative.
     fn built(&mut self, family: usize, text: &[u8], relations: &Relations, table: Option<&[u32]>) {
         let wants = relations.wants();
         let shown = || String::from_utf8_lossy(text).into_owned();
@@ -168,6 +170,8 @@ impl Soak {
         self.fills(family, "build", wants - 1, &short, &|words| raw::build(text, words), &shown);
         self.fills(family, "build", few, &short, &|words| raw::build(text, words), &shown);
         if let Some(table) = table {
+            let told = raw::Verdict { answer: 0, yes: u32::from(ones(table)) };
+            self.same(family, "commutative", raw::commutative(text) == told, 0, &shown);
             let done = Expected { answer: 0, count: table.len() / 8, left: table };
             let more = self.random.below(40);
             self.fills(family, "build", wants + more, &done, &|words| raw::build(text, words), &shown);

@@ -5,13 +5,15 @@
 //!   builds     the answer, the lines of the table, and the time of a call, beside that of a plain copy
 //!   checks     the times of checking the table that is built, and one in other bases, beside those of building and of reading it,
 //!              sampled by turns
+//!   commutative    the answer and the yes or no, compared with the degrees of the built table, and the times of the call, of accepting
+//!              and of building, sampled by turns
 //!   tables     so many lines written as table text and read back: the bytes, and the median times
 //!   sums       so many lines copied with a sum of two exponents each, made by a comparison and by arithmetic alone
 
 use crate::naive;
 use crate::random::Random;
 use crate::tables::other_basis;
-use chieftables::raw::{accept, build, check, read_table, write_table, Counted};
+use chieftables::raw::{self, accept, build, check, read_table, write_table, Counted};
 use std::hint::black_box;
 use std::time::{Duration, Instant};
 
@@ -198,6 +200,32 @@ pub fn checks(text: &[u8], path: &str) {
         print!("; {basis} {:.2} us, {middle:.2} times ({low:.2} to {high:.2}), answer {answer}", time(k));
     }
     println!("; {path}");
+}
+
+/// Whether all degrees of the last level of a table are 1.
+pub fn ones(table: &[u32]) -> bool {
+    let last = table.chunks_exact(LINE).last().map_or(0, |line| line[0]);
+    table.chunks_exact(LINE).all(|line| line[0] != last || line[2] == 1)
+}
+
+/// Asks whether the group of a text is commutative, compares with the built table, and times both and accepting by turns.
+pub fn commutative(text: &[u8], path: &str) {
+    let mut words = vec![7u32; WORDS];
+    let Counted { answer, count } = build(text, &mut words);
+    let told = raw::commutative(text);
+    assert!(told == raw::Verdict { answer, yes: u32::from(answer == 0 && ones(&words[..LINE * count])) }, "{path}");
+    let turns = by_turns(|counts: [u32; 3]| {
+        [
+            calls(&mut || accept(black_box(text)), counts[0]),
+            calls(&mut || raw::commutative(black_box(text)), counts[1]),
+            calls(&mut || build(black_box(text), &mut words), counts[2]),
+        ]
+    });
+    let time = |k: usize| quarters(turns.iter().map(|turn| turn[k]))[1];
+    let quotient = |k: usize| quarters(turns.iter().map(|turn| turn[1] / turn[k])).map(|part| format!("{part:.3}"));
+    let [[low, middle, high], [_, built, _]] = [quotient(0), quotient(2)];
+    print!("{answer:2} yes {}: accepted {:.2} us, told {:.2} us, {middle} times ({low} to {high})", told.yes, time(0), time(1));
+    println!("; built {:.2} us, {built} of it; {path}", time(2));
 }
 
 pub fn answers(text: &[u8], path: &str) {

@@ -14,7 +14,7 @@
 //!
 //!   raw             the calls as they are, over slices
 //!   Refusal         why a call refuses
-//!   accept, measure, build, check, read_table, write_table     the calls
+//!   accept, measure, commutative, build, check, read_table, write_table     the calls
 //!   Table           a table that passed, with its views
 
 pub mod raw;
@@ -39,6 +39,11 @@ pub fn accept(text: &[u8]) -> Result<(), Refusal> {
 /// The words that a build of the text wants.
 pub fn measure(text: &[u8]) -> Result<usize, Refusal> {
     refusal::counted(raw::measure(text))
+}
+
+/// Whether the group of the text is commutative. Nothing is built.
+pub fn commutative(text: &[u8]) -> Result<bool, Refusal> {
+    refusal::told(raw::commutative(text))
 }
 
 /// The table of the text.

@@ -9,9 +9,18 @@ pub struct Counted {
     pub count: usize,
 }
 
+/// An answer, and beside 0 a yes, which is 1, or a no, which is 0.
+#[repr(C)]
+#[derive(Clone, Copy, Debug, PartialEq, Eq)]
+pub struct Verdict {
+    pub answer: u32,
+    pub yes: u32,
+}
+
 extern "C" {
     fn chieftables_accept(text: *const u8, length: usize) -> u32;
     fn chieftables_measure(text: *const u8, length: usize) -> Counted;
+    fn chieftables_commutative(text: *const u8, length: usize) -> Verdict;
     fn chieftables_build(text: *const u8, length: usize, words: *mut u32, have: usize) -> Counted;
     fn chieftables_check(text: *const u8, length: usize, words: *const u32, count: usize) -> u32;
     fn chieftables_read_table(text: *const u8, length: usize, words: *mut u32, have: usize) -> Counted;
@@ -29,6 +38,11 @@ pub fn accept(text: &[u8]) -> u32 {
 /// The words that a build of a presentation text wants.
 pub fn measure(text: &[u8]) -> Counted {
     unsafe { chieftables_measure(text.as_ptr(), text.len()) }
+}
+
+/// Whether every representation of the last level of the table of a presentation text has degree 1.
+pub fn commutative(text: &[u8]) -> Verdict {
+    unsafe { chieftables_commutative(text.as_ptr(), text.len()) }
 }
 
 /// Builds the table of a presentation text from the first word on; counts its lines.

@@ -1,6 +1,6 @@
 //! Why a call refuses.
 
-use crate::raw::Counted;
+use crate::raw::{Counted, Verdict};
 use std::fmt;
 
 /// The refusals, each with its number.
@@ -89,4 +89,9 @@ pub(crate) fn answer(number: u32) -> Result<(), Refusal> {
 /// The count beside 0, else the refusal.
 pub(crate) fn counted(call: Counted) -> Result<usize, Refusal> {
     answer(call.answer).map(|()| call.count)
+}
+
+/// The yes or no beside 0, else the refusal.
+pub(crate) fn told(call: Verdict) -> Result<bool, Refusal> {
+    answer(call.answer).map(|()| call.yes == 1)
 }

@@ -1,6 +1,6 @@
 //! The calls through the binding: the symmetric group of degree 3, every refusal that a text or a table can show, views.
 
-use chieftables::{accept, build, check, measure, read_table, write_table, Refusal, Table};
+use chieftables::{accept, build, check, commutative, measure, read_table, write_table, Refusal, Table};
 
 const S3: &[u8] = b"j i p e1 e2\n1 1 3 0 0\n2 2 2 0 0\n2 1 0 1 0\n";
 
@@ -24,6 +24,13 @@ fn s3_is_built_written_read_and_checked() {
     assert_eq!(words, table.words());
     assert_eq!(check(S3, &words), Ok(()));
     assert_eq!(Table::checked(S3, words), Ok(table));
+}
+
+#[test]
+fn c4_is_commutative_and_s3_is_not() {
+    assert_eq!(commutative(b"j i p e1 e2\n1 1 2 0 0\n2 2 2 1 0\n2 1 0 0 0\n"), Ok(true));
+    assert_eq!(commutative(S3), Ok(false));
+    assert_eq!(commutative(b"j i p e1 e2\n1 1 3 0 0\n2 2 2 0 0\n2 1 0 2 0\n"), Err(Refusal::Inconsistent));
 }
 
 #[test]

@@ -24,6 +24,8 @@ fn run(arguments: &[&str], input: &str) -> (i32, String, String) {
 fn it_measures_builds_and_checks() {
     assert_eq!(run(&["accept", "-"], S3), (0, String::new(), String::new()));
     assert_eq!(run(&["measure", "-"], S3).1, "144\n");
+    assert_eq!(run(&["commutative", "-"], S3).1, "no\n");
+    assert_eq!(run(&["commutative", "-"], &S3.replace("0 1 0", "0 0 0")).1, "yes\n");
     let (status, table, _) = run(&["build", "-"], S3);
     assert!(status == 0 && table.len() == 258 && table.starts_with("level rep deg gen ref col row exp\n"));
     let folder = std::env::temp_dir().join(format!("chieftables-{}", std::process::id()));

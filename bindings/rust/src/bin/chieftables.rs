@@ -2,6 +2,7 @@
 //!
 //!     chieftables accept GROUP            nothing
 //!     chieftables measure GROUP           the words that a build wants
+//!     chieftables commutative GROUP       yes or no
 //!     chieftables build GROUP             the table text
 //!     chieftables check GROUP TABLE       nothing
 //!
@@ -37,6 +38,7 @@ fn run(arguments: &[&str]) -> Result<Vec<u8>, Failure> {
     match arguments {
         ["accept", group] => Ok(chieftables::accept(&bytes(group)?).map(|()| Vec::new())?),
         ["measure", group] => Ok(format!("{}\n", chieftables::measure(&bytes(group)?)?).into_bytes()),
+        ["commutative", group] => Ok(if chieftables::commutative(&bytes(group)?)? { b"yes\n".to_vec() } else { b"no\n".to_vec() }),
         ["build", group] => Ok(chieftables::write_table(chieftables::build(&bytes(group)?)?.words())?),
         ["check", group, table] => {
             let group = bytes(group)?;
@@ -44,7 +46,7 @@ fn run(arguments: &[&str]) -> Result<Vec<u8>, Failure> {
             chieftables::check(&group, &chieftables::read_table(&bytes(table)?)?)?;
             Ok(Vec::new())
         }
-        _ => Err(Failure::Usage("usage: chieftables accept|measure|build GROUP, or chieftables check GROUP TABLE".into())),
+        _ => Err(Failure::Usage("usage: chieftables accept|measure|commutative|build GROUP, or chieftables check GROUP TABLE".into())),
     }
 }
 
