@@ -1,9 +1,9 @@
 -- The scan over the exponents of commutator words, in its order: by j, then by i below j, then by exponent up to i.
 --
---   Scanned rows j i k                 every exponent before exponent k of the word of (j, i) is 0
+--   Scanned rows j i k            every exponent before exponent k of the word of (j, i) is 0
 --   scanned-none, scanned-exponent, scanned-word, scanned-words     from one exponent to the next
---   scanned-all, one-found             the scan ends behind the last word, or at an exponent that is not 0
---   empty-words, words-empty          rows whose words are empty are those of a presentation whose commutator words are
+--   scanned-all, one-found        the scan ends behind the last word, or at an exponent that is not 0
+--   empty-words, words-empty      rows whose words are empty are those of a presentation whose commutator words are
 use mathlib.Core.Path.{_≡_, refl, sym, _∙_, ap, subst}
 use mathlib.Core.Logic.{_≢_}
 use mathlib.Core.Bool.{true, false}
