@@ -131,8 +131,8 @@ module _ (A : Accepted) where
   abbrev St : Standing (setting A) n top
   St = standing (setting A) n (omega arith)
 
-  abbrev apart : Faithful (St .F)
-  apart = standing-faithful (setting A) n (omega arith)
+  abbrev faithful : Faithful (St .F)
+  faithful = standing-faithful (setting A) n (omega arith)
 
   -- the degrees that the table lists are those of the level
   abbrev Listed : ℕ → Type 0
@@ -159,7 +159,7 @@ module _ (A : Accepted) where
 
   pub ones-empty : topDegreesOne (A .C .P) ≡ true → WordsEmpty (A .C .P) (A .C .P .n)
   unfolding topDegreesOne
-  ones-empty e = abelian-empty (setting A .T) n (omega arith) (ones-abelian (setting A) n (omega arith) top St apart (listed-top .0 e))
+  ones-empty e = abelian-empty (setting A .T) n (omega arith) (ones-abelian (setting A) n (omega arith) top St faithful (listed-top .0 e))
 
 -- ---- For what a text says
 

@@ -26,7 +26,7 @@ use Rattle.clifford.proofs.Step.{numbered, raised-numbered}
 use Rattle.clifford.proofs.Extensions.{E, 𝓢, ρ, first}
 use Rattle.clifford.proofs.Next.{next-d, family}
 
-pub record Faithful {G : Type 0} {R : Type 0} {𝓔 : Exponents R} {Ω : Type 0} {𝓖 : Mul G} {conj : ℕ → G → G} {i n : ℕ} (F : Family 𝓔 Ω 𝓖 conj i n) : Type 0 where
+pub record Faithful {G R Ω : Type 0} {𝓔 : Exponents R} {𝓖 : Mul G} {conj : ℕ → G → G} {i n : ℕ} (F : Family 𝓔 Ω 𝓖 conj i n) : Type 0 where
   pub unit : (x : G) → F .d x ≡ maps 𝓔 Ω .one → x ≡ 𝓖 .one
 
 -- ---- From a level to the next
@@ -68,7 +68,8 @@ module _ (R : Rung) where
         r : ℕ
         r = rep R a
 
-        undone : (κ : ℕ) → raised (S R) F (𝓨 κ) w a ≡ (a, E R .nil) → times (E R) (e w) (times (E R) κ (ρ R .ε)) ≡ E R .neg ((raised (S R) F (𝓢 R) w a) .1)
+        undone : (κ : ℕ) → raised (S R) F (𝓨 κ) w a ≡ (a, E R .nil)
+            → times (E R) (e w) (times (E R) κ (ρ R .ε)) ≡ E R .neg ((raised (S R) F (𝓢 R) w a) .1)
         undone κ h = neg-of (E R) _ _ (E R .comm _ _ ∙ ap (λ z. z .1) (sym (raised-numbered (S R) F (𝓢 R) (ρ R) κ w a) ∙ h))
 
         go : Dec (τ R r ≡ r) → e w ≡ 0

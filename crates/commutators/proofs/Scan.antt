@@ -6,23 +6,40 @@
 --   empty-words, words-empty      rows whose words are empty are those of a presentation whose commutator words are
 use mathlib.Core.Path.{_≡_, refl, sym, _∙_, ap, subst}
 use mathlib.Core.Logic.{_≢_}
-use mathlib.Core.Bool.{true, false}
+use mathlib.Core.Bool.{Bool, true, false}
 use mathlib.Core.List.{List, []}
 use Prim.Native.Nat.{ℕ, suc, _+_, _≤_, _<_}
 use native.Mathlib.Numerals.{add-one}
 use native.Mathlib.Omega.{arith}
 use lib.ListN.{getD}
-use borrow.Author.Tests.{eq-eqb, ne-eqb, eqb-true}
-use Rattle.definitions.specs.Presentation.{Presentation, pairNumber}
+use Rattle.definitions.specs.Lists.{allBelow}
+use Rattle.definitions.specs.Presentation.{Presentation, toNF, trivial, pairNumber}
 use Rattle.numbers.proofs.Lists.{below-suc, allBelow-elim, allBelow-intro, allBelow-fails}
+use Rattle.numbers.proofs.Bools.{refuted}
 use Rattle.group.specs.Models.{WordsEmpty}
+use Rattle.group.proofs.Clauses.{sameForm-eq, eq-sameForm}
 use Rattle.group.proofs.Rows.{toNF-get, toNF-trivial}
 use Rattle.rows.specs.Rows.{Reads}
-use Rattle.commutators.specs.Empty.{zeroAt, wordEmpty, wordsEmpty, rowsEmpty}
+use Rattle.commuting.specs.Commuting.{emptyAt}
+use Rattle.commutators.specs.Empty.{rowsEmpty}
 
--- exponent c of the word of (b, a)
+-- the word of (b, a), exponent c of it, and whether it is empty
+abbrev word : (rows : List (List ℕ)) (b a : ℕ) → List ℕ
+word rows b a = getD rows (pairNumber b a) []
+
 abbrev exponent : (rows : List (List ℕ)) (b a c : ℕ) → ℕ
-exponent rows b a c = getD (getD rows (pairNumber b a) []) c 0
+exponent rows b a c = getD (word rows b a) c 0
+
+abbrev empty : (rows : List (List ℕ)) (b a : ℕ) → Bool
+empty rows b a = emptyAt (suc a) (word rows b a)
+
+all-empty : (rows : List (List ℕ)) (n : ℕ) → ((b a : ℕ) → b < n → a < b → toNF (suc a) (word rows b a) ≡ trivial (suc a))
+    → rowsEmpty rows n ≡ true
+all-empty rows n h =
+    allBelow-intro n (λ b. allBelow b (empty rows b)) (λ b p. allBelow-intro b (empty rows b) (λ a q. eq-sameForm (suc a) _ _ (h b a p q)))
+
+trivial-toNF : (i : ℕ) (x : List ℕ) → toNF i x ≡ trivial i → (k : ℕ) → k < i → getD x k 0 ≡ 0
+trivial-toNF i x e = toNF-get i x [] (e ∙ sym (toNF-trivial i [] (λ c l. refl)))
 
 pub record Scanned (rows : List (List ℕ)) (j i k : ℕ) : Type 0 where
   pub words : (b : ℕ) → b < j → (a : ℕ) → a < b → (c : ℕ) → c < suc a → exponent rows b a c ≡ 0
@@ -59,29 +76,21 @@ module _ {rows : List (List ℕ)} where
     }
 
     pub scanned-all : {n : ℕ} → n ≤ j → rowsEmpty rows n ≡ true
-    scanned-all {n} l =
-        allBelow-intro n (wordsEmpty rows) (λ b p. allBelow-intro b (wordEmpty rows b) (λ a q. allBelow-intro (suc a) (zeroAt rows b a)
-        (λ c r. eq-eqb (exponent rows b a c) 0 (t .words b (omega arith) a q c r))))
+    scanned-all {n} l = all-empty rows n (λ b a p q. toNF-trivial (suc a) (word rows b a) (t .words b (omega arith) a q))
 
 pub one-found : (rows : List (List ℕ)) {n j i k at : ℕ} → j < n → i < j → k < suc i → at ≡ pairNumber j i → getD (getD rows at []) k 0 ≢ 0
     → rowsEmpty rows n ≡ false
 one-found rows {n} {j} {i} {k} p q r is e =
-    allBelow-fails n (wordsEmpty rows) j p (allBelow-fails j (wordEmpty rows j) i q (allBelow-fails (suc i) (zeroAt rows j i) k r
-    (ne-eqb (exponent rows j i k) 0 (λ z. e (ap (λ at. getD (getD rows at []) k 0) is ∙ z)))))
+    allBelow-fails n (λ b. allBelow b (empty rows b)) j p (allBelow-fails j (empty rows j) i q (sym (refuted (empty rows j i)
+    (λ h. e (ap (λ at. getD (getD rows at []) k 0) is ∙ trivial-toNF (suc i) (word rows j i) (sameForm-eq (suc i) _ _ h) k r)))))
 
 -- ---- What the rows say
 
 module _ {P : Presentation} {n : ℕ} {primes : List ℕ} {rows : List (List ℕ)} (read : Reads P n primes rows) where
   pub empty-words : rowsEmpty rows n ≡ true → WordsEmpty P n
   empty-words e k j a b =
-      let word = allBelow-elim j (wordEmpty rows j) (allBelow-elim n (wordsEmpty rows) e j b) k a in
-      sym (read .w-is k j a b) ∙ toNF-trivial (suc k) (getD rows (pairNumber j k) [])
-      (λ c l. eqb-true (exponent rows j k c) 0 (allBelow-elim (suc k) (zeroAt rows j k) word c l))
+      let of-j : allBelow j (empty rows j) ≡ true = allBelow-elim n (λ b. allBelow b (empty rows b)) e j b in
+      sym (read .w-is k j a b) ∙ sameForm-eq (suc k) _ _ (allBelow-elim j (empty rows j) of-j k a)
 
   pub words-empty : WordsEmpty P n → rowsEmpty rows n ≡ true
-  words-empty e =
-      allBelow-intro n (wordsEmpty rows) (λ j b. allBelow-intro j (wordEmpty rows j) (λ k a. allBelow-intro (suc k) (zeroAt rows j k)
-      (λ c l. eq-eqb (exponent rows j k c) 0 (zero k j a b c l))))
-    where
-      zero : (k j : ℕ) → k < j → j < n → (c : ℕ) → c < suc k → exponent rows j k c ≡ 0
-      zero k j a b = toNF-get (suc k) (getD rows (pairNumber j k) []) [] (read .w-is k j a b ∙ e k j a b ∙ sym (toNF-trivial (suc k) [] (λ c l. refl)))
+  words-empty e = all-empty rows n (λ j k b a. read .w-is k j a b ∙ e k j a b)
