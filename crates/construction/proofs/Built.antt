@@ -1,7 +1,6 @@
 -- From the answer about a text to that of its build.
 --
 --   build-refused         a text that is not accepted
---   room-of               so many words have room
 --   given                 what building the levels asks
 --   table-written         the levels are the table
 --   sized-short, sized-done    16, or the table
@@ -18,56 +17,45 @@ use Rattle.definitions.specs.Text.{Bytes}
 use Rattle.definitions.specs.Presentation.{Relations, lineWords, order, buildWords, presentation}
 use Rattle.definitions.specs.Table.{lineCount}
 use Rattle.definitions.specs.Steps.{tableOf}
-use Rattle.definitions.specs.Answers.{says, presentationRefusals, short, over, Accept, Build}
-use Rattle.definitions.proofs.Refusals.{first-refused, first-behind, accept-unrefused}
+use Rattle.definitions.specs.Answers.{says, presentationRefusals, short, over, Build}
+use Rattle.definitions.proofs.Refusals.{None, first-refused, first-behind, accept-unrefused}
 use Rattle.definitions.proofs.Rendering.{says-unique}
-use Rattle.presentation.specs.declared.ReadPresentation.{ReadPresentation}
 use Rattle.presentation.specs.declared.Outcome.{Outcome}
-use Rattle.rows.specs.Rows.{Reads}
 use Rattle.conditions.specs.declared.size.Size.{Size}
 use Rattle.conditions.specs.Size.{Measured}
 use Rattle.text.specs.Writing.{put, Wrote}
 use Rattle.text.proofs.Writing.{wrote-as}
 use Rattle.levels.specs.Built.{upTo}
 use Rattle.levels.proofs.Stated.{reads-accepted, table-of}
-use Rattle.levels.specs.Given.{Given}
+use Rattle.levels.specs.Given.{Given, AllWritten}
 use Rattle.acceptance.specs.Accepted.{Confirmed, AcceptedText}
+use Rattle.acceptance.proofs.Answered.{accepts}
 use Rattle.measurement.proofs.Sizes.{A, same, is-small, count-of, size-order, size-words}
-use Rattle.construction.specs.Tabled.{RoomFor, Table, Tabled, Sized}
+use Rattle.construction.specs.Sized.{Table, Sized}
 
-pub build-refused : {t : Bytes} {o : Outcome} (before : List ℕ) → AcceptedText t o → ¬ (o .status ≡ 0) → Build t before (o .status) 0 before
+pub build-refused : {t : Bytes} {o : Outcome} {rows : List (List ℕ)} (before : List ℕ) → AcceptedText t o rows → ¬ (o .status ≡ 0)
+    → Build t before (o .status) 0 before
 build-refused {t} {o} before a h = record {
   answered = first-refused (short t (length before)) (o .status) (presentationRefusals t) (a .answered) h;
   leaves = record { finished = λ z. absurd (h z); refused = λ n. (refl, refl) };
 }
 
--- ---- Room
-
-module _ {R : Relations} {P : ReadPresentation} (S : Confirmed R P) {s : Size} (M : Measured (P .primes) (P .n) s) where
-  pub room-of : (have : ℕ) → s .words ≤ have → RoomFor R P (s .order) have
-  room-of have l = record { sound = S; order-is = size-order S M; enough = subst (λ x. x ≤ have) (size-words S M) l }
-
 -- ---- The levels
 
-module _ {R : Relations} {P : ReadPresentation} {m have : ℕ} (Q : RoomFor R P m have) where
-  pub given : {rows : List (List ℕ)} → rows ≡ P .rows → Given rows (P .primes) (P .n) m have (A (Q .sound))
+module _ {R : Relations} {o : Outcome} {rows : List (List ℕ)} (S : Confirmed R o rows) where
+  pub given : {s : Size} → Measured (o .primes) (o .n) s → (have : ℕ) → s .words ≤ have → Given rows (o .primes) (o .n) (s .order) have (A S)
   unfolding presentation
-  given {rows} e =
-      let S = Q .sound in
-      record {
-        small = is-small S;
-        n-is = count-of S;
-        m-is = Q .order-is ∙ ap (λ P. order P (P .n)) (sym (same S));
-        reads = reads-accepted R (S .passed .formed) (S .passed .primes) (S .passed .used) (S .consistent) (P .primes) rows
-            (subst (Reads (presentation R) (R .n) (P .primes)) (sym e) (S .passed .held .reads));
-        room = subst (λ P. buildWords P ≤ have) (sym (same S)) (Q .enough);
-      }
+  given M have l = record {
+    small = is-small S;
+    n-is = count-of S;
+    m-is = size-order S M ∙ ap (λ P. order P (P .n)) (sym (same S));
+    reads = reads-accepted R (S .passed .formed) (S .passed .primes) (S .passed .used) (S .consistent) (o .primes) rows (S .passed .held .reads);
+    room = subst (λ P. buildWords P ≤ have) (sym (same S)) (subst (λ x. x ≤ have) (size-words S M) l);
+  }
 
-  pub table-written : {before after : List ℕ} {count : ℕ} → Wrote before 0 (upTo (A (Q .sound)) (A (Q .sound) .C .P .n)) after (8 * count)
-      → Table R before count after
+  table-written : {before after : List ℕ} {count : ℕ} → Wrote before 0 (upTo (A S) (A S .C .P .n)) after (8 * count) → Table R before count after
   unfolding over put lineCount lineWords
   table-written {before} {after} {count} W =
-      let S = Q .sound in
       let T = tableOf (presentation R) in
       let w : Wrote before 0 T after (8 * count) = wrote-as W (table-of R (S .passed .formed) (S .passed .primes) (S .passed .used) (S .consistent)) in
       let e : 0 + length T ≡ length T = omega arith in
@@ -78,35 +66,45 @@ module _ {R : Relations} {P : ReadPresentation} {m have : ℕ} (Q : RoomFor R P 
 
 -- ---- 16, or the table
 
-module _ {P : ReadPresentation} {s : Size} (M : Measured (P .primes) (P .n) s) (before : List ℕ) where
-  pub sized-short : length before < s .words → Sized P before 16 0 before
+module _ {o : Outcome} {rows : List (List ℕ)} {s : Size} (M : Measured (o .primes) (o .n) s) (before : List ℕ) where
+  pub sized-short : length before < s .words → Sized o rows before 16 0 before
   sized-short l = record { short = λ R S b. (refl, refl, refl); done = λ R S b. absurd (omega (arith, size-words S M)) }
 
-  pub sized-done : {count : ℕ} {after : List ℕ} → s .words ≤ length before → Tabled P (s .order) before count after → Sized P before 0 count after
-  sized-done l T = record {
+  pub sized-done : {count : ℕ} {after : List ℕ} → s .words ≤ length before → AllWritten rows (o .primes) (o .n) (s .order) before count after
+      → Sized o rows before 0 count after
+  sized-done l W = record {
     short = λ R S b. absurd (omega (arith, size-words S M));
-    done = λ R S b. (refl, T .written R (room-of S M (length before) l));
+    done = λ R S b. (refl, table-written S (W (A S) (given S M (length before) l)));
   }
 
 -- ---- The call
 
-pub build-sized : {t : Bytes} {P : ReadPresentation} {before after : List ℕ} {answer count : ℕ} → Accept t 0 → says t (λ (R : Relations). Confirmed R P)
-    → Sized P before answer count after → Build t before answer count after
-build-sized {t} {P} {before} {after} {answer} {count} f (R, s, S) z = go (decLt (length before) (buildWords (presentation R)))
+pub build-sized : {t : Bytes} {o : Outcome} {rows : List (List ℕ)} {before after : List ℕ} {answer count : ℕ} → AcceptedText t o rows → o .status ≡ 0
+    → Sized o rows before answer count after → Build t before answer count after
+build-sized {t} {o} {rows} {before} {after} {answer} {count} a zero z = go (decLt (length before) (buildWords (presentation R)))
   where
+    said : says t (λ (R : Relations). Confirmed R o rows)
+    said = a .sound zero
+
+    R : Relations
+    R = said .0
+
+    none : None (presentationRefusals t)
+    none = accept-unrefused t (accepts a zero)
+
     enough : ¬ (length before < buildWords (presentation R)) → ¬ says t (λ (Q : Relations). length before < buildWords (presentation Q))
-    enough h (Q, q, l) = h (subst (λ (x : Relations). length before < buildWords (presentation x)) (says-unique t Q R q s) l)
+    enough h (Q, q, l) = h (subst (λ (x : Relations). length before < buildWords (presentation x)) (says-unique t Q R q (said .1)) l)
 
     go : Dec (length before < buildWords (presentation R)) → Build t before answer count after
     go (yes l) =
-        let d = z .short R S l in
+        let d = z .short R (said .2) l in
         record {
-          answered = first-behind (short t (length before)) answer (presentationRefusals t) (accept-unrefused t f) (inl ((R, s, l), d .0));
+          answered = first-behind (short t (length before)) answer (presentationRefusals t) none (inl ((R, said .1, l), d .0));
           leaves = record { finished = λ e. absurd (omega (arith, d .0)); refused = λ n. (d .1, d .2) };
         }
     go (no l) =
-        let d = z .done R S (omega arith) in
+        let d = z .done R (said .2) (omega arith) in
         record {
-          answered = first-behind (short t (length before)) answer (presentationRefusals t) (accept-unrefused t f) (inr (enough l, d .0));
-          leaves = record { finished = λ e. (R, s, (d .1 .lines, d .1 .words)); refused = λ n. absurd (n (d .0)) };
+          answered = first-behind (short t (length before)) answer (presentationRefusals t) none (inr (enough l, d .0));
+          leaves = record { finished = λ e. (R, said .1, (d .1 .lines, d .1 .words)); refused = λ n. absurd (n (d .0)) };
         }

@@ -1,2 +1,2 @@
--- What building the table of a sound presentation asks and leaves.
-pub mod Tabled
+-- What building the table of a sound presentation leaves.
+pub mod Sized

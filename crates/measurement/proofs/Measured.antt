@@ -1,8 +1,7 @@
 -- From the answer about a text to that of its measure.
 --
 --   measure-refused     a text that is not accepted
---   wants-of            the words of the measured size
---   measure-wants       and so for the text that says the relations
+--   measure-sized       the words of the measured size, for a text that is
 --   measured-builds     with as many words as were counted a build answers 0
 --   measured-short      with fewer it answers 16
 use mathlib.Core.Path.{_≡_, refl, sym, ap, subst, _∙_}
@@ -13,25 +12,27 @@ use native.Mathlib.Omega.{arith}
 use lib.ListN.{length}
 use Rattle.definitions.specs.Text.{Bytes}
 use Rattle.definitions.specs.Presentation.{Relations, buildWords, presentation}
-use Rattle.definitions.specs.Answers.{First, says, presentationRefusals, short, Accept, Measure, Build}
+use Rattle.definitions.specs.Answers.{First, says, presentationRefusals, short, Measure, Build}
 use Rattle.definitions.proofs.Refusals.{first-rest, accept-unrefused}
 use Rattle.definitions.proofs.Rendering.{says-unique}
-use Rattle.presentation.specs.declared.ReadPresentation.{ReadPresentation}
 use Rattle.presentation.specs.declared.Outcome.{Outcome}
 use Rattle.conditions.specs.declared.size.Size.{Size}
 use Rattle.conditions.specs.Size.{Measured}
-use Rattle.acceptance.specs.Accepted.{Confirmed, AcceptedText}
-use Rattle.measurement.specs.Wants.{Wants}
+use Rattle.acceptance.specs.Accepted.{AcceptedText}
+use Rattle.acceptance.proofs.Answered.{accepts}
 use Rattle.measurement.proofs.Sizes.{size-words}
 
-pub measure-refused : {t : Bytes} {o : Outcome} → AcceptedText t o → ¬ (o .status ≡ 0) → Measure t (o .status) 0
-measure-refused a h = record { answered = a .answered; leaves = record { finished = λ z. absurd (h z); refused = λ n. (refl, refl) } }
+module _ {t : Bytes} {o : Outcome} {rows : List (List ℕ)} (a : AcceptedText t o rows) where
+  pub measure-refused : ¬ (o .status ≡ 0) → Measure t (o .status) 0
+  measure-refused h = record { answered = a .answered; leaves = record { finished = λ z. absurd (h z); refused = λ n. (refl, refl) } }
 
-pub wants-of : {P : ReadPresentation} {s : Size} → Measured (P .primes) (P .n) s → Wants P (s .words)
-wants-of M = record { is = λ R S. size-words S M }
-
-pub measure-wants : {t : Bytes} {P : ReadPresentation} {k : ℕ} → Accept t 0 → says t (λ (R : Relations). Confirmed R P) → Wants P k → Measure t 0 k
-measure-wants f (R, s, S) W = record { answered = f; leaves = record { finished = λ e. (R, s, W .is R S); refused = λ n. absurd (n refl) } }
+  pub measure-sized : o .status ≡ 0 → {s : Size} → Measured (o .primes) (o .n) s → Measure t 0 (s .words)
+  measure-sized zero M =
+      let (R, says, S) = a .sound zero in
+      record {
+        answered = accepts a zero;
+        leaves = record { finished = λ e. (R, says, size-words S M); refused = λ n. absurd (n refl) };
+      }
 
 -- ---- The build of a text that was measured
 

@@ -5,7 +5,7 @@
 --   refused-form, not-prime, too-many, concluded     the answers 11, 12, 13, and what `Concluded` says
 --   primes-positive             a prime is not 0
 --   concluded-large, concluded-misused, concluded-well     how `Concluded` is reached
-use mathlib.Core.Path.{_≡_, refl, sym, ap, ap₂, subst, subst₂, _∙_}
+use mathlib.Core.Path.{_≡_, refl, sym, ap, ap₂, subst, _∙_}
 use mathlib.Core.Logic.{inl, inr}
 use mathlib.Core.Bool.{Bool, true, false, _&&_, _||_, not, cond, false≢true}
 use mathlib.Core.List.{List, [], _++_}
@@ -82,7 +82,7 @@ module _ {t : Bytes} {n next : ℕ} (nm : NamesLine t n next) {rows : List (List
   unfolding someNotPrime presentation rowOf
   all-prime q = ap not (allBelow-intro n (λ j. isPrime (getD (al .lines) (pairNumber j j) noRow .p)) (al .prime q))
 
-  pub not-prime : flag ≡ false → {o : Outcome} → o .status ≡ 12 → ReadText t o
+  pub not-prime : flag ≡ false → {o : Outcome} → o .status ≡ 12 → ReadText t o rows
   unfolding someNotPrime presentation rowOf
   not-prime q e =
       let c = al .composite q in
@@ -102,7 +102,7 @@ module _ {t : Bytes} {n next : ℕ} (nm : NamesLine t n next) {rows : List (List
 
   -- ---- More generators than the ceiling
 
-  pub too-many : flag ≡ true → maxGenerators < n → {o : Outcome} → o .status ≡ 13 → ReadText t o
+  pub too-many : flag ≡ true → maxGenerators < n → {o : Outcome} → o .status ≡ 13 → ReadText t o rows
   unfolding tooLarge
   too-many q l e =
       let w : tooLarge relationsOf ≡ true = ap (λ (b : Bool). b || ltb maxOrder (order (presentation relationsOf) n)) (lt-ltb maxGenerators n l) in
@@ -161,12 +161,11 @@ module _ {t : Bytes} {n next : ℕ} (nm : NamesLine t n next) {rows : List (List
           rest = λ j i k a b c e. word-is j i b a k (omega arith) ∙ exponent-unused relationsOf h j i k a b c e;
         }
 
-    held-by : misused relationsOf ≡ false → (o : Outcome)
-        → (o .presentation .n ≡ n) × (o .presentation .primes ≡ primes) × (o .presentation .rows ≡ rows) → Held relationsOf (o .presentation)
+    held-by : misused relationsOf ≡ false → (o : Outcome) → (o .n ≡ n) × (o .primes ≡ primes) → Held relationsOf o rows
     held-by h o k =
-        record { count = k .0; few = few; reads = subst₂ (Reads (presentation relationsOf) n) (sym (k .1)) (sym (k .2)) (rows-read h) }
+        record { count = k .0; few = few; reads = subst (λ (xs : List ℕ). Reads (presentation relationsOf) n xs rows) (sym (k .1)) (rows-read h) }
 
-  pub concluded : flag ≡ true → n ≤ maxGenerators → {o : Outcome} → Concluded n rows ps o → ReadText t o
+  pub concluded : flag ≡ true → n ≤ maxGenerators → {o : Outcome} → Concluded n rows ps o → ReadText t o rows
   concluded q few {o} h = pick (leb (product (h .primes) n) maxOrder) (allWell rows ps (h .primes) n) refl refl (h .number)
     where
       not12 : ¬ says t (λ (R : Relations). someNotPrime R ≡ true)
@@ -180,7 +179,7 @@ module _ {t : Bytes} {n next : ℕ} (nm : NamesLine t n next) {rows : List (List
       not13 w = unsaid tooLarge says-them (large true w)
 
       pick : (a b : Bool) → leb (product (h .primes) n) maxOrder ≡ a → allWell rows ps (h .primes) n ≡ b
-          → o .status ≡ cond a (cond b 0 14) 13 → ReadText t o
+          → o .status ≡ cond a (cond b 0 14) 13 → ReadText t o rows
       pick false b x y e =
           record { answered = inr (in-form, inr (not12, inl ((relationsOf, says-them, large false x), e))); held = λ z. absurd (omega arith) }
       pick true false x y e =
@@ -197,15 +196,19 @@ module _ {t : Bytes} {n next : ℕ} (nm : NamesLine t n next) {rows : List (List
 
 -- ---- Answers
 
-pub refused-form : {t : Bytes} → ¬ InForm t → {o : Outcome} → o .status ≡ 11 → ReadText t o
+pub refused-form : {t : Bytes} → ¬ InForm t → {o : Outcome} {rows : List (List ℕ)} → o .status ≡ 11 → ReadText t o rows
 refused-form h e = record { answered = inl (h, e); held = λ z. absurd (omega arith) }
 
 -- ---- What was kept
 
 module _ {n : ℕ} {rows : List (List ℕ)} {ps primes : List ℕ} (are : Primes ps n primes) {o : Outcome} where
   pub concluded-large : leb (product primes n) maxOrder ≡ false → o .status ≡ 13 → Concluded n rows ps o
-  concluded-large h e =
-      record { primes = primes; are = are; number = e ∙ sym (ap (λ (b : Bool). cond b (cond (allWell rows ps primes n) 0 14) 13) h); kept = λ z. absurd (omega arith) }
+  concluded-large h e = record {
+    primes = primes;
+    are = are;
+    number = e ∙ sym (ap (λ (b : Bool). cond b (cond (allWell rows ps primes n) 0 14) 13) h);
+    kept = λ z. absurd (omega arith);
+  }
 
   module _ (fits : leb (product primes n) maxOrder ≡ true) where
     pub concluded-misused : allWell rows ps primes n ≡ false → o .status ≡ 14 → Concluded n rows ps o
@@ -217,7 +220,7 @@ module _ {n : ℕ} {rows : List (List ℕ)} {ps primes : List ℕ} (are : Primes
     }
 
     pub concluded-well : allWell rows ps primes n ≡ true → o .status ≡ 0
-        → (o .presentation .n ≡ n) × (o .presentation .primes ≡ primes) × (o .presentation .rows ≡ rows) → Concluded n rows ps o
+        → (o .n ≡ n) × (o .primes ≡ primes) → Concluded n rows ps o
     concluded-well h e k = record {
       primes = primes;
       are = are;

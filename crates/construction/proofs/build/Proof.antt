@@ -1,24 +1,22 @@
 -- `build`: the answer about the text, then that of the build.
-use mathlib.Core.Path.{_≡_, subst}
+use mathlib.Core.Path.{refl}
 use native.Mathlib.Omega.{arith}
 use denote.Ref.{now}
 use borrow.Author.Needs.{needs}
-use Rattle.definitions.specs.Answers.{Accept}
 use Rattle.construction.proofs.Built.{build-refused, build-sized}
 use Rattle.construction.proofs.build.Statement.{statement}
 use Rattle.construction.proofs.build.Tie as tie
 
 accepted-requires : tie.Need-accepted-requires
-accepted-requires c κs = search needs
+accepted-requires c κs = refl
 
 returns : tie.Need-returns
-returns c = build-refused (now (c .before .before .before .before .args .words)) (c .before .accepted .ensures) (omega arith)
+returns c = build-refused (now (c .before .before .before .before .before .args .words)) (c .before .accepted .ensures) (omega arith)
 
 build-sound-requires : tie.Need-build-sound-requires
 build-sound-requires c κs =
     let a = c .before .before .before .accepted in
-    let none : a .result .status ≡ 0 = omega arith in
-    let s = a .ensures .sound none in
+    let s = a .ensures .sound (omega arith) in
     (s .0, s .2)
 
 same-length : tie.Need-same-length
@@ -26,10 +24,8 @@ same-length c = search needs
 
 returns-2 : tie.Need-returns-2
 returns-2 c =
-    let z = c .before .before .before .before .before .before .before .before .before in
     let a = c .before .before .before .before .before .before .accepted in
-    let none : a .result .status ≡ 0 = omega arith in
-    build-sized (subst (Accept (now (z .args .text))) none (a .ensures .answered)) (a .ensures .sound none) (c .before .before .build-sound .ensures)
+    build-sized (a .ensures) (omega arith) (c .before .before .build-sound .ensures)
 
 pub build-spec : {M : Type 1} → statement M
 build-spec =

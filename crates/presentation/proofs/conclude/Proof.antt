@@ -12,7 +12,7 @@ primes-of-requires c κs = search needs
 
 order-fits-requires : tie.Need-order-fits-requires
 order-fits-requires c κs =
-    (omega arith, λ j l. omega (arith, c .before .primes-of .ensures .each j l, c .before .before .before .pre .1 j l))
+    (omega arith, λ j l. omega (arith, c .before .primes-of .ensures .each j l, c .before .before .pre .1 j l))
 
 refused-requires : tie.Need-refused-requires
 refused-requires c κs = search needs
@@ -31,19 +31,16 @@ refused-requires-2 c κs = search needs
 returns-2 : tie.Need-returns-2
 returns-2 c =
     let w = c .before .before in
-    let o = w .before .before .before .before in
+    let o = w .before .before in
     let fits = sym (o .before .order-fits .ensures) ∙ not-false _ (o .if1 .left) in
     concluded-misused (o .before .before .before .primes-of .ensures) fits (sym (w .well .ensures) ∙ not-true _ (c .before .if2 .taken)) (c .refused2 .ensures)
 
-make-requires : tie.Need-make-requires
-make-requires c κs = search needs
-
 returns-3 : tie.Need-returns-3
 returns-3 c =
-    let w = c .before .before in
-    let o = w .before .before .before .before in
+    let w = c .before in
+    let o = w .before .before in
     let fits = sym (o .before .order-fits .ensures) ∙ not-false _ (o .if1 .left) in
-    concluded-well (o .before .before .before .primes-of .ensures) fits (sym (w .well .ensures) ∙ not-false _ (c .before .if2 .left)) refl (c .make .ensures)
+    concluded-well (o .before .before .before .primes-of .ensures) fits (sym (w .well .ensures) ∙ not-false _ (c .if2 .left)) refl (refl, refl)
 
 pub conclude-spec : {M : Type 1} → statement M
 conclude-spec =
@@ -56,5 +53,4 @@ conclude-spec =
     well-requires
     refused-requires-2
     returns-2
-    make-requires
     returns-3)

@@ -26,7 +26,7 @@ returns c =
 read-lines-requires : tie.Need-read-lines-requires
 read-lines-requires c κs =
     let m = c .before .before .before .before .before .names .ensures .stands _ _ (c .before .before .before .n .given .1) in
-    (m .within, m .few, refl, refl)
+    (m .within, m .few, c .before .before .before .before .before .before .before .pre, refl)
 
 refused-requires-2 : tie.Need-refused-requires-2
 refused-requires-2 c κs = search needs
@@ -65,19 +65,19 @@ cast-count c = search needs
 
 conclude-requires : tie.Need-conclude-requires
 conclude-requires c κs =
-    let r = c .before .before .before in
+    let r = c .before .before .before .before .before in
     let n = r .before .before .before .before in
     let m = n .before .before .names .ensures .stands _ _ (n .n .given .1) in
-    let a = r .read-lines .ensures .stands (not-false _ (c .before .before .if1 .left)) in
-    (omega arith, primes-positive m a (not-false _ (c .before .if2 .left)) (omega arith))
+    let a = r .read-lines .ensures .stands (not-false _ (c .before .before .before .before .if1 .left)) in
+    (omega arith, primes-positive m a (not-false _ (c .before .before .before .if2 .left)) (omega arith))
 
 returns-5 : tie.Need-returns-5
 returns-5 c =
-    let r = c .before .before .before .before in
+    let r = c .before .before .before .before .before .before in
     let n = r .before .before .before .before in
     let m = n .before .before .names .ensures .stands _ _ (n .n .given .1) in
-    let a = r .read-lines .ensures .stands (not-false _ (c .before .before .before .if1 .left)) in
-    concluded m a (not-false _ (c .before .before .if2 .left)) (omega arith) (c .conclude .ensures)
+    let a = r .read-lines .ensures .stands (not-false _ (c .before .before .before .before .before .if1 .left)) in
+    concluded m a (not-false _ (c .before .before .before .before .if2 .left)) (omega arith) (c .conclude .ensures)
 
 pub read-spec : {M : Type 1} → statement M
 read-spec =

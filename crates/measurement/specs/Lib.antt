@@ -1,2 +1,0 @@
--- What measuring a sound presentation asks and leaves.
-pub mod Wants
