@@ -12,6 +12,7 @@ use Rattle.definitions.specs.Text.{Bytes}
 use Rattle.definitions.specs.Presentation.{Relations, presentation}
 use Rattle.definitions.specs.Steps.{topDegreesOne}
 use Rattle.definitions.specs.Answers.{Commutative}
+use Rattle.definitions.proofs.Refusals.{leaves-refused, leaves-finished}
 use Rattle.numbers.proofs.Bools.{same-test}
 use Rattle.group.specs.Models.{WordsEmpty}
 use Rattle.clifford.proofs.Commutative.{top-ones}
@@ -39,12 +40,12 @@ one-or-zero false = refl
 
 module _ {t : Bytes} {o : Outcome} {rows : List (List ℕ)} (a : AcceptedText t o rows) where
   pub commutative-refused : ¬ (o .status ≡ 0) → Commutative t (o .status) 0
-  commutative-refused h = record { answered = a .answered; leaves = record { finished = λ z. absurd (h z); refused = λ n. (refl, refl) } }
+  commutative-refused h = record { answered = a .answered; leaves = leaves-refused h }
 
   pub commutative-told : o .status ≡ 0 → {b : Bool} → b ≡ rowsEmpty rows (o .n) → Commutative t 0 (boolByte b)
   commutative-told zero {b} scan =
       let (R, s, S) = a .sound zero in
       record {
         answered = accepts a zero;
-        leaves = record { finished = λ z. (R, s, one-or-zero b ∙ ap (λ b. cond b 1 0) (scan ∙ scan-tells S)); refused = λ n. absurd (n refl) };
+        leaves = leaves-finished (R, s, one-or-zero b ∙ ap (λ b. cond b 1 0) (scan ∙ scan-tells S));
       }

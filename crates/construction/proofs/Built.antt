@@ -18,7 +18,7 @@ use Rattle.definitions.specs.Presentation.{Relations, lineWords, order, buildWo
 use Rattle.definitions.specs.Table.{lineCount}
 use Rattle.definitions.specs.Steps.{tableOf}
 use Rattle.definitions.specs.Answers.{says, presentationRefusals, short, over, Build}
-use Rattle.definitions.proofs.Refusals.{None, first-refused, first-behind, accept-unrefused}
+use Rattle.definitions.proofs.Refusals.{None, first-refused, first-behind, accept-unrefused, leaves-refused}
 use Rattle.definitions.proofs.Rendering.{says-unique}
 use Rattle.presentation.specs.declared.Outcome.{Outcome}
 use Rattle.conditions.specs.declared.size.Size.{Size}
@@ -37,7 +37,7 @@ pub build-refused : {t : Bytes} {o : Outcome} {rows : List (List ℕ)} (before :
     → Build t before (o .status) 0 before
 build-refused {t} {o} before a h = record {
   answered = first-refused (short t (length before)) (o .status) (presentationRefusals t) (a .answered) h;
-  leaves = record { finished = λ z. absurd (h z); refused = λ n. (refl, refl) };
+  leaves = leaves-refused h;
 }
 
 -- ---- The levels

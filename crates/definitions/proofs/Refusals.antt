@@ -15,6 +15,7 @@
 --   Unrefused             none of 11 to 15 applies to a text
 --   accept-unrefused, build-unrefused     as where accept or build answers 0
 --   check-judged          the check of any table for such a text answers the judgement's number
+--   leaves-refused, leaves-finished     what a refused call leaves, and a finished one
 use mathlib.Core.Path.{_≡_, refl, sym, _∙_, ap, subst}
 use mathlib.Core.Logic.{_↔_, inl, inr}
 use mathlib.Core.Bool.{Bool, true, false, _&&_, cond, false≢true, not-eq-not}
@@ -26,7 +27,7 @@ use borrow.Author.Tests.{ltb-true}
 use Rattle.definitions.specs.Text.{Bytes}
 use Rattle.definitions.specs.Presentation.{Presentation, Relations, Says, presentation}
 use Rattle.definitions.specs.Answers.{First, firstOf, says, presentationRefusals, short, buildRefusals, judgements, tableRefusals, checkRefusals}
-use Rattle.definitions.specs.Answers.{judgement, readRefusals, writeRefusals, Accept}
+use Rattle.definitions.specs.Answers.{judgement, readRefusals, writeRefusals, Leaves, Accept}
 use Rattle.definitions.proofs.Rendering.{and-left, and-right, says-unique}
 
 pub first-unique : (cs : List (ℕ × Type 0)) (a b : ℕ) → First cs a → First cs b → a ≡ b
@@ -146,3 +147,12 @@ module _ (t : Bytes) (U : Unrefused t) (R : Relations) (s : Says t R) (modulus :
 
   pub check-judged : (a : ℕ) → First (checkRefusals t modulus T) a ↔ (a ≡ judgement (presentation R) (modulus (presentation R)) T)
   check-judged a = (λ f. first-unique (checkRefusals t modulus T) a _ f judged, λ e. subst (First (checkRefusals t modulus T)) (sym e) judged)
+
+-- ---- What a call leaves
+
+module _ {H B : Type 0} {Finished : H → B → Type 0} {nothing : H} {before : B} where
+  pub leaves-refused : {answer : ℕ} → ¬ (answer ≡ 0) → Leaves Finished nothing before answer nothing before
+  leaves-refused h = record { finished = λ z. absurd (h z); refused = λ n. (refl, refl) }
+
+  pub leaves-finished : {handed : H} {after : B} → Finished handed after → Leaves Finished nothing before 0 handed after
+  leaves-finished f = record { finished = λ z. f; refused = λ n. absurd (n refl) }

@@ -56,12 +56,14 @@ module _ (C : Context) (i c : ℕ) (l : c < i) (G : Group C i)
   fixed = G .conj-gen i (omega arith) c l ∙ ap (λ t. g * t) (empty-value (genNf C i) (suc c) _ (above i l (omega arith))) ∙ G .laws .idr g
 
   pub central-low : (j : ℕ) → c < j → j < i
-      → mul (C .P) i (image (C .P) i c) (image (C .P) i j) ≡ mul (C .P) i (image (C .P) i j) (mul (C .P) i (image (C .P) i c) (value (forms (C .P) i) (image (C .P) i) (suc c) (C .P .w c j)))
+      → mul (C .P) i (image (C .P) i c) (image (C .P) i j)
+      ≡ mul (C .P) i (image (C .P) i j) (mul (C .P) i (image (C .P) i c) (value (forms (C .P) i) (image (C .P) i) (suc c) (C .P .w c j)))
   central-low j a b = commutator-raw C i c j (ap (λ t. t * imageNf C i i j) fixed ∙ commutes (imageNf C i i j)
       ∙ ap (λ t. imageNf C i i j * t) (sym (ap₂ (_*_) fixed (empty-value (imageNf C i i) (suc c) _ (above j a (omega arith))) ∙ G .laws .idr g)))
 
   pub central-high : (k : ℕ) → k < c
-      → mul (C .P) i (image (C .P) i k) (image (C .P) i c) ≡ mul (C .P) i (image (C .P) i c) (mul (C .P) i (image (C .P) i k) (value (forms (C .P) i) (image (C .P) i) (suc k) (C .P .w k c)))
+      → mul (C .P) i (image (C .P) i k) (image (C .P) i c)
+      ≡ mul (C .P) i (image (C .P) i c) (mul (C .P) i (image (C .P) i k) (value (forms (C .P) i) (image (C .P) i) (suc k) (C .P .w k c)))
   central-high k a = commutator-raw C i k c (ap (λ t. imageNf C i i k * t) fixed ∙ sym (commutes (imageNf C i i k))
       ∙ ap₂ (_*_) (sym fixed) (sym (ap (λ t. imageNf C i i k * t) (empty-value (imageNf C i i) (suc k) _ (below k a)) ∙ G .laws .idr _)))
 

@@ -13,7 +13,7 @@ use lib.ListN.{length}
 use Rattle.definitions.specs.Text.{Bytes}
 use Rattle.definitions.specs.Presentation.{Relations, buildWords, presentation}
 use Rattle.definitions.specs.Answers.{First, says, presentationRefusals, short, Measure, Build}
-use Rattle.definitions.proofs.Refusals.{first-rest, accept-unrefused}
+use Rattle.definitions.proofs.Refusals.{first-rest, accept-unrefused, leaves-refused, leaves-finished}
 use Rattle.definitions.proofs.Rendering.{says-unique}
 use Rattle.presentation.specs.declared.Outcome.{Outcome}
 use Rattle.conditions.specs.declared.size.Size.{Size}
@@ -24,15 +24,12 @@ use Rattle.measurement.proofs.Sizes.{size-words}
 
 module _ {t : Bytes} {o : Outcome} {rows : List (List ℕ)} (a : AcceptedText t o rows) where
   pub measure-refused : ¬ (o .status ≡ 0) → Measure t (o .status) 0
-  measure-refused h = record { answered = a .answered; leaves = record { finished = λ z. absurd (h z); refused = λ n. (refl, refl) } }
+  measure-refused h = record { answered = a .answered; leaves = leaves-refused h }
 
   pub measure-sized : o .status ≡ 0 → {s : Size} → Measured (o .primes) (o .n) s → Measure t 0 (s .words)
   measure-sized zero M =
       let (R, says, S) = a .sound zero in
-      record {
-        answered = accepts a zero;
-        leaves = record { finished = λ e. (R, says, size-words S M); refused = λ n. absurd (n refl) };
-      }
+      record { answered = accepts a zero; leaves = leaves-finished (R, says, size-words S M) }
 
 -- ---- The build of a text that was measured
 

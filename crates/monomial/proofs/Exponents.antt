@@ -87,7 +87,8 @@ module _ {E : Type 0} (𝓔 : Exponents E) where
       ap (λ k. times 𝓔 k x) q ∙ sym (ap (λ s. add s (times 𝓔 l x)) (total-zero (λ k. x)) ∙ 𝓔 .idl _)
   times-add (suc k) l x =
       let q : suc k + l ≡ suc (k + l) = omega arith in
-      ap (λ k. times 𝓔 k x) q ∙ total-suc (λ k. x) (k + l) ∙ ap (add x) (times-add k l x) ∙ sym (𝓔 .assoc _ _ _) ∙ ap (λ s. add s (times 𝓔 l x)) (sym (total-suc (λ k. x) k))
+      ap (λ k. times 𝓔 k x) q ∙ total-suc (λ k. x) (k + l) ∙ ap (add x) (times-add k l x) ∙ sym (𝓔 .assoc _ _ _)
+      ∙ ap (λ s. add s (times 𝓔 l x)) (sym (total-suc (λ k. x) k))
 
   pub times-mul : (k l : ℕ) (x : E) → times 𝓔 (k * l) x ≡ times 𝓔 k (times 𝓔 l x)
   times-mul zero l x = ap (λ k. times 𝓔 k x) (zero-mul l) ∙ total-zero (λ k. x) ∙ sym (total-zero (λ k. times 𝓔 l x))

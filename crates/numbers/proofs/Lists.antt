@@ -99,7 +99,9 @@ iter-fix f x h (suc k) = simp (iter-suc, h, iter-fix f x h k)
 
 iter-times : {A : Type 0} (f : A → A) (k : ℕ) (x : A) → iter f k x ≡ x → (q : ℕ) → iter f (q * k) x ≡ x
 iter-times f k x h zero = simp (zero-mul, iter-zero)
-iter-times f k x h (suc q) = let e : suc q * k ≡ k + q * k = omega arith in ap (λ m. iter f m x) e ∙ sym (iter-add f k (q * k) x) ∙ ap (iter f (q * k)) h ∙ iter-times f k x h q
+iter-times f k x h (suc q) =
+    let e : suc q * k ≡ k + q * k = omega arith in
+    ap (λ m. iter f m x) e ∙ sym (iter-add f k (q * k) x) ∙ ap (iter f (q * k)) h ∙ iter-times f k x h q
 
 -- whole periods lead nowhere
 pub iter-period : {A : Type 0} (f : A → A) (k : ℕ) (x : A) → iter f k x ≡ x → (m : ℕ) → iter f (m % k) x ≡ iter f m x

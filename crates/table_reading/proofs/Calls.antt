@@ -19,6 +19,7 @@ use Rattle.definitions.specs.Text.{Bytes}
 use Rattle.definitions.specs.Presentation.{lineWords}
 use Rattle.definitions.specs.Table.{lineCount}
 use Rattle.definitions.specs.Answers.{newlines, TableSays, ReadTable}
+use Rattle.definitions.proofs.Refusals.{leaves-refused, leaves-finished}
 use Rattle.text.specs.Reading.{StartsAt}
 use Rattle.table_text.specs.Pieces.{pieces}
 use Rattle.table_text.proofs.Pieces.{names, tableText-pieces, newlines-table}
@@ -75,14 +76,14 @@ read-room s (T, f) l = record {
 
 module _ (t : Bytes) (before : List ℕ) where
   pub read-short : Short t (length before) → ReadTable t before 16 0 before
-  read-short l = record { answered = inl (l .less, refl); leaves = record { finished = λ q. absurd (omega arith); refused = λ n. (refl, refl) } }
+  read-short l = record { answered = inl (l .less, refl); leaves = leaves-refused (λ q. omega arith) }
 
   module _ (l : Long t (length before)) where
     room : ¬ (length before < lineWords * (newlines t - 1))
     room m = omega (arith, l .least)
 
     other : ¬ ((T : List ℕ) × TableSays t T) → ReadTable t before 20 0 before
-    other h = record { answered = inr (room, inl (h, refl)); leaves = record { finished = λ q. absurd (omega arith); refused = λ n. (refl, refl) } }
+    other h = record { answered = inr (room, inl (h, refl)); leaves = leaves-refused (λ q. omega arith) }
 
     pub read-unstarted : (StartsAt t 0 names → ⊥) → ReadTable t before 20 0 before
     read-unstarted h = other (λ s. h (says-starts (s .1)))
@@ -96,5 +97,5 @@ module _ (t : Bytes) (before : List ℕ) where
         let u = form-says s (f .lines) in
         record {
           answered = inr (room, inr ((λ n. n (f .table, u)), refl));
-          leaves = record { finished = λ q. (f .table, u, ap (λ (m : ℕ). m / 8) (f .count), f .stored); refused = λ n. absurd (n refl) };
+          leaves = leaves-finished (f .table, u, ap (λ (m : ℕ). m / 8) (f .count), f .stored);
         }

@@ -15,6 +15,7 @@ use Rattle.definitions.specs.Text.{Bytes, small}
 use Rattle.definitions.specs.Presentation.{lineWords}
 use Rattle.definitions.specs.Table.{tableText, writable}
 use Rattle.definitions.specs.Answers.{over, WriteTable}
+use Rattle.definitions.proofs.Refusals.{leaves-refused, leaves-finished}
 use Rattle.text.specs.Writing.{put, Wrote}
 use Rattle.text.proofs.Writing.{wrote-more, wrote-as}
 use Rattle.table_text.specs.Pieces.{pieces}
@@ -26,7 +27,7 @@ write-room T out r q = leb-true (34 + length (pieces 0 T)) (length out) (sym r �
 
 module _ (T : List ℕ) (before : Bytes) where
   refuse-21 : writable T ≡ false → WriteTable T before 21 0 before
-  refuse-21 h = record { answered = inl (h, refl); leaves = record { finished = λ q. absurd (omega arith); refused = λ n. (refl, refl) } }
+  refuse-21 h = record { answered = inl (h, refl); leaves = leaves-refused (λ q. omega arith) }
 
   pub write-part : (length T % 8 ≡ 0 → ⊥) → WriteTable T before 21 0 before
   unfolding lineWords
@@ -47,7 +48,7 @@ module _ (T : List ℕ) (before : Bytes) where
     pub write-short : leb (34 + length (pieces 0 T)) (length before) ≡ false → WriteTable T before 16 0 before
     write-short h = record {
       answered = inr (can, inl (omega (arith, ap length text-is, leb-false (34 + length (pieces 0 T)) (length before) h), refl));
-      leaves = record { finished = λ q. absurd (omega arith); refused = λ n. (refl, refl) };
+      leaves = leaves-refused (λ q. omega arith);
     }
 
     pub write-done : {mid : List ℕ} {next : ℕ} {after : List ℕ} {end : ℕ} → Wrote before 0 names mid next → Wrote mid next (pieces 0 T) after end
@@ -58,8 +59,5 @@ module _ (T : List ℕ) (before : Bytes) where
         let e : 0 + length (tableText T) ≡ length (tableText T) = omega arith in
         record {
           answered = inr (can, inr ((λ l. omega (arith, w .room)), refl));
-          leaves = record {
-            finished = λ q. (w .end ∙ e, w .content ∙ ap (λ (m : ℕ). tableText T ++ drop m before) e);
-            refused = λ n. absurd (n refl);
-          };
+          leaves = leaves-finished (w .end ∙ e, w .content ∙ ap (λ (m : ℕ). tableText T ++ drop m before) e);
         }
