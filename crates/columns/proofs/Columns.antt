@@ -32,11 +32,11 @@ pub record In (d m : ℕ) (y : Entry) : Type 0 where
 module _ (m : ℕ) (pos : 0 < m) (d : ℕ) where
   -- ---- Square matrices
 
-  identity-square : Square d (identity d)
+  pub identity-square : Square d (identity d)
   unfolding identity
   identity-square = record { size = length-table _ d; inside = λ c l. subst (λ (x : Entry). x .row < d) (sym (col-table (λ k. entry k 0) d c l)) l }
 
-  col-product : (M N : Matrix) (c : ℕ) → c < length N → col (product m M N) c ≡ act m M (col N c)
+  pub col-product : (M N : Matrix) (c : ℕ) → c < length N → col (product m M N) c ≡ act m M (col N c)
   unfolding product
   col-product M N c l = col-map (act m M) N c l
 
@@ -73,7 +73,7 @@ module _ (m : ℕ) (pos : 0 < m) (d : ℕ) where
       (ap (λ (x : Entry). (x .exp + y .exp) % m) e ∙ mod-add-mod (a + b) m (y .exp) ∙ ap (λ z. z % m) (add-assoc a b (y .exp))
       ∙ sym (add-mod-mod a (b + y .exp) m))
 
-  act-identity : (y : Entry) → In d m y → act m (identity d) y ≡ y
+  pub act-identity : (y : Entry) → In d m y → act m (identity d) y ≡ y
   unfolding act identity
   act-identity y l =
       let e = col-table (λ k. entry k 0) d (y .row) (l .row) in
@@ -86,7 +86,7 @@ module _ (m : ℕ) (pos : 0 < m) (d : ℕ) where
       ap (λ N. act m N y) (power-suc (matrices m d) M k) ∙ act-product M (power-square A k) y (l .row)
       ∙ ap (act m M) (act-power A k y l) ∙ sym (iter-out (act m M) k y)
 
-  iter-in : {M : Matrix} → Square d M → (k : ℕ) (y : Entry) → In d m y → In d m (iter (act m M) k y)
+  pub iter-in : {M : Matrix} → Square d M → (k : ℕ) (y : Entry) → In d m y → In d m (iter (act m M) k y)
   unfolding iter
   iter-in A zero y l = l
   iter-in A (suc k) y l = iter-in A k (act m _ y) (act-in A y (l .row))

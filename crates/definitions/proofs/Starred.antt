@@ -13,6 +13,7 @@ use mathlib.Core.Bool.{Bool, true, false, _&&_, not, cond}
 use mathlib.Core.List.{List, [], _∷_, _++_, map, zipWith, flatMap}
 use lib.ListN.{take}
 use lib.Dec.{eqb}
+use lib.IntN.{ℤ, pos, negsuc}
 use native.Mathlib.Omega.{arith}
 use Rattle.definitions.specs.Lists.{upto, blocks, sum, allBelow, anyBelow, all, any, least, leastFrom, iter, same}
 use Rattle.definitions.specs.Text.{largest, digits, decimal, spaced, line, valueLine, render, small}
@@ -22,8 +23,8 @@ use Rattle.definitions.specs.Presentation.{tooLarge, allowed, rowWell, m
 use Rattle.definitions.specs.Consistency.{gen, inv, word, forth, back, power-relation, commutator-relation, gen-inv, Chain, done, link, Consistent, carry}
 use Rattle.definitions.specs.Consistency.{mulStep, conjStep, arithmeticStep, arithmetic, generator, sameForm, keepsPowers, keepsCommutators, fixesPower}
 use Rattle.definitions.specs.Consistency.{powerIsInner, levelTest, test}
-use Rattle.definitions.specs.Monomial.{Matrix, col, identity, less, act, product, scale, inverse, valid, sameEntry, sameMatrix, Rep, repOf, image}
-use Rattle.definitions.specs.Monomial.{conjugate}
+use Rattle.definitions.specs.Monomial.{Matrix, col, identity, less, act, product, scale, inverse, signedPower, valid, sameEntry, sameMatrix, Rep}
+use Rattle.definitions.specs.Monomial.{repOf, image, conjugate}
 use Rattle.definitions.specs.Table.{lineOf, repWords, levelWords, wordAt, lineCount, begins, degrees, columns, firstLine, repAt, levelZero, levelAt}
 use Rattle.definitions.specs.Table.{complete, tableNames, rowsOf, tableText, writable}
 use Rattle.definitions.specs.Steps.{lift, fixed, orbit, leader, position, made, start, s, extended, l, a, extension, along, lastBlock, blockDiagonal}
@@ -60,6 +61,8 @@ pub data Star : Type 0 where
   commutes : Relations → Bool → Star
   -- generator g (from 1) in representation r of the built level i: row and exponent, column by column
   has-matrix : Relations → (i r g : ℕ) → List ℕ → Star
+  -- and its power with a signed exponent
+  has-power : Relations → (i r g : ℕ) → ℤ → List ℕ → Star
   -- the text of an answer
   prints : ℕ → String → Star
   -- the check's number for a table
@@ -86,6 +89,10 @@ holds (has-degrees R i ds) = equal (map (λ (D : Rep). D .deg) (built R i)) ds
 holds (commutes R b) = cond b (topDegreesOne (presentation R)) (not (topDegreesOne (presentation R)))
 holds (has-matrix R i r zero xs) = false
 holds (has-matrix R i r (suc g) xs) = equal (flat (repOf (built R i) r .matrix g)) xs
+holds (has-power R i r zero k xs) = false
+holds (has-power R i r (suc g) k xs) =
+    let D = repOf (built R i) r in
+    equal (flat (signedPower (order (presentation R) (R .n)) (D .deg) (D .matrix g) k)) xs
 holds (prints a t) = equal (answerText a) (bytes t)
 holds (judged R T a) = eqb (judgement (presentation R) (order (presentation R) (R .n)) T) a
 
@@ -128,6 +135,9 @@ groups =
     ∷ has-matrix Q8 3 4 1 (0 ∷ 4 ∷ 1 ∷ 4 ∷ [])
     ∷ has-matrix Q8 3 4 2 (0 ∷ 2 ∷ 1 ∷ 6 ∷ [])
     ∷ has-matrix Q8 3 4 3 (1 ∷ 0 ∷ 0 ∷ 4 ∷ [])
+    ∷ has-power Q8 3 4 3 (pos 2) (0 ∷ 4 ∷ 1 ∷ 4 ∷ [])
+    ∷ has-power Q8 3 4 3 (negsuc 0) (1 ∷ 4 ∷ 0 ∷ 0 ∷ [])
+    ∷ has-power Q8 3 4 3 (negsuc 2) (1 ∷ 0 ∷ 0 ∷ 4 ∷ [])
     ∷ reads (relations (2 ∷ []) []) "j i p e1\n1 1 2 0\n" 0
     ∷ wants (relations (2 ∷ []) []) 16
     ∷ commutes (relations (2 ∷ []) []) true
@@ -136,6 +146,9 @@ groups =
     ∷ has-matrix dense12 3 5 3 (1 ∷ 10 ∷ 0 ∷ 2 ∷ [])
     ∷ reads dense20 "j i p e1 e2 e3\n1 1 5 0 0 0\n2 2 2 0 0 0\n2 1 0 3 0 0\n3 3 2 3 1 0\n3 1 0 2 0 0\n3 2 0 4 0 0\n" 0
     ∷ has-matrix dense20 3 4 3 (3 ∷ 0 ∷ 2 ∷ 4 ∷ 0 ∷ 4 ∷ 1 ∷ 12 ∷ [])
+    ∷ has-power dense20 3 4 3 (pos 0) (0 ∷ 0 ∷ 1 ∷ 0 ∷ 2 ∷ 0 ∷ 3 ∷ 0 ∷ [])
+    ∷ has-power dense20 3 4 3 (pos 3) (2 ∷ 16 ∷ 3 ∷ 8 ∷ 1 ∷ 16 ∷ 0 ∷ 0 ∷ [])
+    ∷ has-power dense20 3 4 3 (negsuc 1) (1 ∷ 12 ∷ 0 ∷ 8 ∷ 3 ∷ 4 ∷ 2 ∷ 16 ∷ [])
     ∷ has-matrix dense54 3 9 4 (0 ∷ 0 ∷ 2 ∷ 36 ∷ 1 ∷ 18 ∷ [])
     ∷ []
 
@@ -233,7 +246,7 @@ unfolding starred every groups presentations tables checks holds refusal flat bu
     shifted maxGenerators maxOrder lineWords largest digits decimal spaced line valueLine render small zipWith flatMap textOf wellFormed
     presentationNames pairs pairsOf isPrime someNotPrime tooLarge allowed rowWell misused buildWords presentation rowOf pairNumber toNF power
     value trivial order carry mulStep conjStep arithmeticStep arithmetic generator sameForm keepsPowers keepsCommutators fixesPower powerIsInner
-    levelTest test upto blocks sum allBelow anyBelow all any least leastFrom iter same identity col less act product scale inverse valid
+    levelTest test upto blocks sum allBelow anyBelow all any least leastFrom iter same identity col less act product scale inverse signedPower valid
     sameEntry sameMatrix repOf image conjugate lineOf repWords levelWords levelZero wordAt lineCount begins degrees columns firstLine repAt
     levelAt complete tableNames rowsOf tableText writable lift fixed orbit leader position made start s extended l a extension along lastBlock
     blockDiagonal blockCycle blockIntertwiner leftSide rightSide nextBlock blockAfter scalarAfter c induction givenBy nextLevel levels tableWith

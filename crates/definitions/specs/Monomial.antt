@@ -7,6 +7,7 @@
 --   act m M x                  where M takes an entry
 --   product, identity, scale, inverse      MN applies N first; scale c multiplies by the c-th power of the root
 --   matrices m d               product and unit of degree d, so that `power` and `value` apply
+--   signedPower m d M k        the power with a signed exponent
 --   valid, sameMatrix          a matrix of degree d; equality of matrices
 --   Rep, Level, repOf L r      a representation with its intertwiners; a level; its representation r
 --   conjugate m P D k j        D(j⁻¹ k j) for generators k < j
@@ -15,9 +16,10 @@ use mathlib.Core.Bool.{Bool, _&&_}
 use mathlib.Core.List.{List, [], map}
 use lib.ListN.{length, getD}
 use lib.Dec.{eqb, ltb}
+use lib.IntN.{ℤ, pos, negsuc}
 use Rattle.definitions.specs.declared.Entry.{Entry}
 use Rattle.definitions.specs.Lists.{upto, allBelow, anyBelow, least}
-use Rattle.definitions.specs.Presentation.{NF, Presentation, Mul, value}
+use Rattle.definitions.specs.Presentation.{NF, Presentation, Mul, power, value}
 
 -- ---- Matrices
 
@@ -52,6 +54,11 @@ module _ (m : ℕ) where
 
   abbrev pub matrices : ℕ → Mul Matrix
   matrices d = record { mul = product; one = identity d }
+
+  -- the k-th power, or for -(k + 1) the (k + 1)-st of the inverse
+  unfoldable pub signedPower : (d : ℕ) → Matrix → ℤ → Matrix
+  signedPower d M (pos k) = power (matrices d) M k
+  signedPower d M (negsuc k) = power (matrices d) (inverse M) (suc k)
 
   -- d columns, exponents below m, and rows that are a permutation of the numbers below d
   unfoldable pub valid : ℕ → Matrix → Bool

@@ -4,13 +4,17 @@
 --   injects-le          then a is at most b
 --   injects-onto        and if a is b, every number below b is hit
 --   onto-injects        a map of the numbers below a that hits every one of them takes no two to one
+--   injects-returns     a number that does not come again in fewer than a turns of such a map does after a
 use mathlib.Core.Path.{_≡_, sym, _∙_, ap, subst}
-use Prim.Native.Nat.{ℕ, zero, suc, _≤_, _<_}
+use Prim.Native.Nat.{ℕ, zero, suc, _+_, _-_, _≤_, _<_}
 use native.Mathlib.Omega.{arith}
 use native.Mathlib.Decide.{decLt, ℕ-discrete}
 use mathlib.Core.Bool.{cond}
 use lib.Dec.{eqb}
+use Rattle.definitions.specs.Lists.{iter}
 use Rattle.numbers.proofs.Bools.{cond-eq, cond-ne}
+use Rattle.numbers.proofs.Lists.{iter-zero}
+use Rattle.numbers.proofs.Iterates.{iter-out}
 
 pub record Injects (a b : ℕ) (f : ℕ → ℕ) : Type 0 where
   pub below : (k : ℕ) → k < a → f k < b
@@ -105,3 +109,42 @@ onto-injects a f onto j k s t e = hits (injects-onto a back injects j s) (inject
     hits (b, l, p) (c, m, q) =
         let x : b ≡ c = sym (picked b (decLt b a) l .1) ∙ ap f p ∙ e ∙ ap f (sym q) ∙ picked c (decLt c a) m .1 in
         sym p ∙ ap back x ∙ q
+
+-- ---- Turns
+
+module _ (a : ℕ) (f : ℕ → ℕ) (F : Injects a a f) (r : ℕ) (h : r < a) where
+  turned-below : (k : ℕ) → iter f k r < a
+  turned-below zero = subst (λ z. z < a) (sym (iter-zero f r)) h
+  turned-below (suc k) = subst (λ z. z < a) (sym (iter-out f k r)) (F .below _ (turned-below k))
+
+  -- what comes again after turns came again before them
+  again : (j k : ℕ) → iter f (j + k) r ≡ iter f j r → iter f k r ≡ r
+  again zero k e = let z : 0 + k ≡ k = omega arith in ap (λ n. iter f n r) (sym z) ∙ e ∙ iter-zero f r
+  again (suc j) k e =
+      let z : suc j + k ≡ suc (j + k) = omega arith in
+      again j k (F .injective _ _ (turned-below (j + k)) (turned-below j) (sym (iter-out f (j + k) r) ∙ ap (λ n. iter f n r) (sym z) ∙ e ∙ iter-out f j r))
+
+  pub injects-returns : ((k : ℕ) → 0 < k → k < a → ¬ (iter f k r ≡ r)) → iter f a r ≡ r
+  injects-returns none = go (ℕ-discrete (iter f a r) r)
+    where
+      go : Dec (iter f a r ≡ r) → iter f a r ≡ r
+      go (yes e) = e
+      go (no n) = absurd (omega (arith, injects-le (suc a) a (λ k. iter f k r) (record { below = λ k l. turned-below k; injective = injective })))
+        where
+          never : (k : ℕ) → 0 < k → k < suc a → Dec (k < a) → ¬ (iter f k r ≡ r)
+          never k p l (yes b) = none k p b
+          never k p l (no b) = let e : k ≡ a = omega arith in λ q. n (ap (λ k. iter f k r) (sym e) ∙ q)
+
+          -- no two of the turns up to the last lead to one number
+          apart : (j k : ℕ) → j < k → k < suc a → ¬ (iter f j r ≡ iter f k r)
+          apart j k l b e =
+              let z : k ≡ j + (k - j) = omega arith in
+              never (k - j) (omega arith) (omega arith) (decLt (k - j) a) (again j (k - j) (ap (λ n. iter f n r) (sym z) ∙ sym e))
+
+          injective : (j k : ℕ) → j < suc a → k < suc a → iter f j r ≡ iter f k r → j ≡ k
+          injective j k b c e = order (decLt j k) (decLt k j)
+            where
+              order : Dec (j < k) → Dec (k < j) → j ≡ k
+              order (yes l) d = absurd (apart j k l c e)
+              order (no l) (yes d) = absurd (apart k j d b (sym e))
+              order (no l) (no d) = omega arith
