@@ -1,0 +1,3 @@
+-- Laws of signed words, and of rounds.
+pub mod Words
+pub mod Quotients

@@ -1,0 +1,2 @@
+-- Signed numbers, and rounds.
+pub mod Signs
