@@ -14,9 +14,9 @@ use Rattle.definitions.specs.Monomial.{less, valid}
 use Rattle.numbers.proofs.Lists.{allBelow-elim}
 use Rattle.level.specs.declared.Listed.{Listed}
 use Rattle.level.specs.Stored.{entryIn, lineIn, generatorIn, Holds, Stored}
+use Rattle.level.proofs.Matrices.{valid-holds}
 use Rattle.seek.specs.declared.Scope.{Scope}
 use Rattle.seek.specs.Seek.{Found}
-use Rattle.seek.proofs.Stored.{valid-holds}
 use Rattle.compare.specs.declared.Stage.{Stage}
 use Rattle.compare.specs.Shifted.{shift, Shifted}
 use Rattle.compare.specs.Staged.{Staged}

@@ -1,2 +1,4 @@
 -- Laws of what stands in lines.
 pub mod Columns
+pub mod Matrices
+pub mod Laps

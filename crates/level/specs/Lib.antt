@@ -1,2 +1,3 @@
--- What stands in lines.
+-- What stands in lines, and laps of an entry.
 pub mod Stored
+pub mod Laps

@@ -5,6 +5,10 @@
 //   reduce, add_mod, sub_mod     sums and differences of exponents
 //   word_at, entry_at, column    what stands in a line
 //   apply, apply_times           a column moved through a matrix, once or several times
+//   add_rounds, add_times        a product added to an exponent
+//   Lap, lap_from, steps         turns until a basis index comes again; so many turns
+//   gain, after_laps             what a lap adds; whole laps, and the turns behind them
+//   power_of, power_entry        the power of a matrix with a signed exponent, on a column
 //   Listed, representation       a representation: its first line and its degree
 //   matrix_line, target          the line of a generator's matrix, and where its intertwiner leads
 //   moved, moved_times, walked   a column moved through a generator, through it several times, through a word
@@ -15,12 +19,15 @@ ghost use Prim.Native.Nat.{ℕ, suc, _+_, _*_, _%_, _≤_, _<_};
 ghost use lib.ListN.{length};
 ghost use Rattle.definitions.specs.Lists.{iter};
 ghost use Rattle.definitions.specs.Presentation.{maxGenerators, toNF};
-ghost use Rattle.definitions.specs.Monomial.{entry, less, act};
+ghost use Rattle.definitions.specs.Monomial.{entry, less, act, signedPower};
 ghost use Rattle.definitions.specs.Table.{wordAt};
 ghost use Rattle.formulas.specs.Formulas.{walk, plus};
+ghost use Rattle.signed.specs.Signs.{number};
+ghost use Rattle.level.specs.Laps.{LapOf, ClosedLap, gained};
 ghost use Rattle.level.specs.Stored.{entryIn, matrixIn, Below, Holds, lineIn, generatorIn, targetIn, listedIn, throughIn, Stored};
 use definitions::Entry;
 use rows::Row;
+use signed::Signed;
 
 // The fields of a line, by their place in it.
 pub const LEVEL: usize = 0;
@@ -110,6 +117,14 @@ fn apply(words: &[u32], at: usize, d: u32, x: Entry, m: u32) -> Entry
     }
 }
 
+// a + k * b modulo m, by one remainder.
+fn add_rounds(a: u32, k: usize, b: u32, m: u32) -> u32
+    requires { ⌜ (a < m) × (b < m) × (m ≤ 2147483648) × (k ≤ 4294967296) ⌝ }
+    ensures { λ r. ⌜ (r ≡ (a + k * b) % m) × (r < m) ⌝ }
+{
+    ((up(a) + k * up(b)) % up(m)) as u32
+}
+
 // a + k * b modulo m.
 pub fn add_times(a: u32, k: u32, b: u32, m: u32) -> u32
     requires { ⌜ (a < m) × (b < m) × (m ≤ 2147483648) ⌝ }
@@ -118,34 +133,121 @@ pub fn add_times(a: u32, k: u32, b: u32, m: u32) -> u32
     if k == 1 {
         return add_mod(a, b, m);
     }
-    ((up(a) + up(k) * up(b)) % up(m)) as u32
+    add_rounds(a, up(k), b, m)
 }
 
-// A matrix k times on an entry. A basis index that the matrix fixes stays, and its exponent is a product.
+// A matrix k times on an entry, turn by turn.
+fn steps(words: &[u32], at: usize, d: u32, k: u32, x: Entry, m: u32) -> Entry
+    requires { ⌜ Holds m (now words) at d ⌝ }
+    requires { ⌜ Below m d x ⌝ }
+    ensures { λ r. ⌜ (r ≡ iter (act m (matrixIn (now (words .entry)) at d)) k x) × Below m d r ⌝ }
+{
+    let mut r = x;
+    for i in 0..k {
+        r = apply(words, at, d, r, m);
+    }
+    r
+}
+
+// Turns of an entry, and where they lead.
+struct Lap {
+    turns: u32,
+    to: Entry,
+}
+
+// An entry turned by a matrix until its basis index comes again, but at most `most` times.
+fn lap_from(words: &[u32], at: usize, d: u32, most: u32, x: Entry, m: u32) -> Lap
+    requires { ⌜ Holds m (now words) at d × (0 < most) ⌝ }
+    requires { ⌜ Below m d x ⌝ }
+    ensures { λ r. ⌜ LapOf m (now (words .entry)) at d most x r ⌝ }
+{
+    let mut to = apply(words, at, d, x, m);
+    let mut turns: u32 = 1;
+    while to.row != x.row && turns < most {
+        to = apply(words, at, d, to, m);
+        turns += 1;
+    }
+    Lap {
+        turns: turns,
+        to: to,
+    }
+}
+
+// What a lap that takes exponent a to b adds; back, what it takes off.
+fn gain(back: bool, a: u32, b: u32, m: u32) -> u32
+    requires { ⌜ (a < m) × (b < m) × (m ≤ 2147483648) ⌝ }
+    ensures { λ r. ⌜ (r ≡ gained m back a b) × (r < m) ⌝ }
+{
+    if back {
+        return sub_mod(a, b, m);
+    }
+    sub_mod(b, a, m)
+}
+
+// The k-th power of a matrix on an entry whose basis index comes again after the lap w: whole laps at once, then the turns that
+// are left.
+fn after_laps(words: &[u32], at: usize, d: u32, k: Signed, x: Entry, w: Lap, m: u32) -> Entry
+    requires { ⌜ Holds m (now words) at d ⌝ }
+    requires { ⌜ Below m d x × ClosedLap m (now words) at d x w ⌝ }
+    ensures { λ r. ⌜ (r ≡ act m (signedPower m d (matrixIn (now (words .entry)) at d) (number k)) x) × Below m d r ⌝ }
+{
+    let s = signed::rounds_of(k, w.turns);
+    let e = gain(k.back, x.exp, w.to.exp, m);
+    let y = Entry {
+        row: x.row,
+        exp: add_rounds(x.exp, s.rounds, e, m),
+    };
+    steps(words, at, d, s.rest, y, m)
+}
+
+// The k-th power of the matrix of degree d at line `at`, on an entry.
+fn power_of(words: &[u32], at: usize, d: u32, k: Signed, x: Entry, m: u32) -> Entry
+    requires { ⌜ Holds m (now words) at d ⌝ }
+    requires { ⌜ Below m d x ⌝ }
+    ensures { λ r. ⌜ (r ≡ act m (signedPower m d (matrixIn (now (words .entry)) at d) (number k)) x) × Below m d r ⌝ }
+{
+    if k.back {
+        let w = lap_from(words, at, d, d, x, m);
+        return after_laps(words, at, d, k, x, w, m);
+    }
+    if k.size == 0 {
+        return x;
+    }
+    let w = lap_from(words, at, d, k.size, x, m);
+    if w.turns == k.size {
+        return w.to;
+    }
+    after_laps(words, at, d, k, x, w, m)
+}
+
+// The power with any signed word as its exponent: 0 is the identity, and below zero are the powers of the inverse.
+pub fn power_entry(words: &[u32], at: usize, d: u32, k: i32, x: Entry, m: u32) -> Entry
+    requires { ⌜ Holds m (now words) at d ⌝ }
+    requires { ⌜ Below m d x ⌝ }
+    ensures { λ r. ⌜ (r ≡ act m (signedPower m d (matrixIn (now (words .entry)) at d) k) x) × Below m d r ⌝ }
+{
+    power_of(words, at, d, signed::signed_of(k), x, m)
+}
+
+// A matrix k times on an entry: the power, for an exponent of a word. What the call hands back is made anew of its fields, so
+// that row and exponent come out of both ways in registers.
 fn apply_times(words: &[u32], at: usize, d: u32, k: u32, x: Entry, m: u32) -> Entry
     requires { ⌜ Holds m (now words) at d ⌝ }
     requires { ⌜ Below m d x ⌝ }
     ensures { λ r. ⌜ (r ≡ iter (act m (matrixIn (now (words .entry)) at d)) k x) × Below m d r ⌝ }
 {
-    if k == 0 {
-        return x;
-    }
-    let y = apply(words, at, d, x, m);
     if k == 1 {
-        return y;
+        return apply(words, at, d, x, m);
     }
-    if y.row == x.row {
-        let e = column(words, at, d, x.row, m);
-        return Entry {
-            row: x.row,
-            exp: add_times(x.exp, k, e.exp, m),
-        };
+    let e = Signed {
+        back: false,
+        size: k,
+    };
+    let y = power_of(words, at, d, e, x, m);
+    Entry {
+        row: y.row,
+        exp: y.exp,
     }
-    let mut r = y;
-    for i in 1..k {
-        r = apply(words, at, d, r, m);
-    }
-    r
 }
 
 // The value of the word w on its first n generators, whose matrices of degree d stand one behind the other from line `at`.
@@ -154,13 +256,19 @@ fn walk_word(words: &[u32], at: usize, d: u32, w: &Row, n: usize, x: Entry, m: u
     requires { ⌜ Below m d x ⌝ }
     ensures { λ r. ⌜ (r ≡ walk m (λ (k : ℕ). matrixIn (now (words .entry)) (at + k * d) d) n (toNF n (now (w .entry))) x) × Below m d r ⌝ }
 {
-    let mut r = x;
+    let mut row = x.row;
+    let mut exp = x.exp;
     let mut g = at;
     for k in 0..n {
-        r = apply_times(words, g, d, w[k], r, m);
+        let e = w[k];
+        if e != 0 {
+            let y = apply_times(words, g, d, e, Entry { row: row, exp: exp }, m);
+            row = y.row;
+            exp = y.exp;
+        }
         g += up(d);
     }
-    r
+    Entry { row: row, exp: exp }
 }
 
 // A matrix of degree 1, k times: e is the exponent of the root.
@@ -233,7 +341,11 @@ pub fn moved_times(words: &[u32], d: Listed, g: u32, k: u32, x: Entry, m: u32) -
     requires { ⌜ Stored m (suc g) (now words) d × Below m (d .deg) x ⌝ }
     ensures { λ r. ⌜ (r ≡ iter (act m (generatorIn (now (words .entry)) d g)) k x) × Below m (d .deg) r ⌝ }
 {
-    apply_times(words, matrix_line(d, g), d.deg, k, x, m)
+    let e = Signed {
+        back: false,
+        size: k,
+    };
+    power_of(words, matrix_line(d, g), d.deg, e, x, m)
 }
 
 // The word w on its first n generators on an entry, by exponents alone where the degree is 1.
@@ -269,25 +381,14 @@ pub fn scaled_times(words: &[u32], d: Listed, g: u32, c: u32, k: u32, x: Entry, 
     requires { ⌜ Stored m (suc g) (now words) d × Below m (d .deg) x × (c < m) ⌝ }
     ensures { λ r. ⌜ (r ≡ iter (λ z. plus m c (act m (generatorIn (now (words .entry)) d g) z)) k x) × Below m (d .deg) r ⌝ }
 {
-    if k == 0 {
-        return x;
-    }
-    let y = scaled(words, d, g, c, x, m);
     if k == 1 {
-        return y;
+        return scaled(words, d, g, c, x, m);
     }
-    if y.row == x.row {
-        let e = column(words, matrix_line(d, g), d.deg, x.row, m);
-        return Entry {
-            row: x.row,
-            exp: add_times(x.exp, k, add_mod(e.exp, c, m), m),
-        };
+    let y = moved_times(words, d, g, k, x, m);
+    Entry {
+        row: y.row,
+        exp: add_times(y.exp, k, c, m),
     }
-    let mut r = y;
-    for i in 1..k {
-        r = scaled(words, d, g, c, r, m);
-    }
-    r
 }
 
 // The exponent of column 0 moved through generator j, and then through generator g of e, of the same degree, times the c-th

@@ -1,6 +1,5 @@
 -- What refusal 21 leaves of a representation that is found: its lines hold matrices, and its references are listed.
 --
---   valid-holds       lines of a valid matrix hold it
 --   wellFormed        what 21 asks of each representation
 --   found-stored      so the lines of a representation are stored, where 21 does not apply
 --   found-target      its intertwiners lead to representations of its level
@@ -13,58 +12,20 @@ use native.Mathlib.Nat.{mul-le-mul-right}
 use native.Mathlib.Omega.{arith}
 use lib.Dec.{eqb, ltb, leb}
 use lib.ListN.{length}
-use borrow.Author.Tests.{eqb-true, ltb-true, le-ltb, not-false}
-use Rattle.definitions.specs.declared.Entry.{Entry}
-use Rattle.definitions.specs.Lists.{allBelow, anyBelow, all}
+use borrow.Author.Tests.{ltb-true, le-ltb, not-false}
+use Rattle.definitions.specs.Lists.{allBelow, all}
 use Rattle.definitions.specs.Presentation.{Presentation, lineWords, order}
-use Rattle.definitions.specs.Monomial.{col, valid, Rep, repOf}
+use Rattle.definitions.specs.Monomial.{valid, Rep, repOf}
 use Rattle.definitions.specs.Table.{REF, wordAt, repAt, levelAt, complete}
 use Rattle.definitions.specs.Judgement.{cuts, wholeBlock, matricesValid, blocksWhole, targetsListed, malformed}
 use Rattle.numbers.proofs.Bools.{and-left, and-right}
 use Rattle.numbers.proofs.Lists.{allBelow-elim}
-use Rattle.numbers.proofs.Searches.{anyBelow-elim}
-use Rattle.numbers.proofs.Pigeonhole.{onto-injects}
-use Rattle.monomial.proofs.Frames.{col-table}
 use Rattle.clifford.proofs.Everywhere.{everywhere-elim}
 use Rattle.level.specs.declared.Listed.{Listed}
-use Rattle.level.specs.Stored.{entryIn, matrixIn, Below, Holds, targetIn, Stored}
+use Rattle.level.specs.Stored.{matrixIn, targetIn, Stored}
+use Rattle.level.proofs.Matrices.{valid-holds}
 use Rattle.seek.specs.Seek.{Found}
 use Rattle.seek.proofs.Halves.{lines-there}
-
--- ---- A matrix
-
-module _ (m : ℕ) (small : m ≤ 2147483648) (T : List ℕ) (at d : ℕ) where
-  column : (c : ℕ) → c < d → col (matrixIn T at d) c ≡ entryIn T (at + c)
-  column c l = col-table (λ c. entryIn T (at + c)) d c l
-
-  abbrev ranges : Bool
-  ranges = allBelow d (λ k. ltb (col (matrixIn T at d) k .row) d && ltb (col (matrixIn T at d) k .exp) m)
-
-  abbrev onto : Bool
-  onto = allBelow d (λ r. anyBelow d (λ k. eqb (col (matrixIn T at d) k .row) r))
-
-  pub valid-holds : 8 * (at + d) ≤ length T → valid m d (matrixIn T at d) ≡ true → Holds m T at d
-  unfolding valid
-  valid-holds fits v =
-      let h = and-left (eqb (length (matrixIn T at d)) d && ranges) onto v in
-      let r = allBelow-elim d _ (and-right (eqb (length (matrixIn T at d)) d) ranges h) in
-      let o = allBelow-elim d _ (and-right (eqb (length (matrixIn T at d)) d && ranges) onto v) in
-      let M = matrixIn T at d in
-      record {
-        small = small;
-        fits = fits;
-        valid = λ k l. subst (Below m d) (column k l) (record {
-          row = ltb-true (col M k .row) d (and-left (ltb (col M k .row) d) (ltb (col M k .exp) m) (r k l));
-          exp = ltb-true (col M k .exp) m (and-right (ltb (col M k .row) d) (ltb (col M k .exp) m) (r k l));
-        });
-        distinct = λ k l a b e. onto-injects d (λ k. col (matrixIn T at d) k .row) (hit o) k l a b (row k a ∙ e ∙ sym (row l b));
-      }
-    where
-      row : (k : ℕ) → k < d → col (matrixIn T at d) k .row ≡ entryIn T (at + k) .row
-      row k l = ap (λ (x : Entry). x .row) (column k l)
-
-      hit : ((b : ℕ) → b < d → anyBelow d (λ k. eqb (col (matrixIn T at d) k .row) b) ≡ true) → (b : ℕ) → b < d → (k : ℕ) × (k < d) × (col (matrixIn T at d) k .row ≡ b)
-      hit o b l = let (k, a, e) = anyBelow-elim d (λ k. eqb (col (matrixIn T at d) k .row) b) (o b l) in (k, a, eqb-true _ b e)
 
 -- ---- A representation
 

@@ -1,46 +1,54 @@
--- `walk_word`: after k generators r is what their part of the word makes of x.
+-- `walk_word`: after k generators row and exponent are what their part of the word makes of x.
 use borrow.Author.Needs.{needs}
-use mathlib.Core.Path.{_≡_, sym, ap, ap₂, _∙_}
+use mathlib.Core.Path.{_≡_, sym, ap, ap₂, _∙_, subst}
+use mathlib.Core.Logic.{⊎-elim}
 use Prim.Native.Nat.{ℕ, _≤_, _-_, _+_, _*_}
 use native.Mathlib.Omega.{arith}
 use native.Mathlib.Numerals.{add-one}
 use lib.ListN.{length, getD}
 use denote.Ref.{now}
+use Rattle.definitions.specs.declared.Entry.{Entry}
 use Rattle.definitions.specs.Lists.{iter}
 use Rattle.definitions.specs.Presentation.{toNF}
-use Rattle.definitions.specs.Monomial.{Matrix, act}
+use Rattle.definitions.specs.Monomial.{Matrix, entry, act}
 use Rattle.formulas.specs.Formulas.{walk}
 use Rattle.level.specs.Stored.{matrixIn, Below}
-use Rattle.level.proofs.Columns.{walk-zero, walk-next}
+use Rattle.level.proofs.Columns.{turns-none, walk-zero, walk-next}
 use Rattle.level.proofs.walk_word.Statement.{statement}
 use Rattle.level.proofs.walk_word.Tie as tie
 
 abbrev Inv-loop : tie.InvT-loop
-Inv-loop words at d w n m r₀ g₀ k₀ r g k = (k ≤ n) × (g ≡ at + k * d) × (r ≡ walk m (λ (j : ℕ). matrixIn words (at + j * d) d) k (toNF k w) r₀) × Below m d r
+Inv-loop words at d w n m row₀ exp₀ g₀ k₀ row exp g k =
+    (k ≤ n) × (g ≡ at + k * d) × (entry row exp ≡ walk m (λ (j : ℕ). matrixIn words (at + j * d) d) k (toNF k w) (entry row₀ exp₀)) × Below m d (entry row exp)
 
 abbrev μ-loop : tie.MeasureT-loop
-μ-loop words at d w n m r₀ g₀ k₀ r g k = n - k
+μ-loop words at d w n m row₀ exp₀ g₀ k₀ row exp g k = n - k
+
+-- k turns of y
+abbrev Turn : (m d : ℕ) → (Entry → Entry) → ℕ → Entry → Entry → Type 0
+Turn m d f k y r = (r ≡ iter f k y) × Below m d r
 
 loop-holds : tie.Need-loop-holds Inv-loop μ-loop
 loop-holds c = let z = c .before in
-    (search needs, omega arith, sym (walk-zero (z .args .m) (λ (j : ℕ). matrixIn (now (z .args .words)) (z .args .at + j * z .args .d) (z .args .d)) (now (z .args .w)) (z .args .x)), z .pre .1)
+    let F : ℕ → Matrix = λ j. matrixIn (now (z .args .words)) (z .args .at + j * z .args .d) (z .args .d) in
+    (search needs, omega arith, sym (walk-zero (z .args .m) F (now (z .args .w)) (z .args .x)), z .pre .1)
 
-mul-apply-times : tie.Need-mul-apply-times Inv-loop μ-loop
-mul-apply-times c = search needs
+mul-e : tie.Need-mul-e Inv-loop μ-loop
+mul-e c = search needs
 
-element-copy-out-apply-times : tie.Need-element-copy-out-apply-times Inv-loop μ-loop
-element-copy-out-apply-times c = search needs
+element-copy-out-e : tie.Need-element-copy-out-e Inv-loop μ-loop
+element-copy-out-e c = search needs
 
 apply-times-requires : tie.Need-apply-times-requires Inv-loop μ-loop
-apply-times-requires c κs = let l = c .before .before .loop in
-    (rw (l .inv .1) (c .before .before .before .before .pre .0 .1 (l .k) (search needs)), l .inv .3)
+apply-times-requires c κs = let l = c .before .before .before .loop in
+    (rw (l .inv .1) (c .before .before .before .before .before .pre .0 .1 (l .k) (search needs)), l .inv .3)
 
 up-requires : tie.Need-up-requires Inv-loop μ-loop
 up-requires c κs = search needs
 
 add-g : tie.Need-add-g Inv-loop μ-loop
-add-g c = let z = c .before .before .before .before .before .before in
-    let l = c .before .before .before .before .loop in
+add-g c = let l = c .before .before .before .before .loop in
+    let z = c .before .before .before .before .before .before in
     let f : 8 * (z .args .at + l .k * z .args .d + z .args .d) ≤ length (now (z .args .words)) = z .pre .0 .1 (l .k) (search needs) .fits in
     omega (arith, c .up .ensures, l .inv .1, z .good)
 
@@ -51,16 +59,21 @@ loop-less : tie.Need-loop-less Inv-loop μ-loop
 loop-less c = search needs
 
 loop-again : tie.Need-loop-again Inv-loop μ-loop
-loop-again c = let z = c .before .before .before .before .before .before in
-    let l = c .before .before .before .before .loop in
+loop-again c = let l = c .before .before .before .before .loop in
+    let z = c .before .before .before .before .before .before in
     let W = now (z .args .words) in
-    let F : ℕ → Matrix = λ j. matrixIn W (z .args .at + j * z .args .d) (z .args .d) in (
+    let F : ℕ → Matrix = λ j. matrixIn W (z .args .at + j * z .args .d) (z .args .d) in
+    let f : ℕ → Entry → Entry = λ g. act (z .args .m) (matrixIn W g (z .args .d)) in
+    let e = getD (now (z .args .w)) (l .k) 0 in
+    let y : Entry = entry (l .row) (l .exp) in
+    let on : Turn (z .args .m) (z .args .d) (f (l .g)) e y (entry (c .before .if1 .row) (c .before .if1 .exp)) = ⊎-elim
+    (λ w. subst (Turn (z .args .m) (z .args .d) (f (l .g)) e y) (sym (ap₂ entry (w .2) (w .3))) (w .1 .ensures))
+    (λ w. subst (Turn (z .args .m) (z .args .d) (f (l .g)) e y) (sym (ap₂ entry (w .1) (w .2))) (turns-none (f (l .g)) (w .0 .left), l .inv .3))
+    (c .before .if1 .came) in (
       search needs,
       omega (arith, c .up .ensures, ap (λ (n : ℕ). n * z .args .d) (add-one (l .k))),
-      c .before .apply-times .ensures .0
-          ∙ ap₂ (λ g x. iter (act (z .args .m) (matrixIn W g (z .args .d))) (getD (now (z .args .w)) (l .k) 0) x) (l .inv .1) (l .inv .2)
-          ∙ sym (walk-next (z .args .m) F (now (z .args .w)) (l .k) (z .args .x)),
-      c .before .apply-times .ensures .1,
+      on .0 ∙ ap₂ (λ g x. iter (f g) e x) (l .inv .1) (l .inv .2) ∙ sym (walk-next (z .args .m) F (now (z .args .w)) (l .k) (z .args .x)),
+      on .1,
     )
 
 returns : tie.Need-returns Inv-loop μ-loop
@@ -70,5 +83,4 @@ returns c = let e : c .before .loop .k ≡ c .before .before .before .args .n = 
 pub walk-word-spec : {M : Type 1} → statement M
 walk-word-spec =
     tie.close
-    (tie.spec
-    Inv-loop μ-loop loop-holds mul-apply-times element-copy-out-apply-times apply-times-requires up-requires add-g add-k loop-less loop-again returns)
+    (tie.spec Inv-loop μ-loop loop-holds mul-e element-copy-out-e apply-times-requires up-requires add-g add-k loop-less loop-again returns)
