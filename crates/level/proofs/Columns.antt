@@ -8,9 +8,9 @@
 --   act-in                     a matrix on an entry, from its line
 --   col-scale                  a column of a matrix times a power of the root
 --   iter-next, iter-once       one more turn behind the others; one turn
---   turns-none, turns-one      no turn, and one
+--   turns-none .. turns-all    turns counted as a loop counts them, the first made before it
 --   iter-fixed                 turns that keep the basis index add up their exponents
---   act-fixed                  a matrix that fixes a basis index
+--   act-fixed, plus-fixed      a matrix that fixes a basis index, and the same times a power of the root
 --   walk-zero, walk-next       the clauses of `walk`
 --   walk-ends                  a word that ends early is walked as far as it goes
 --   stored-fewer               fewer generators stand where more do
@@ -19,7 +19,7 @@
 use mathlib.Core.Path.{_≡_, refl, ap, ap₂, sym, _∙_}
 use mathlib.Core.Bool.{cond}
 use Prim.Native.Nat.{ℕ, zero, suc, _+_, _-_, _*_, _/_, _%_, _<_, _≤_}
-use native.Mathlib.Nat.{mod-eq-of-lt, mod-eq-sub-mod, mod-lt, mod-add-mod, mul-le-mul-right, mul-zero, mul-one}
+use native.Mathlib.Nat.{mod-eq-of-lt, mod-eq-sub-mod, mod-lt, mod-add-mod, add-mod-mod, mul-le-mul-right, mul-zero, mul-one}
 use native.Mathlib.Omega.{arith}
 use native.Mathlib.Decide.{decLt}
 use native.Mathlib.Numerals.{add-one}
@@ -33,7 +33,7 @@ use Rattle.definitions.specs.Presentation.{toNF}
 use Rattle.definitions.specs.Monomial.{Matrix, entry, less, col, act, scale}
 use Rattle.numbers.proofs.Lists.{iter-suc, iter-add, iter-zero}
 use Rattle.numbers.proofs.Blocks.{getD-map, getD-table}
-use Rattle.formulas.specs.Formulas.{walk}
+use Rattle.formulas.specs.Formulas.{walk, plus}
 use Rattle.rows.specs.Rows.{Top}
 use Rattle.level.specs.declared.Listed.{Listed}
 use Rattle.level.specs.Stored.{entryIn, matrixIn, lineIn, Stored}
@@ -118,6 +118,15 @@ module _ (f : Entry → Entry) where
   pub turns-one : {x y : Entry} {k : ℕ} → k ≡ 1 → y ≡ f x → y ≡ iter f k x
   turns-one {x} e h = h ∙ sym (ap (λ n. iter f n x) e ∙ iter-once f x)
 
+  -- i turns, of which the first made y, and one more
+  pub turns-more : (y : Entry) {i : ℕ} {r s : Entry} → 1 ≤ i → r ≡ iter f (i - 1) y → s ≡ f r → s ≡ iter f (i + 1 - 1) y
+  turns-more y {i} l e h = let n : i - 1 + 1 ≡ i + 1 - 1 = omega arith in h ∙ ap f e ∙ sym (iter-next f (i - 1) y) ∙ ap (λ n. iter f n y) n
+
+  pub turns-all : {x y : Entry} {i k : ℕ} {r : Entry} → 1 ≤ i → i ≡ k → y ≡ f x → r ≡ iter f (i - 1) y → r ≡ iter f k x
+  turns-all {x} {y} {i} {k} l e h g =
+      let n : suc (i - 1) ≡ k = omega arith in
+      g ∙ ap (iter f (i - 1)) h ∙ sym (iter-suc f (i - 1) x) ∙ ap (λ n. iter f n x) n
+
 pub iter-fixed : (m r e : ℕ) (f : Entry → Entry) → ((t : ℕ) → f (entry r t) ≡ entry r ((t + e) % m)) → (k t : ℕ) → t < m
     → iter f k (entry r t) ≡ entry r ((t + k * e) % m)
 iter-fixed m r e f h zero t l =
@@ -133,6 +142,14 @@ module _ (m : ℕ) (W : List ℕ) (at d r : ℕ) (l : r < d) (fixed : entryIn W 
   act-fixed t =
       let z : entryIn W (at + r) .exp + t ≡ t + entryIn W (at + r) .exp = omega arith in
       act-in m W at d (entry r t) l ∙ ap₂ (λ x y. entry x (y % m)) fixed z
+
+  pub plus-fixed : (c t : ℕ) → plus m c (act m (matrixIn W at d) (entry r t)) ≡ entry r ((t + (entryIn W (at + r) .exp + c) % m) % m)
+  unfolding plus
+  plus-fixed c t =
+      let e = entryIn W (at + r) .exp in
+      let z : t + e + c ≡ t + (e + c) = omega arith in
+      ap (λ (x : Entry). entry (x .row) ((x .exp + c) % m)) (act-fixed t)
+      ∙ ap (entry r) (mod-add-mod (t + e) m c ∙ ap (λ x. x % m) z ∙ sym (add-mod-mod t (e + c) m))
 
 pub walk-zero : (m : ℕ) (M : ℕ → Matrix) (w : List ℕ) (x : Entry) → walk m M 0 (toNF 0 w) x ≡ x
 unfolding walk

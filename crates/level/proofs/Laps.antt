@@ -1,6 +1,5 @@
 -- Powers of a matrix that stands in lines, by laps.
 --
---   scaled-power               powers of a matrix times a power of the root
 --   lapping-once, lapping-more a first turn, and one turn more
 --   closed-early, closed-late  a lap that ends before its last turn is closed, and so is one of as many turns as the degree
 --   laps-power                 laps, and the turns behind them, are a power
@@ -16,8 +15,8 @@ use lib.IntN.{pos}
 use Rattle.definitions.specs.declared.Entry.{Entry}
 use Rattle.definitions.specs.Lists.{iter}
 use Rattle.definitions.specs.Monomial.{Matrix, entry, col, less, act, inverse, signedPower}
-use Rattle.numbers.proofs.Lists.{iter-zero, iter-suc, iter-add, iter-map}
-use Rattle.numbers.proofs.Iterates.{iter-out, iter-iter}
+use Rattle.numbers.proofs.Lists.{iter-suc, iter-add, iter-map}
+use Rattle.numbers.proofs.Iterates.{iter-iter}
 use Rattle.numbers.proofs.Pigeonhole.{injects-returns}
 use Rattle.formulas.specs.Formulas.{plus}
 use Rattle.columns.proofs.Columns.{In, iter-in}
@@ -70,38 +69,13 @@ there-and-back m a b (suc q) l k =
         let y : e + b ≡ b + e = omega arith in
         ap (λ x. x % m) z ∙ sym (add-mod-mod e (a + e′) m) ∙ ap (λ x. (e + x) % m) (less-back m b a k l) ∙ ap (λ x. x % m) y ∙ less-back m a b l k
 
--- ---- Turns, and what is added to exponents
-
-module _ (m : ℕ) (M : Matrix) where
-  -- what is added to an exponent is added behind a turn just as well
-  plus-turn : (c : ℕ) (y : Entry) → plus m c (act m M y) ≡ act m M (plus m c y)
-  unfolding plus act
-  plus-turn c y =
-      let e : ℕ = col M (y .row) .exp in
-      let z : e + y .exp + c ≡ e + (y .exp + c) = omega arith in
-      ap (entry (col M (y .row) .row)) (mod-add-mod (e + y .exp) m c ∙ ap (λ t. t % m) z ∙ sym (add-mod-mod e (y .exp + c) m))
-
-  plus-plus : (a b : ℕ) (y : Entry) → plus m b (plus m a y) ≡ plus m (a + b) y
-  unfolding plus
-  plus-plus a b y = let z : y .exp + a + b ≡ y .exp + (a + b) = omega arith in ap (entry (y .row)) (mod-add-mod (y .exp + a) m b ∙ ap (λ t. t % m) z)
-
-  plus-turns : (c k : ℕ) (x : Entry) → x .exp < m → iter (λ z. plus m c (act m M z)) k x ≡ plus m (k * c) (iter (act m M) k x)
-  unfolding plus
-  plus-turns c zero x l =
-      let z : x .exp + 0 * c ≡ x .exp = omega arith in
-      iter-zero _ x ∙ sym (ap (plus m (0 * c)) (iter-zero (act m M) x) ∙ ap (entry (x .row)) (ap (λ t. t % m) z ∙ mod-eq-of-lt l))
-  plus-turns c (suc k) x l =
-      let g : Entry → Entry = λ z. plus m c (act m M z) in
-      let y : Entry = iter (act m M) k x in
-      let z : k * c + c ≡ suc k * c = omega arith in
-      iter-out g k x ∙ ap g (plus-turns c k x l) ∙ ap (plus m c) (sym (plus-turn (k * c) y)) ∙ plus-plus (k * c) c (act m M y)
-      ∙ ap₂ (plus m) z (sym (iter-out (act m M) k x))
-
-  -- a matrix times a power of the root, k times: the power, and k times what is added
-  pub scaled-power : (c k : ℕ) (x : Entry) {y : Entry} {e : ℕ} → x .exp < m → y ≡ iter (act m M) k x → e ≡ (y .exp + k * c) % m
-      → entry (y .row) e ≡ iter (λ z. plus m c (act m M z)) k x
-  unfolding plus
-  scaled-power c k x {y} l q h = ap (entry (y .row)) h ∙ ap (plus m (k * c)) q ∙ sym (plus-turns c k x l)
+-- what is added to an exponent is added behind a turn just as well
+plus-turn : (m : ℕ) (M : Matrix) (c : ℕ) (y : Entry) → plus m c (act m M y) ≡ act m M (plus m c y)
+unfolding plus act
+plus-turn m M c y =
+    let e : ℕ = col M (y .row) .exp in
+    let z : e + y .exp + c ≡ e + (y .exp + c) = omega arith in
+    ap (entry (col M (y .row) .row)) (mod-add-mod (e + y .exp) m c ∙ ap (λ t. t % m) z ∙ sym (add-mod-mod e (y .exp + c) m))
 
 -- ---- A matrix in lines
 

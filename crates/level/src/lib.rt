@@ -381,14 +381,25 @@ pub fn scaled_times(words: &[u32], d: Listed, g: u32, c: u32, k: u32, x: Entry, 
     requires { ⌜ Stored m (suc g) (now words) d × Below m (d .deg) x × (c < m) ⌝ }
     ensures { λ r. ⌜ (r ≡ iter (λ z. plus m c (act m (generatorIn (now (words .entry)) d g) z)) k x) × Below m (d .deg) r ⌝ }
 {
+    if k == 0 {
+        return x;
+    }
+    let y = scaled(words, d, g, c, x, m);
     if k == 1 {
-        return scaled(words, d, g, c, x, m);
+        return y;
     }
-    let y = moved_times(words, d, g, k, x, m);
-    Entry {
-        row: y.row,
-        exp: add_times(y.exp, k, c, m),
+    if y.row == x.row {
+        let e = column(words, matrix_line(d, g), d.deg, x.row, m);
+        return Entry {
+            row: x.row,
+            exp: add_times(x.exp, k, add_mod(e.exp, c, m), m),
+        };
     }
+    let mut r = y;
+    for i in 1..k {
+        r = scaled(words, d, g, c, r, m);
+    }
+    r
 }
 
 // The exponent of column 0 moved through generator j, and then through generator g of e, of the same degree, times the c-th
