@@ -1,8 +1,9 @@
 -- One column moved through products, powers and words of matrices of one degree.
 --
 --   In d m y                                      a basis index below d, and an exponent below m
---   product-square, power-square, value-square    products of square matrices are square
---   act-in                                        what a square matrix does to such an entry
+--   identity-square, product-square, power-square, value-square    products of square matrices are square
+--   col-product                                   a column of a product
+--   act-in, iter-in                               where square matrices take such an entry
 --   act-product, act-power, act-value             a product moves as its factors do, one after the other
 --   same-matrix                                   two matrices are the same exactly if they move every column alike
 use mathlib.Core.Path.{_≡_, sym, _∙_, ap, ap₂, subst}
@@ -73,7 +74,7 @@ module _ (m : ℕ) (pos : 0 < m) (d : ℕ) where
       (ap (λ (x : Entry). (x .exp + y .exp) % m) e ∙ mod-add-mod (a + b) m (y .exp) ∙ ap (λ z. z % m) (add-assoc a b (y .exp))
       ∙ sym (add-mod-mod a (b + y .exp) m))
 
-  pub act-identity : (y : Entry) → In d m y → act m (identity d) y ≡ y
+  act-identity : (y : Entry) → In d m y → act m (identity d) y ≡ y
   unfolding act identity
   act-identity y l =
       let e = col-table (λ k. entry k 0) d (y .row) (l .row) in

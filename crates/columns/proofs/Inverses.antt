@@ -2,6 +2,7 @@
 --
 --   Monomial m d M                     M is a matrix of degree d: square, exponents below m, different rows
 --   valid-monomial, monomial-valid     the test of the definitions tells just that
+--   monomial-injects                   columns go to different rows
 --   monomial-path                      matrices that move the columns alike are one
 --   identity-monomial, product-monomial, inverse-monomial
 --   inverse-left, inverse-right        an entry moved there and back
@@ -60,12 +61,12 @@ module _ (m d : ℕ) (M : Matrix) where
       hit : ((b : ℕ) → b < d → anyBelow d (λ k. eqb (col M k .row) b) ≡ true) → (b : ℕ) → b < d → (k : ℕ) × (k < d) × (col M k .row ≡ b)
       hit o b l = let (k, a, e) = anyBelow-elim d (λ k. eqb (col M k .row) b) (o b l) in (k, a, eqb-true _ b e)
 
-  rows : Monomial m d M → Injects d d (λ k. col M k .row)
-  rows A = record { below = A .square .inside; injective = A .distinct }
+  pub monomial-injects : Monomial m d M → Injects d d (λ k. col M k .row)
+  monomial-injects A = record { below = A .square .inside; injective = A .distinct }
 
   -- some column has each row
   reached : Monomial m d M → (r : ℕ) → r < d → (k : ℕ) × (k < d) × (col M k .row ≡ r)
-  reached A = injects-onto d (λ k. col M k .row) (rows A)
+  reached A = injects-onto d (λ k. col M k .row) (monomial-injects A)
 
   pub monomial-valid : Monomial m d M → valid m d M ≡ true
   unfolding valid

@@ -20,7 +20,7 @@ use Rattle.numbers.proofs.Iterates.{iter-iter}
 use Rattle.numbers.proofs.Pigeonhole.{injects-returns}
 use Rattle.formulas.specs.Formulas.{plus}
 use Rattle.columns.proofs.Columns.{In, iter-in}
-use Rattle.columns.proofs.Inverses.{Monomial}
+use Rattle.columns.proofs.Inverses.{Monomial, monomial-injects}
 use Rattle.columns.proofs.Powers.{act-forward, act-back, row-turned, turned-back}
 use Rattle.signed.specs.declared.Signed.{Signed}
 use Rattle.signed.specs.declared.Rounds.{Rounds}
@@ -137,7 +137,7 @@ module _ {m : ℕ} {W : List ℕ} {at d : ℕ} (H : Holds m W at d) where
             record {
               lapped = L .lapping .lapped;
               row = ap (λ (y : Entry). y .row) (L .lapping .lapped .leads ∙ ap (λ k. iter (act m M) k x) e) ∙ row-turned m positive d K d x
-                  ∙ injects-returns d (λ r. col M r .row) (record { below = K .square .inside; injective = K .distinct }) (x .row) (X .row)
+                  ∙ injects-returns d (λ r. col M r .row) (monomial-injects m d M K) (x .row) (X .row)
                   (λ k a b q. L .lapping .first k a (omega arith) (row-turned m positive d K k x ∙ q));
             }
 

@@ -5,6 +5,7 @@
 // and a sum over the power are printed: over rows and exponents of its columns, the c-th times the (c mod m)-th power of the root.
 // For what is no matrix of that degree the degree, the modulus and `no matrix` are printed.
 //
+//   exponent                   the exponents of a matrix
 //   print, print_exponent      a number, and a signed one
 //   store_power, power_sum     the columns of a power in words, and the sum over them
 //   print_powers               the lines of a matrix
@@ -24,17 +25,15 @@ const DEGREES: u32 = 128;
 
 const MODULUS: u32 = 2147483648;
 
-const EXPONENTS: [i32; 16] = [
+const EXPONENTS: [i32; 14] = [
     0,
     1,
     -1,
     2,
     -2,
-    5,
-    -6,
     60,
     -61,
-    128,
+    576,
     -144,
     98304,
     -1000000007,
@@ -42,6 +41,19 @@ const EXPONENTS: [i32; 16] = [
     -2147483647,
     -2147483648,
 ];
+
+// These, then the degree and its opposite.
+fn exponent(i: usize, d: u32) -> i32
+    requires { ⌜ (i < 16) × (d ≤ 128) ⌝ }
+{
+    if i == 14 {
+        return d as i32;
+    }
+    if i == 15 {
+        return 0 - (d as i32);
+    }
+    EXPONENTS[i]
+}
 
 fn print(number: u64) {
     io::print_decimal(1, number);
@@ -95,7 +107,7 @@ fn print_powers(words: &[u32], d: u32, m: u32)
 {
     let mut i: usize = 0;
     while i < 16 {
-        let k = EXPONENTS[i];
+        let k = exponent(i, d);
         print(d as u64);
         print(m as u64);
         print_exponent(k);

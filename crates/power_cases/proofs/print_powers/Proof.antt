@@ -5,19 +5,16 @@ use Rattle.power_cases.proofs.print_powers.Statement.{statement}
 use Rattle.power_cases.proofs.print_powers.Tie as tie
 
 abbrev Inv-loop : tie.InvT-loop
-Inv-loop words d m i₀ t6 i = i ≤ 16
+Inv-loop words d m i₀ end i = i ≤ 16
 
 abbrev μ-loop : tie.MeasureT-loop
-μ-loop words d m i₀ t6 i = 16 - i
+μ-loop words d m i₀ end i = 16 - i
 
 loop-holds : tie.Need-loop-holds Inv-loop μ-loop
 loop-holds c = search needs
 
-mul-k : tie.Need-mul-k Inv-loop μ-loop
-mul-k c = search needs
-
-array-copy-out-k : tie.Need-array-copy-out-k Inv-loop μ-loop
-array-copy-out-k c = search needs
+exponent-requires : tie.Need-exponent-requires Inv-loop μ-loop
+exponent-requires c κs = search needs
 
 print-requires : tie.Need-print-requires Inv-loop μ-loop
 print-requires c κs = search needs
@@ -59,5 +56,5 @@ pub print-powers-spec : {M : Type 1} → statement M
 print-powers-spec =
     tie.close
     (tie.spec
-    Inv-loop μ-loop loop-holds mul-k array-copy-out-k print-requires print-requires-2 print-exponent-requires power-sum-requires
+    Inv-loop μ-loop loop-holds exponent-requires print-requires print-requires-2 print-exponent-requires power-sum-requires
     cast-print-decimal print-decimal-requires slice-aggregate-write-all write-all-requires add-i loop-less loop-again returns)

@@ -1,0 +1,2 @@
+-- A law of the exponents.
+pub mod Opposites
