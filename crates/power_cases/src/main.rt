@@ -7,11 +7,12 @@
 //
 //   exponent                   the exponents of a matrix
 //   print, print_exponent      a number, and a signed one
-//   store_power, power_sum     the columns of a power in words, and the sum over them
-//   print_powers               the lines of a matrix
+//   power_column               a column of a power, times a power of the root
+//   store_power, power_sum     all of them in words, and the sum over these
+//   print_powers               the lines of a matrix; print_refused, that of what is none
 //   answer, answer_at          a case, and that at a position
 //   answer_all                 all cases
-ghost use Prim.Native.Nat.{_*_, _≤_, _<_};
+ghost use Prim.Native.Nat.{_≤_, _<_};
 ghost use mathlib.Core.Path.{_≡_};
 ghost use lib.ListN.{length};
 ghost use Rattle.level.specs.Stored.{Holds};
