@@ -1,15 +1,17 @@
 -- Signed words as the machine has them: every signed result is written as bits, and read as a number again.
 --
 --   read z                     a number, written and read
---   upward                     what the casts of a number that is not below zero ask and give
---   downward                   the same for a number below zero, turned round as -(z + 1)
-use mathlib.Core.Path.{_≡_, refl, sym, ap, _∙_, subst}
-use mathlib.Core.Bool.{true, false, true≢false, false≢true}
-use Prim.Native.Nat.{ℕ, zero, suc, _<_}
-use native.Mathlib.Nat.{lt-trans, lt-suc-self}
-use lib.Dec.{T, leb·zero, lit<}
-use lib.IntN.{ℤ, pos, negsuc, sucℤ, _+ℤ_, _-ℤ_, natAbs, +ℤ-idl, +ℤ-one}
-use lib.Signed.{leZ, nonNeg}
+--   SizeOf back z y            y can be cast to an unsigned word, and is then the size of z
+--   upward                     a word that is not below zero is its own size
+--   Flips, downward            a word below zero: one is added, the sum is taken from zero, and that is its size
+use mathlib.Core.Path.{_≡_, refl, sym, _∙_, subst}
+use mathlib.Core.Bool.{Bool, true, false, true≢false, false≢true}
+use Prim.Native.Nat.{ℕ, zero, suc, _≤_, _<_}
+use native.Mathlib.Nat.{lt-of-le-of-lt}
+use native.Mathlib.Omega.{arith}
+use lib.Dec.{T, leb·zero}
+use lib.IntN.{ℤ, pos, negsuc, sucℤ, _+ℤ_, _-ℤ_, negℤ, natAbs, +ℤ-idl, +ℤ-one, -ℤ-one, negℤ-+ℤ}
+use lib.Signed.{leZ, nonNeg, mag}
 use mir.Syntax.{w32}
 use mir.Val.{Fits, SFits, toZ, ofZ}
 use mir.ValLaws.{toZ-ofZ}
@@ -18,58 +20,51 @@ use Rattle.signed.specs.Signs.{signed}
 abbrev pub read : ℤ → ℤ
 read z = toZ w32 (ofZ w32 z)
 
--- y can be cast to an unsigned word
-abbrev pub Unsigned : ℤ → Type 0
-Unsigned y = T (nonNeg y) × Fits w32 (natAbs y)
+-- what holds of a number that fits holds of it as it is read
+kept : (P : ℤ → Type 0) (z : ℤ) → SFits w32 z → P z → P (read z)
+kept P z F = subst P (sym (toZ-ofZ w32 z F))
 
-word-fits : {a : ℕ} → a < 2147483648 → Fits w32 a
-word-fits h = record { fits = lt-trans h (lit< tt) }
+pub record SizeOf (back : Bool) (z y : ℤ) : Type 0 where
+  pub unsigned : T (nonNeg y) × Fits w32 (natAbs y)
+  pub is : z ≡ signed back (natAbs y)
+
+size-of : (back : Bool) (a : ℕ) → a < 2147483648 → SizeOf back (signed back a) (pos a)
+size-of back a h = record { unsigned = (tt, record { fits = omega arith }); is = refl }
 
 -- ---- Not below zero
 
-abbrev pub Upward : ℤ → Type 0
-Upward z = Unsigned (read z) × (z ≡ signed false (natAbs (read z)))
-
-pub upward : (z : ℤ) → SFits w32 z → leZ (pos 0) (read z) ≡ true → Upward z
-upward (pos a) F t =
-    subst (λ (y : ℤ). Unsigned y × (pos a ≡ signed false (natAbs y))) (sym (toZ-ofZ w32 (pos a) F)) ((tt, word-fits (F .sfits)), refl)
-upward (negsuc a) F t = absurd (false≢true (subst (λ (y : ℤ). leZ (pos 0) y ≡ true) (toZ-ofZ w32 (negsuc a) F) t))
+pub upward : (z : ℤ) → SFits w32 z → leZ (pos 0) (read z) ≡ true → SizeOf false z (read z)
+upward (pos a) F t = kept (SizeOf false (pos a)) (pos a) F (size-of false a (F .sfits))
+upward (negsuc a) F t = absurd (false≢true (kept (λ y. leZ (pos 0) y ≡ true → false ≡ true) (negsuc a) F (λ e. e) t))
 
 -- ---- Below zero
 
-abbrev pub next : ℤ → ℤ
-next z = read z +ℤ pos 1
+-- from a sum u that is read: what is taken from zero fits, and is the size of z
+abbrev Last : ℤ → ℤ → Type 0
+Last z u = SFits w32 (pos 0 -ℤ u) × SizeOf true z (read (pos 0 -ℤ u))
 
-abbrev pub turned : ℤ → ℤ
-turned z = pos 0 -ℤ read (next z)
+-- from a word y that is read: one can be added, and so on
+abbrev pub Flips : ℤ → ℤ → Type 0
+Flips z y = SFits w32 (y +ℤ pos 1) × SFits w32 (pos 0 -ℤ read (y +ℤ pos 1)) × SizeOf true z (read (pos 0 -ℤ read (y +ℤ pos 1)))
 
-pub record Downward (z : ℤ) : Type 0 where
-  pub next-fits : SFits w32 (next z)
-  pub turned-fits : SFits w32 (turned z)
-  pub unsigned : Unsigned (read (turned z))
-  pub is : z ≡ signed true (natAbs (read (turned z)))
+next-small : (a : ℕ) → mag (negsuc a +ℤ pos 1) ≤ a
+next-small a = subst (λ z. mag z ≤ a) (sym (+ℤ-one (negsuc a))) (go a)
+  where
+    go : (a : ℕ) → mag (sucℤ (negsuc a)) ≤ a
+    go zero = omega arith
+    go (suc a) = omega arith
 
--- -(a + 1) + 1 fits where -(a + 1) does, and is -a
-suc-fits : (a : ℕ) → a < 2147483648 → SFits w32 (sucℤ (negsuc a))
-suc-fits zero h = record { sfits = h }
-suc-fits (suc a) h = record { sfits = lt-trans (lt-suc-self a) h }
+-- 0 - (-(a + 1) + 1) = a + 1 - 1
+flipped : (a : ℕ) → pos 0 -ℤ (negsuc a +ℤ pos 1) ≡ pos a
+flipped a = +ℤ-idl (negℤ (negsuc a +ℤ pos 1)) ∙ negℤ-+ℤ (negsuc a) (pos 1) ∙ -ℤ-one (pos (suc a))
 
-opposite : (a : ℕ) → pos 0 -ℤ sucℤ (negsuc a) ≡ pos a
-opposite zero = refl
-opposite (suc a) = +ℤ-idl (pos (suc a))
-
-pub downward : (z : ℤ) → SFits w32 z → leZ (pos 0) (read z) ≡ false → Downward z
-downward (pos a) F t = absurd (true≢false (sym (leb·zero a) ∙ subst (λ (y : ℤ). leZ (pos 0) y ≡ false) (toZ-ofZ w32 (pos a) F) t))
+pub downward : (z : ℤ) → SFits w32 z → leZ (pos 0) (read z) ≡ false → Flips z (read z)
+downward (pos a) F t = absurd (true≢false (sym (leb·zero a) ∙ kept (λ y. leZ (pos 0) y ≡ false → leZ (pos 0) (pos a) ≡ false) (pos a) F (λ e. e) t))
 downward (negsuc a) F t =
-    let z = negsuc a in
-    let fits : SFits w32 (pos a) = record { sfits = F .sfits } in
-    let n : next z ≡ sucℤ z = ap (λ (y : ℤ). y +ℤ pos 1) (toZ-ofZ w32 z F) ∙ +ℤ-one z in
-    let r : read (next z) ≡ sucℤ z = ap read n ∙ toZ-ofZ w32 (sucℤ z) (suc-fits a (F .sfits)) in
-    let t : turned z ≡ pos a = ap (λ (y : ℤ). pos 0 -ℤ y) r ∙ opposite a in
-    let s : read (turned z) ≡ pos a = ap read t ∙ toZ-ofZ w32 (pos a) fits in
-    record {
-      next-fits = subst (λ (y : ℤ). SFits w32 y) (sym n) (suc-fits a (F .sfits));
-      turned-fits = subst (λ (y : ℤ). SFits w32 y) (sym t) fits;
-      unsigned = subst Unsigned (sym s) (tt, word-fits (F .sfits));
-      is = subst (λ (y : ℤ). z ≡ signed true (natAbs y)) (sym s) refl;
-    }
+    let z : ℤ = negsuc a in
+    let sum : SFits w32 (z +ℤ pos 1) = record { sfits = lt-of-le-of-lt (next-small a) (F .sfits) } in
+    let word : SFits w32 (pos a) = record { sfits = F .sfits } in
+    let last : Last z (z +ℤ pos 1) =
+    subst (λ v. SFits w32 v × SizeOf true z (read v)) (sym (flipped a)) (word, kept (SizeOf true z) (pos a) word (size-of true a (F .sfits))) in
+    let (difference, size) = kept (Last z) (z +ℤ pos 1) sum last in
+    kept (Flips z) z F (sum, difference, size)
