@@ -37,7 +37,7 @@ enum chieftables_refusal {
     CHIEFTABLES_DONE = 0,               /* none applies */
     CHIEFTABLES_PRESENTATION_FORM = 11, /* the presentation text is not in the form */
     CHIEFTABLES_NOT_PRIME = 12,         /* the p of a line with i = j is not prime */
-    CHIEFTABLES_TOO_LARGE = 13,         /* more than 12 generators, or order above 4,096 */
+    CHIEFTABLES_TOO_LARGE = 13,         /* more than 14 generators, or order above 16,384 */
     CHIEFTABLES_WORD = 14,              /* an exponent not below its prime, a generator not allowed there, or a p that is to be 0 */
     CHIEFTABLES_INCONSISTENT = 15,      /* the relations make two normal forms equal */
     CHIEFTABLES_SHORT = 16,             /* the buffer is shorter than the call wants */

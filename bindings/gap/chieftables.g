@@ -29,7 +29,7 @@ fi;
 CHIEFTABLES.sentences := [];
 CHIEFTABLES.sentences[11] := "the presentation text is not in the form";
 CHIEFTABLES.sentences[12] := "the p of a line with i = j is not prime";
-CHIEFTABLES.sentences[13] := "there are more than 12 generators, or the order is above 4,096";
+CHIEFTABLES.sentences[13] := "there are more than 14 generators, or the order is above 16,384";
 CHIEFTABLES.sentences[14] := "a word has an exponent that is not below its prime, or a generator that it may not have";
 CHIEFTABLES.sentences[15] := "the presentation is not consistent: two of its normal forms are equal";
 CHIEFTABLES.sentences[16] := "the buffer is shorter than the call wants";

@@ -34,7 +34,7 @@ _WIDEST = 80
 SENTENCES = {
     11: "the presentation text is not in the form",
     12: "the p of a line with i = j is not prime",
-    13: "there are more than 12 generators, or the order is above 4,096",
+    13: "there are more than 14 generators, or the order is above 16,384",
     14: "an exponent is not below its prime, a word has a generator that it may not have, or a p is not 0 where i < j",
     15: "the presentation is not consistent: two of its normal forms are equal",
     16: "the buffer is shorter than the call wants",

@@ -67,7 +67,7 @@ class Calls(unittest.TestCase):
 
         self.refused(11, accept, "")
         self.refused(12, measure, "j i p e1\n1 1 4 0\n")
-        self.refused(13, accept, "j i p e1\n1 1 4099 0\n")
+        self.refused(13, accept, "j i p e1\n1 1 16411 0\n")
         self.refused(14, build, "j i p e1\n1 1 3 1\n")
         self.refused(15, build, S3.replace("0 1 0", "0 2 0"))
         self.refused(20, read_table, "1 0 1 1 0 0 0 0\n")

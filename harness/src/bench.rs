@@ -115,11 +115,11 @@ fn dense(k: usize) -> Relations {
     groups.min_by_key(lines).expect("there are sixteen")
 }
 
-/// All calls on groups of order 2^k, from 64 to 4,096: the cyclic ones, and ones of dense words.
+/// All calls on groups of order 2^k, from 64 to 16,384: the cyclic ones, and ones of dense words.
 pub fn growth() {
     for (name, group) in [("cyclic", cyclic as fn(usize) -> _), ("dense", dense)] {
         println!("\n| {name}, order {HEAD}\n{RULE}");
-        for k in 6..=12 {
+        for k in 6..=14 {
             line(&commas(1 << k), &group(k).text());
         }
     }

@@ -83,13 +83,13 @@ fn random_primes(random: &mut Random, bound: usize) -> Vec<u32> {
     let mut order = 1;
     let favourite = *random.pick(&[2u32, 2, 2, 3, 5]);
     if random.once_in(4) {
-        let large = *random.pick(&[5u32, 7, 11, 13, 17, 19, 31, 43, 61, 127, 241, 457, 1021, 2039]);
+        let large = *random.pick(&[5u32, 7, 11, 13, 17, 19, 31, 43, 61, 127, 241, 457, 1021, 2039, 4099, 8191]);
         if large as usize * 2 <= bound {
             primes.push(large);
             order = large as usize;
         }
     }
-    while primes.len() < 12 {
+    while primes.len() < 14 {
         let p = if random.once_in(4) { *random.pick(&PRIMES[..4]) } else { favourite };
         if order * p as usize > bound || (!primes.is_empty() && random.once_in(16)) {
             break;

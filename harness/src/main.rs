@@ -14,7 +14,7 @@
 //!     harness sums LINES..             so many lines copied with a sum of two exponents each, made by a comparison and by arithmetic
 //!                                      alone: the time of a line, and the quotient
 //!     harness bench FILE..             all calls on each text, nanoseconds a word
-//!     harness growth                   the same on groups of order 64 to 4,096
+//!     harness growth                   the same on groups of order 64 to 16,384
 //!     harness groups FOLDER COUNT ORDER [SEED]    so many presentation texts of at most that order, taken at random, in a folder
 //!     harness draw FILE                the character graph of a presentation text, as SVG
 //!

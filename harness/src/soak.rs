@@ -267,7 +267,7 @@ impl Soak {
                 }
                 let start = *random.pick(&values);
                 let end = start + text[start..].iter().take_while(|byte| byte.is_ascii_digit()).count();
-                let value = *random.pick(&[0usize, 1, 2, 3, 4, 5, 7, 9, 11, 13, 61, 4093, 4099, 999_999_999, 1_000_000_000]);
+                let value = *random.pick(&[0usize, 1, 2, 3, 4, 5, 7, 9, 11, 13, 61, 4093, 4099, 16381, 16411, 999_999_999, 1_000_000_000]);
                 changed.splice(start..end, value.to_string().into_bytes());
             }
         }
@@ -380,6 +380,7 @@ impl Soak {
 
     fn round(&mut self) {
         let bound = match self.random.below(40) {
+            0 if self.random.once_in(8) => 16384,
             0 => 4096,
             1..=2 => 512,
             3..=5 => 128,

@@ -55,7 +55,7 @@ impl Refusal {
         match self {
             Refusal::PresentationForm => "the presentation text is not in the form",
             Refusal::NotPrime => "the p of a line with i = j is not prime",
-            Refusal::TooLarge => "there are more than 12 generators, or the order is above 4,096",
+            Refusal::TooLarge => "there are more than 14 generators, or the order is above 16,384",
             Refusal::Word => "an exponent is not below its prime, a word has a generator that it may not have, or a p is not 0 where i < j",
             Refusal::Inconsistent => "the presentation is not consistent: two of its normal forms are equal",
             Refusal::Short => "the buffer is shorter than the call wants",

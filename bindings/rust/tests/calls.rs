@@ -57,7 +57,7 @@ fn refusals_have_numbers_and_sentences() {
     let of = |text: &[u8]| accept(text).unwrap_err().number();
     assert_eq!(of(b""), 11);
     assert_eq!(of(b"j i p e1\n1 1 4 0\n"), 12);
-    assert_eq!(of(b"j i p e1\n1 1 4099 0\n"), 13);
+    assert_eq!(of(b"j i p e1\n1 1 16411 0\n"), 13);
     assert_eq!(of(b"j i p e1\n1 1 3 1\n"), 14);
     assert_eq!(build(b"j i p e1 e2\n1 1 3 0 0\n2 2 2 0 0\n2 1 0 2 0\n"), Err(Refusal::Inconsistent));
     assert_eq!(read_table(b"1 0 1 1 0 0 0 0\n"), Err(Refusal::TableForm));

@@ -99,11 +99,11 @@ pub fn write_sevens(words: &[u32], room: u32, text: &[u8]) -> Comparison
     }
 }
 
-// Checks the first of 8,192 words whose digits stand in bytes.
+// Checks the first of 16,384 words whose digits stand in bytes.
 pub fn check_parsed(text: &[u8], digits: &[u8], have: u32) -> u32
-    ensures { λ r. ⌜ Check (now (text .entry)) (take have (parsed (now (digits .entry)) (replicate 8192 0))) r ⌝ }
+    ensures { λ r. ⌜ Check (now (text .entry)) (take have (parsed (now (digits .entry)) (replicate 16384 0))) r ⌝ }
 {
-    let mut words = [0u32; 8192];
+    let mut words = [0u32; 16384];
     case_input::parse(digits, &mut words);
     let n = case_input::words_lent(have, &words);
     chieftables::check::check(text, &words[..n])

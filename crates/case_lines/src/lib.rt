@@ -4,12 +4,12 @@
 //   accept        the text is a presentation, and is answered
 //   measure       the text is a presentation, and is measured
 //   commutative   the text is a presentation, and is asked for its yes or no
-//   build W       its table is built into the first W of 786,240 words, which no build exceeds
+//   build W       its table is built into the first W of 786,240 words, as many as twelve generators of prime 2 want
 //   read W B      the text is a table, and is read into the first W of 512 words; if it is in the form, its lines are
 //                 written back into the first B of 4,096 bytes
 //   write W B     the text is at most 512 words, each with a space or a line's end behind it; the first W of them are
 //                 written into the first B of 4,096 bytes
-//   check W       the text is a presentation, a vertical tab, and at most 8,192 words as above; the first W of them are checked
+//   check W       the text is a presentation, a vertical tab, and at most 16,384 words as above; the first W of them are checked
 //
 // For each call its answer is printed, of one that measures its count, of one that is asked for a yes or no 1 or 0, and of one that
 // fills a buffer its count and a sum over the whole buffer, what is not lent too; words and bytes are sevens before the call. Behind

@@ -1,7 +1,7 @@
 // Runs the cases of the standard input through the public calls, a line for each (`case_lines`).
 
 // Bytes of the standard input, at most.
-const INPUT: usize = 524288;
+const INPUT: usize = 1048576;
 
 fn answer_all(input: &[u8]) {
     let mut at: usize = 0;

@@ -1,28 +1,30 @@
 -- Exponents by marks.
 --
---   allowed-none, allowed-more     no multiple, and one more
---   allowed-as, takes-as   the same by another name
+--   allowed-none, allowed-more     no multiple, and one more; blank-room: the numbers of a modulus are among those that are not marked
+--   allowed-own, allowed-as, takes-as   the same by another name
 --   takes-free             an exponent that is marked is taken
 --   SlotsTaken                 the exponents of the first r representations are taken, and differ
 --   taking-none, taking-more     at the start, and one representation more
 --   product-positive, multiple-small, multiple-power     a factor is positive; a multiple is below the modulus, and p times it is 0
-use mathlib.Core.Path.{_≡_, sym, _∙_, ap, subst}
+use mathlib.Core.Path.{_≡_, refl, sym, _∙_, ap, subst}
 use mathlib.Core.List.{List}
-use Prim.Native.Nat.{ℕ, zero, suc, _+_, _*_, _%_, _<_}
+use Prim.Native.Nat.{ℕ, zero, suc, _+_, _*_, _%_, _≤_, _<_}
 use native.Mathlib.Nat.{mul-lt-mul-of-pos-right, mul-mod-right}
 use native.Mathlib.Decide.{decLt, ℕ-discrete}
 use native.Mathlib.Omega.{arith}
 use lib.ListN.{length, getD, set, replicate, length-set, length-replicate}
 use lib.Seq.{getD-set-same, getD-set-other}
-use Rattle.definitions.specs.Presentation.{maxOrder}
 use Rattle.numbers.proofs.Lists.{blank}
 use Rattle.check_first.specs.First.{exponentOf, Allowed, Takes}
 
-pub allowed-none : (part : ℕ) → Allowed 0 part (replicate maxOrder 0)
-allowed-none part = record { size = length-replicate {A = ℕ} maxOrder 0; only = λ e n. absurd (n (blank maxOrder e)) }
+pub allowed-none : (k part : ℕ) → Allowed (length {A = ℕ} (replicate k 0)) 0 part (replicate k 0)
+allowed-none k part = record { size = refl; only = λ e n. absurd (n (blank k e)) }
 
-pub allowed-more : {k part : ℕ} {M : List ℕ} (e : ℕ) → e ≡ k * part → Allowed k part M → Allowed (k + 1) part (set M e 1)
-allowed-more {k} {part} {M} e is A = record { size = length-set M e 1 ∙ A .size; only = λ f n. go f n (ℕ-discrete f e) }
+pub blank-room : (k m : ℕ) → m ≤ k → m ≤ length {A = ℕ} (replicate k 0)
+blank-room k m l = omega (arith, length-replicate {A = ℕ} k 0)
+
+pub allowed-more : {s k part : ℕ} {M : List ℕ} (e : ℕ) → e ≡ k * part → Allowed s k part M → Allowed s (k + 1) part (set M e 1)
+allowed-more {s} {k} {part} {M} e is A = record { size = length-set M e 1 ∙ A .size; only = λ f n. go f n (ℕ-discrete f e) }
   where
     go : (f : ℕ) → ¬ (getD (set M e 1) f 0 ≡ 0) → Dec (f ≡ e) → (q : ℕ) × (q < k + 1) × (f ≡ q * part)
     go f n (yes z) = (k, omega arith, z ∙ is)
@@ -30,8 +32,11 @@ allowed-more {k} {part} {M} e is A = record { size = length-set M e 1 ∙ A .siz
         let (q, l, h) = A .only f (λ o. n (getD-set-other M e f 1 0 z ∙ o)) in
         (q, omega arith, h)
 
-pub allowed-as : {p k k′ : ℕ} {M : List ℕ} → k ≡ k′ → Allowed p k M → Allowed p k′ M
-allowed-as {p} {k} {k′} {M} e A = subst (λ k. Allowed p k M) e A
+pub allowed-own : {k p part : ℕ} {M : List ℕ} → Allowed k p part M → Allowed (length M) p part M
+allowed-own A = record { size = refl; only = A .only }
+
+pub allowed-as : {s p k k′ : ℕ} {M : List ℕ} → k ≡ k′ → Allowed s p k M → Allowed s p k′ M
+allowed-as {s} {p} {k} {k′} {M} e A = subst (λ k. Allowed s p k M) e A
 
 pub takes-as : {e e′ : ℕ} {M N : List ℕ} → e ≡ e′ → Takes e M N → Takes e′ M N
 takes-as {e} {e′} {M} {N} q t = subst (λ e. Takes e M N) q t
@@ -61,13 +66,13 @@ multiple-power p part m k e =
 
 -- ---- The exponents of representations
 
-pub record SlotsTaken (n : ℕ) (T : List ℕ) (p part r : ℕ) (M : List ℕ) : Type 0 where
-  pub allowed : Allowed p part M
+pub record SlotsTaken (s n : ℕ) (T : List ℕ) (p part r : ℕ) (M : List ℕ) : Type 0 where
+  pub allowed : Allowed s p part M
   pub taken : (q : ℕ) → q < r → getD M (exponentOf n T q) 0 ≡ 0
   pub multiple : (q : ℕ) → q < r → (k : ℕ) × (k < p) × (exponentOf n T q ≡ k * part)
   pub apart : (q q′ : ℕ) → q < r → q′ < r → ¬ (q ≡ q′) → ¬ (exponentOf n T q ≡ exponentOf n T q′)
 
-pub taking-none : {n : ℕ} {T : List ℕ} {p part : ℕ} {M : List ℕ} → Allowed p part M → SlotsTaken n T p part 0 M
+pub taking-none : {s n : ℕ} {T : List ℕ} {p part : ℕ} {M : List ℕ} → Allowed s p part M → SlotsTaken s n T p part 0 M
 taking-none A = record {
   allowed = A;
   taken = λ q l. absurd (omega arith);
@@ -75,7 +80,7 @@ taking-none A = record {
   apart = λ q q′ l. absurd (omega arith);
 }
 
-module _ {n : ℕ} {T : List ℕ} {p part r : ℕ} {M N : List ℕ} (H : SlotsTaken n T p part r M) (t : Takes (exponentOf n T r) M N) where
+module _ {s n : ℕ} {T : List ℕ} {p part r : ℕ} {M N : List ℕ} (H : SlotsTaken s n T p part r M) (t : Takes (exponentOf n T r) M N) where
   abbrev e : ℕ
   e = exponentOf n T r
 
@@ -92,7 +97,7 @@ module _ {n : ℕ} {T : List ℕ} {p part r : ℕ} {M N : List ℕ} (H : SlotsTa
   here : (k : ℕ) × (k < p) × (exponentOf n T r ≡ k * part)
   here = H .allowed .only e (λ z. omega (arith, z, t .free))
 
-  pub taking-more : SlotsTaken n T p part (r + 1) N
+  pub taking-more : SlotsTaken s n T p part (r + 1) N
   taking-more = record {
     allowed = record { size = t .size ∙ H .allowed .size; only = λ f n. H .allowed .only f (λ z. n (stays f z)) };
     taken = λ q l. gone q l (decLt q r);

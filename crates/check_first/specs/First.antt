@@ -2,7 +2,7 @@
 --
 --   wordOn rows j                  the exponent of generator 0 in the word of generators 0 and j
 --   exponentOf n T r               the exponent of generator 0 in representation r
---   Allowed p part M               only the first p multiples of part are marked
+--   Allowed k p part M             of k numbers only the first p multiples of part are marked
 --   Takes e M N                    e is marked in M; in N it is not, and the other marks stay
 --   LineOne T at r g               line `at` is of generator g of representation r of level 1, of degree 1
 --   LedTo T at n p a e m           line `at` leads to one of p representations, in which generator 0 has a times the exponent e
@@ -35,9 +35,9 @@ exponentOf n T r = wordAt T (r * n) EXP
 
 -- ---- Marks
 
-pub record Allowed (p part : ℕ) (M : List ℕ) : Type 0 where
-  pub size : length M ≡ maxOrder
-  pub only : (e : ℕ) → ¬ (getD M e 0 ≡ 0) → (k : ℕ) × (k < p) × (e ≡ k * part)
+pub record Allowed (k p part : ℕ) (M : List ℕ) : Type 0 where
+  pub size : length M ≡ k
+  pub only : (e : ℕ) → ¬ (getD M e 0 ≡ 0) → (q : ℕ) × (q < p) × (e ≡ q * part)
 
 pub record Takes (e : ℕ) (M N : List ℕ) : Type 0 where
   pub inside : e < length M
@@ -87,7 +87,7 @@ pub record CharacterPlaced (s : Scope) (T : List ℕ) (p r : ℕ) : Type 0 where
 pub record SlotsMarked (s : Scope) (T : List ℕ) (p : ℕ) (M : List ℕ) : Type 0 where
   pub part : ℕ
   pub parted : Parted s T p part
-  pub allowed : Allowed p part M
+  pub allowed : Allowed (length M) p part M
 
 pub record RootImages (s : Scope) (T : List ℕ) (rows : List (List ℕ)) (p r : ℕ) : Type 0 where
   pub each : (j : ℕ) → 0 < j → j < s .gens → RootImage s T rows p r j

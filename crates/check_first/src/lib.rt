@@ -1,12 +1,14 @@
 // Level 1 of a table in one pass: as many representations of degree 1 as the prime of generator 0 says, which differ in the exponent
 // of that generator. A test here is answered one way: where it says true, what it asks holds.
 //
-//   ORDER, TAKEN, FREE           the largest order, and the marks of an exponent
+//   TAKEN, FREE                  the marks of an exponent
 //   set_first, set_free, mark, take     the exponents that the power relation of generator 0 allows, and one of them
 //   line_is                      a line of a representation of degree 1 on level 1
 //   conjugate, led_to            a generator above generator 0
 //   images_ok                    all of them
-//   character, all_characters, characters     a representation, and all of level 1
+//   character, all_characters       a representation, and all of level 1 with marks that are lent
+//   small_characters, middle_characters, large_characters, marked_characters     with as many marks as the modulus wants
+//   characters                   all of level 1
 //   level_one                    the heads of the table, and level 1
 ghost use mathlib.Core.Path.{_≡_};
 ghost use mathlib.Core.Bool.{true};
@@ -17,11 +19,9 @@ ghost use Rattle.check_heads.specs.Places.{Scoped};
 ghost use Rattle.check_first.specs.First.{wordOn, exponentOf, Allowed, Takes, LineOne, LedTo};
 ghost use Rattle.check_first.specs.First.{Parted, CharacterPlaced, SlotsMarked, RootImages, TakesCharacter, Characters, FirstLevel};
 use conditions::size::Orders;
+use rows::ORDER;
 use rows::Rows;
 use seek::Scope;
-
-// No order is larger.
-const ORDER: usize = 4096;
 
 // The marks of an exponent: no representation may have it, or none has it yet.
 const TAKEN: u8 = 0;
@@ -32,8 +32,8 @@ const FREE: u8 = 1;
 
 // Marks the first p numbers.
 fn set_first(free: &mut [u8], p: usize)
-    requires { ⌜ Allowed 0 1 (now free) × (p ≤ maxOrder) ⌝ }
-    ensures { λ _. ⌜ Allowed p 1 (now (free .exit)) ⌝ }
+    requires { ⌜ Allowed (length (now free)) 0 1 (now free) × (p ≤ length (now free)) ⌝ }
+    ensures { λ _. ⌜ Allowed (length (now (free .entry))) p 1 (now (free .exit)) ⌝ }
 {
     for e in 0..p {
         free[e] = FREE;
@@ -42,8 +42,8 @@ fn set_first(free: &mut [u8], p: usize)
 
 // Marks the first p multiples of a number.
 fn set_free(free: &mut [u8], p: usize, part: usize)
-    requires { ⌜ Allowed 0 part (now free) × (0 < part) × (p * part ≤ maxOrder) ⌝ }
-    ensures { λ _. ⌜ Allowed p part (now (free .exit)) ⌝ }
+    requires { ⌜ Allowed (length (now free)) 0 part (now free) × (0 < part) × (p * part ≤ length (now free)) ⌝ }
+    ensures { λ _. ⌜ Allowed (length (now (free .entry))) p part (now (free .exit)) ⌝ }
 {
     let mut e: usize = 0;
     for k in 0..p {
@@ -54,8 +54,8 @@ fn set_free(free: &mut [u8], p: usize, part: usize)
 
 // Marks the first p multiples of a number; where that number is 1 they are marked at once.
 fn mark(free: &mut [u8], p: usize, part: usize)
-    requires { ⌜ Allowed 0 part (now free) × (0 < part) × (p * part ≤ maxOrder) ⌝ }
-    ensures { λ _. ⌜ Allowed p part (now (free .exit)) ⌝ }
+    requires { ⌜ Allowed (length (now free)) 0 part (now free) × (0 < part) × (p * part ≤ length (now free)) ⌝ }
+    ensures { λ _. ⌜ Allowed (length (now (free .entry))) p part (now (free .exit)) ⌝ }
 {
     if part == 1 {
         set_first(free, p);
@@ -174,19 +174,66 @@ fn character(words: &[u32], rows: &Rows, s: Scope, p: usize, k: usize, free: &mu
     images_ok(words, rows, s, p, k, e)
 }
 
-// The first p representations are right, with exponents modulo m = p * part.
-fn all_characters(words: &[u32], rows: &Rows, s: Scope, p: usize, part: usize) -> bool
-    requires { ⌜ Parted s (now words) p part ⌝ }
+// The first p representations are right, with exponents modulo m = p * part, where no number is marked.
+fn all_characters(
+    words: &[u32],
+    rows: &Rows,
+    s: Scope,
+    p: usize,
+    part: usize,
+    free: &mut [u8],
+) -> bool
+    requires { ⌜ Parted s (now words) p part × Allowed (length (now free)) 0 part (now free) × (s .m ≤ length (now free)) ⌝ }
     ensures { λ r. ⌜ (r ≡ true → Characters s (now (words .entry)) (now (rows .entry)) p) ⌝ }
 {
-    let mut free = [TAKEN; ORDER];
-    mark(&mut free, p, part);
+    mark(free, p, part);
     for k in 0..p {
-        if !character(words, rows, s, p, k, &mut free) {
+        if !character(words, rows, s, p, k, free) {
             return false;
         }
     }
     true
+}
+
+// The first p representations are right, with marks for moduli up to 64.
+fn small_characters(words: &[u32], rows: &Rows, s: Scope, p: usize, part: usize) -> bool
+    requires { ⌜ Parted s (now words) p part × (s .m ≤ 64) ⌝ }
+    ensures { λ r. ⌜ (r ≡ true → Characters s (now (words .entry)) (now (rows .entry)) p) ⌝ }
+{
+    let mut free = [TAKEN; 64];
+    all_characters(words, rows, s, p, part, &mut free)
+}
+
+// The first p representations are right, with marks for moduli up to 4,096.
+fn middle_characters(words: &[u32], rows: &Rows, s: Scope, p: usize, part: usize) -> bool
+    requires { ⌜ Parted s (now words) p part × (s .m ≤ 4096) ⌝ }
+    ensures { λ r. ⌜ (r ≡ true → Characters s (now (words .entry)) (now (rows .entry)) p) ⌝ }
+{
+    let mut free = [TAKEN; 4096];
+    all_characters(words, rows, s, p, part, &mut free)
+}
+
+// The first p representations are right, with marks for every modulus.
+fn large_characters(words: &[u32], rows: &Rows, s: Scope, p: usize, part: usize) -> bool
+    requires { ⌜ Parted s (now words) p part ⌝ }
+    ensures { λ r. ⌜ (r ≡ true → Characters s (now (words .entry)) (now (rows .entry)) p) ⌝ }
+{
+    let mut free = [TAKEN; ORDER];
+    all_characters(words, rows, s, p, part, &mut free)
+}
+
+// The first p representations are right, with as many marks as the modulus wants.
+fn marked_characters(words: &[u32], rows: &Rows, s: Scope, p: usize, part: usize) -> bool
+    requires { ⌜ Parted s (now words) p part ⌝ }
+    ensures { λ r. ⌜ (r ≡ true → Characters s (now (words .entry)) (now (rows .entry)) p) ⌝ }
+{
+    if s.m <= 64 {
+        return small_characters(words, rows, s, p, part);
+    }
+    if s.m <= 4096 {
+        return middle_characters(words, rows, s, p, part);
+    }
+    large_characters(words, rows, s, p, part)
 }
 
 // The first p representations are those of a right level 1, where p is the prime of generator 0.
@@ -208,7 +255,7 @@ fn characters(words: &[u32], rows: &Rows, s: Scope, p: u32) -> bool
     if many * check_lines::wide(s.gens) > s.lines {
         return false;
     }
-    all_characters(words, rows, s, many, part)
+    marked_characters(words, rows, s, many, part)
 }
 
 // The table is complete with possible degrees, and its level 1 is right, where p is the prime of generator 0.

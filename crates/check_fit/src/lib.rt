@@ -3,7 +3,8 @@
 //
 //   upper_levels_fit                     the levels above the first
 //   character_lines                      the first lines of level 1, in a list
-//   levels_fit, small_fits, large_fits   all levels, with a list as long as they want
+//   levels_fit                           all levels, with a list that is lent
+//   small_fits, middle_fits, large_fits, listed_fits     with a list as long as the order wants
 //   fitting_levels                       a table
 ghost use mathlib.Core.Path.{_≡_};
 ghost use Prim.Native.Nat.{_*_, _≤_, _<_};
@@ -14,6 +15,7 @@ ghost use Rattle.check_heads.specs.Places.{Scoped};
 ghost use Rattle.check_fit.specs.Fit.{CharacterLines, Started, LevelOne, FitUpTo, FittingLevels};
 use compare::Stage;
 use conditions::size::Orders;
+use rows::ORDER;
 use rows::Row;
 use rows::Rows;
 use seek::Scope;
@@ -105,13 +107,36 @@ fn small_fits(words: &[u32], rows: &Rows, primes: &Row, orders: &Orders, s: Scop
     levels_fit(words, rows, primes, orders, s, &mut firsts)
 }
 
-// How many of the first levels fit, with a list for 8192 representations.
-fn large_fits(words: &[u32], rows: &Rows, primes: &Row, orders: &Orders, s: Scope) -> u32
+// How many of the first levels fit, with a list for 8,192 representations, which suffice for orders up to 4,096.
+fn middle_fits(words: &[u32], rows: &Rows, primes: &Row, orders: &Orders, s: Scope) -> u32
     requires { ⌜ Started s (now words) (now rows) (now primes) (now orders) ⌝ }
     ensures { λ k. ⌜ FitUpTo s (now (words .entry)) (now (rows .entry)) (now (primes .entry)) (now (orders .entry)) k ⌝ }
 {
     let mut firsts = [0u32; 8192];
     levels_fit(words, rows, primes, orders, s, &mut firsts)
+}
+
+// How many of the first levels fit, with a list that suffices for every order.
+fn large_fits(words: &[u32], rows: &Rows, primes: &Row, orders: &Orders, s: Scope) -> u32
+    requires { ⌜ Started s (now words) (now rows) (now primes) (now orders) ⌝ }
+    ensures { λ k. ⌜ FitUpTo s (now (words .entry)) (now (rows .entry)) (now (primes .entry)) (now (orders .entry)) k ⌝ }
+{
+    let mut firsts = [0u32; 2 * ORDER];
+    levels_fit(words, rows, primes, orders, s, &mut firsts)
+}
+
+// How many of the first levels fit, with as long a list as the order wants.
+fn listed_fits(words: &[u32], rows: &Rows, primes: &Row, orders: &Orders, s: Scope) -> u32
+    requires { ⌜ Started s (now words) (now rows) (now primes) (now orders) ⌝ }
+    ensures { λ k. ⌜ FitUpTo s (now (words .entry)) (now (rows .entry)) (now (primes .entry)) (now (orders .entry)) k ⌝ }
+{
+    if s.m <= 64 {
+        return small_fits(words, rows, primes, orders, s);
+    }
+    if s.m <= 4096 {
+        return middle_fits(words, rows, primes, orders, s);
+    }
+    large_fits(words, rows, primes, orders, s)
 }
 
 // How many of the first levels of a table fit, each on the level below, with exponents modulo the order: these levels pass, and
@@ -133,8 +158,5 @@ pub fn fitting_levels(words: &[u32], rows: &Rows, primes: &Row, orders: &Orders,
     if s.gens == 1 {
         return 1;
     }
-    if s.m <= 64 {
-        return small_fits(words, rows, primes, orders, s);
-    }
-    large_fits(words, rows, primes, orders, s)
+    listed_fits(words, rows, primes, orders, s)
 }

@@ -15,10 +15,10 @@ ghost use Rattle.seek.specs.Seek.{Whole};
 ghost use Rattle.compare.specs.Staged.{maxLines, Staged};
 ghost use Rattle.check_level.specs.Lines.{FirstLines, RunAsked, Ran};
 ghost use Rattle.check_level.specs.Level.{Compares, Relates, LevelFits};
-use claims::SLOTS;
 use commuting::Reaches;
 use compare::Stage;
 use level::Listed;
+use rows::ORDER;
 use rows::Rows;
 use seek::Scope;
 
@@ -140,13 +140,23 @@ fn small_compares(words: &[u32], firsts: &[u32], rows: &Rows, s: Scope, g: Stage
     level_compares(words, firsts, rows, s, g, &mut marks, &mut slots)
 }
 
+// Compares the level with marks for 4,096 representations and slots, which suffice for orders up to 4,096.
+fn middle_compares(words: &[u32], firsts: &[u32], rows: &Rows, s: Scope, g: Stage) -> bool
+    requires { ⌜ Staged s (now words) (now firsts) g ⌝ }
+    ensures { λ r. ⌜ (r ≡ true → Compares s (now (words .entry)) (now (rows .entry)) g) ⌝ }
+{
+    let mut marks = [0u8; 4096];
+    let mut slots = [0u8; 4096];
+    level_compares(words, firsts, rows, s, g, &mut marks, &mut slots)
+}
+
 // Compares the level with marks for all representations and slots that a level may have.
 fn large_compares(words: &[u32], firsts: &[u32], rows: &Rows, s: Scope, g: Stage) -> bool
     requires { ⌜ Staged s (now words) (now firsts) g ⌝ }
     ensures { λ r. ⌜ (r ≡ true → Compares s (now (words .entry)) (now (rows .entry)) g) ⌝ }
 {
-    let mut marks = [0u8; SLOTS];
-    let mut slots = [0u8; SLOTS];
+    let mut marks = [0u8; ORDER];
+    let mut slots = [0u8; ORDER];
     level_compares(words, firsts, rows, s, g, &mut marks, &mut slots)
 }
 
@@ -157,6 +167,9 @@ fn compares(words: &[u32], firsts: &[u32], rows: &Rows, s: Scope, g: Stage) -> b
 {
     if s.m <= 64 {
         return small_compares(words, firsts, rows, s, g);
+    }
+    if s.m <= 4096 {
+        return middle_compares(words, firsts, rows, s, g);
     }
     large_compares(words, firsts, rows, s, g)
 }

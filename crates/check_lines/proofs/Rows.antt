@@ -16,13 +16,14 @@ use lib.Seq.{getD-set-same, getD-set-other}
 use borrow.Author.Count.{below-more}
 use borrow.Author.Tests.{eqb-true, eq-eqb}
 use Rattle.definitions.specs.Lists.{allBelow}
+use Rattle.definitions.specs.Presentation.{maxDegree}
 use Rattle.definitions.specs.Monomial.{valid}
 use Rattle.numbers.proofs.Bools.{same-test, refuted}
 use Rattle.numbers.proofs.Lists.{blank, allBelow-intro, allBelow-elim}
 use Rattle.numbers.proofs.Searches.{anyBelow-intro, anyBelow-elim}
 use Rattle.numbers.proofs.Pigeonhole.{Injects, injects-onto, onto-injects}
 use Rattle.level.specs.Stored.{entryIn, matrixIn}
-use Rattle.check_lines.specs.Lines.{maxDegree, entryOk, RowsBelow, hasRow}
+use Rattle.check_lines.specs.Lines.{entryOk, RowsBelow, hasRow}
 use Rattle.check_lines.proofs.Lines.{entries-below, matrix-entries, matrix-rows}
 
 module _ (T : List ℕ) (at : ℕ) where

@@ -3,7 +3,6 @@
 --   TwoWords T at k r           r is words k and k + 1 of line `at` as one number
 --   refIn T D g c          what column c of generator g refers to
 --   entryOk m d x          a row below d, and an exponent below m
---   maxDegree              up to which degree rows are marked
 --   RowsBelow T at d       the d lines from line `at` on have rows below d
 --   hasRow T at d r        one of the d lines from line `at` on has row r
 --   refsAre T at k x       the k lines from line `at` on refer to x
@@ -29,9 +28,6 @@ refIn T D g c = wordAt T (lineIn D g + c) REF
 
 abbrev pub entryOk : ℕ → ℕ → Entry → Bool
 entryOk m d x = ltb (x .row) d && ltb (x .exp) m
-
-abbrev pub maxDegree : ℕ
-maxDegree = 64
 
 abbrev pub RowsBelow : List ℕ → (at d : ℕ) → Type 0
 RowsBelow T at d = (c : ℕ) → c < d → entryIn T (at + c) .row < d

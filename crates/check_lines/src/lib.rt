@@ -1,7 +1,7 @@
 // What refusal 21 asks of the lines of one representation, without a look at another: its matrices are matrices, the
 // generators of its level have the same references, and each intertwiner has one reference, to a listed representation.
 //
-//   DEGREES, HIGH            up to which degree rows are marked, and what a second word is multiplied by
+//   HIGH                     what a second word is multiplied by
 //   wide, two_at             two words of a line as one number
 //   entry_ok, entries_ok     rows and exponents in range
 //   has_row, rows_found      every row is there
@@ -15,13 +15,12 @@ ghost use Prim.Native.Nat.{ℕ, _+_, _*_, _≤_, _<_};
 ghost use lib.Dec.{ltb};
 ghost use lib.ListN.{length};
 ghost use Rattle.definitions.specs.Lists.{allBelow};
+ghost use Rattle.definitions.specs.Presentation.{maxDegree};
 ghost use Rattle.definitions.specs.Monomial.{valid};
 ghost use Rattle.level.specs.Stored.{entryIn, matrixIn, lineIn, generatorIn};
-ghost use Rattle.check_lines.specs.Lines.{TwoWords, maxDegree, entryOk, hasRow, refsAre, refsAs, targetOk};
+ghost use Rattle.check_lines.specs.Lines.{TwoWords, entryOk, hasRow, refsAre, refsAs, targetOk};
 use level::Listed;
-
-// No degree is above it whose square is at most the largest order.
-const DEGREES: usize = 64;
+use rows::DEGREES;
 
 // One more than the largest word.
 pub const HIGH: usize = 4294967296;

@@ -2,7 +2,7 @@
 // representation claims a slot of it, told by its exponent of the generator on top, and any other claims what it refers to
 // whole. One pass over the level, with a mark for each representation of the level below and one for each slot.
 //
-//   SLOTS, FREE, SHARED, TAKEN      how many slots, and the marks
+//   FREE, SHARED, TAKEN             the marks
 //   one_reference                   whether all columns have one reference
 //   take, take_all                  what is claimed whole
 //   slot, share                     a slot
@@ -16,10 +16,8 @@ ghost use Rattle.seek.specs.Seek.{Whole, HasLines};
 ghost use Rattle.seek.specs.Among.{repIn};
 ghost use Rattle.claims.specs.Claims.{oneReference, Took, TookAll, Shares, ClaimedIn, FirstClash};
 use level::Listed;
+use rows::ORDER;
 use seek::Scope;
-
-// No level of a group of at most so many elements has more slots.
-pub const SLOTS: usize = 4096;
 
 // The marks of a representation of the level below, and of a slot: claimed by none, by slots, or whole.
 const FREE: u8 = 0;
@@ -144,8 +142,8 @@ pub fn first_clash(words: &[u32], s: Scope, i: u32, p: u32) -> usize
     }
     let reps = seek::count_of(words, s, i + 1);
     let mut d = seek::found(words, s, i + 1, 0);
-    let mut marks = [FREE; SLOTS];
-    let mut slots = [FREE; SLOTS];
+    let mut marks = [FREE; ORDER];
+    let mut slots = [FREE; ORDER];
     let mut r: usize = 0;
     loop {
         if !claim(words, i, p, part, d, &mut marks, &mut slots) {

@@ -44,7 +44,7 @@ pub fn order_fits(primes: &Row, n: usize) -> bool
     let mut j: usize = 0;
     while j < n {
         order = order * wide(primes[j]);
-        if ORDER < order {
+        if (ORDER as u64) < order {
             return false;
         }
         j += 1;

@@ -109,7 +109,8 @@ groups =
     ∷ judged S3 (table S3) 0
     ∷ judged S3 (change 12 7 1 (change 13 7 5 (table S3))) 0
     ∷ reads (relations (4 ∷ []) []) "j i p e1\n1 1 4 0\n" 12
-    ∷ reads (relations (4099 ∷ []) []) "j i p e1\n1 1 4099 0\n" 13
+    ∷ reads (relations (4099 ∷ []) []) "j i p e1\n1 1 4099 0\n" 0
+    ∷ reads (relations (16411 ∷ []) []) "j i p e1\n1 1 16411 0\n" 13
     ∷ reads (relations (3 ∷ []) ((1, 1, 1 ∷ []) ∷ [])) "j i p e1\n1 1 3 1\n" 14
     ∷ reads (S3-with 2) "j i p e1 e2\n1 1 3 0 0\n2 2 2 0 0\n2 1 0 2 0\n" 15
     ∷ prints 15 "answer\n15\n"
@@ -157,8 +158,10 @@ unfoldable pub presentations : List Star
 presentations =
     wants S3 144
     ∷ answers (relations (1 ∷ []) []) 12
-    ∷ answers (relations (2 ∷ 2 ∷ 2 ∷ 2 ∷ 2 ∷ 2 ∷ 2 ∷ 2 ∷ 2 ∷ 2 ∷ 2 ∷ 2 ∷ []) []) 0
-    ∷ answers (relations (67 ∷ 67 ∷ []) []) 13
+    ∷ answers (relations (2 ∷ 2 ∷ 2 ∷ 2 ∷ 2 ∷ 2 ∷ 2 ∷ 2 ∷ 2 ∷ 2 ∷ 2 ∷ 2 ∷ 2 ∷ 2 ∷ []) []) 0
+    ∷ answers (relations (2 ∷ 2 ∷ 2 ∷ 2 ∷ 2 ∷ 2 ∷ 2 ∷ 2 ∷ 2 ∷ 2 ∷ 2 ∷ 2 ∷ 2 ∷ 2 ∷ 2 ∷ []) []) 13
+    ∷ answers (relations (127 ∷ 127 ∷ []) []) 0
+    ∷ answers (relations (131 ∷ 131 ∷ []) []) 13
     ∷ answers (S3-line (row 2 (1 ∷ 0 ∷ []))) 14
     ∷ answers (S3-with 3) 14
     ∷ answers (S3-line (row 0 (0 ∷ 1 ∷ []))) 14

@@ -2,7 +2,8 @@
 -- ("Presentation text" and "Ceilings" in the specification). Generators are numbered from 0: generator k here is
 -- the g(k+1) of a text, and level i has the generators below i.
 --
---   maxGenerators, maxOrder    the ceilings; pairCount, the pairs of so many generators; maxModulus, of the exponents
+--   maxGenerators, maxOrder    the ceilings; pairCount, the pairs of so many generators; maxModulus, of the exponents; maxDegree, of
+--                              degrees
 --   lineWords                  words of a table line
 --   NF i, toNF i row           normal forms of level i; the one that a row of exponents says
 --   Presentation               primes, power words, commutator words
@@ -26,18 +27,22 @@ use Rattle.definitions.specs.Text.{Bytes, largest, decimal, render, smal
 -- ---- Ceilings
 
 abbrev pub maxGenerators : ℕ
-maxGenerators = 12
+maxGenerators = 14
 
 abbrev pub maxOrder : ℕ
-maxOrder = 4096
+maxOrder = 16384
 
 -- the pairs (j, i) of so many generators, i at most j
 abbrev pub pairCount : ℕ
-pairCount = 78
+pairCount = 105
 
 -- exponents are modulo the order, so no modulus is above its ceiling
 abbrev pub maxModulus : ℕ
 maxModulus = maxOrder
+
+-- no degree is above it whose square is at most the order
+abbrev pub maxDegree : ℕ
+maxDegree = 128
 
 unfoldable pub lineWords : ℕ
 lineWords = 8

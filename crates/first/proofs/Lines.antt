@@ -4,11 +4,11 @@
 --   rootLine-length, rootWords-length, firstWords-length     eight words for each line
 --   root-room                  there is room for a power where there is room for all
 --   word-read                  an exponent that was read from a word
---   product-fits               a product of numbers that are at most 4,096 and 16,384
+--   product-fits               a product of numbers up to the order and up to the modulus
 use mathlib.Core.Path.{_≡_, refl, ap, _∙_}
 use mathlib.Core.List.{List, [], _∷_}
 use Prim.Native.Nat.{ℕ, _+_, _*_, _≤_, _<_}
-use native.Mathlib.Nat.{mul-le-mul-left}
+use native.Mathlib.Nat.{mul-le-mul}
 use native.Mathlib.Numerals.{add-one}
 use native.Mathlib.Omega.{arith}
 use lib.ListN.{length, getD}
@@ -46,5 +46,5 @@ module _ (n p m : ℕ) (rows : List (List ℕ)) where
 pub word-read : (rows : List (List ℕ)) (w : List ℕ) (j g : ℕ) → w ≡ getD rows (pairNumber j 0) [] → j ≡ g → getD w 0 0 ≡ getD (getD rows (pairNumber g 0) []) 0 0
 word-read rows w j g a b = ap (λ x. getD x 0 0) (a ∙ ap (λ i. getD rows (pairNumber i 0) []) b)
 
-pub product-fits : (a b : ℕ) → a ≤ maxOrder → b ≤ maxModulus → a * b ≤ 67108864
-product-fits a b h l = let x : a * b ≤ a * maxModulus = mul-le-mul-left a l in omega (arith, x)
+pub product-fits : (a b : ℕ) → a ≤ maxOrder → b ≤ maxModulus → a * b ≤ maxOrder * maxModulus
+product-fits a b h l = mul-le-mul {n₁ = a} {m₁ = b} {n₂ = maxOrder} {m₂ = maxModulus} h l

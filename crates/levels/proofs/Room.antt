@@ -8,11 +8,11 @@
 --   lines-small                under the ceilings they are few
 use mathlib.Core.Path.{_≡_, sym, _∙_, ap, subst}
 use Prim.Native.Nat.{ℕ, zero, suc, _+_, _*_, _-_, _/_, _≤_, _<_}
-use native.Mathlib.Nat.{mul-le-mul-left, mul-le-mul-right, mul-div-right}
+use native.Mathlib.Nat.{mul-le-mul, mul-le-mul-left, mul-le-mul-right, mul-div-right}
 use native.Mathlib.Omega.{arith}
 use lib.ListN.{length}
 use Rattle.definitions.specs.Lists.{sum}
-use Rattle.definitions.specs.Presentation.{maxOrder, Presentation, order, buildWords, lineWords}
+use Rattle.definitions.specs.Presentation.{maxGenerators, maxOrder, Presentation, order, buildWords, lineWords}
 use Rattle.definitions.specs.Monomial.{Level}
 use Rattle.definitions.specs.Table.{lineCount}
 use Rattle.definitions.specs.Steps.{levels, tableOf}
@@ -129,15 +129,14 @@ module _ (A : Accepted) where
 
   -- ---- Under the ceilings
 
-  pub lines-small : WithinCeilings A → (k : ℕ) → k ≤ A .C .P .n → linesTo A k ≤ 589824
+  pub lines-small : WithinCeilings A → (k : ℕ) → k ≤ A .C .P .n → linesTo A k ≤ maxGenerators * (maxGenerators * maxOrder)
   lines-small S k l =
       let few = S .few in
       let low = S .low in
       let a = lines-le k l in
       let b : sum k (λ i. order P (suc i)) ≤ k * maxOrder = subst (λ x. sum k (λ i. order P (suc i)) ≤ x) (sum-const k maxOrder) (sum-le k (λ i. order P (suc i)) (λ i. maxOrder) (λ i h. below i h)) in
-      let c : sum k (λ i. order P (suc i)) ≤ 49152 = omega arith in
-      let e : n * sum k (λ i. order P (suc i)) ≤ n * 49152 = mul-le-mul-left n c in
-      omega arith
+      let c : sum k (λ i. order P (suc i)) ≤ maxGenerators * maxOrder = omega (arith, mul-le-mul-right {m = k} {n = maxGenerators} maxOrder (omega arith)) in
+      omega (arith, mul-le-mul {n₁ = n} {m₁ = sum k (λ i. order P (suc i))} {n₂ = maxGenerators} {m₂ = maxGenerators * maxOrder} few c)
     where
       below : (i : ℕ) → i < k → order P (suc i) ≤ maxOrder
       below i h = let z = order-le (suc i) (omega arith) in omega (arith, S .low)

@@ -26,7 +26,7 @@ use rows::Rows;
 use survey::Frame;
 
 // The numbers of a row of blocks.
-const BLOCK: usize = 2;
+pub const BLOCK: usize = 2;
 
 // The representation of a block.
 pub const MEMBER: usize = 0;

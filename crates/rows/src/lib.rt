@@ -2,7 +2,7 @@
 // is done with rows of exponents. A normal form of level i is a row of which the first i exponents count, that of the
 // lowest generator first. Generators are numbered from 0.
 //
-//   GENERATORS, PAIRS, ORDER     the ceilings on generators and on the order, and the pairs of so many generators
+//   GENERATORS, PAIRS, ORDER, DEGREES     the ceilings on generators, on the order and on degrees, and the pairs of so many generators
 //   Row, Rows                    an exponent, or a prime, for each generator; a row for each pair
 //   wide                         a number as one of 64 bits
 //   pair                         the number of a pair
@@ -19,12 +19,14 @@ ghost use Rattle.definitions.specs.Presentation.{maxGenerators, pairCount, toNF
 ghost use Rattle.definitions.specs.Consistency.{sameForm};
 ghost use Rattle.rows.specs.Rows.{Generator, Top, Stacked, Mixed};
 
-// These equal maxGenerators, pairCount and maxOrder of the definitions.
-pub const GENERATORS: usize = 12;
+// These equal maxGenerators, pairCount, maxOrder and maxDegree of the definitions.
+pub const GENERATORS: usize = 14;
 
-pub const PAIRS: usize = 78;
+pub const PAIRS: usize = 105;
 
-pub const ORDER: u64 = 4096;
+pub const ORDER: usize = 16384;
+
+pub const DEGREES: usize = 128;
 
 // An exponent, or a prime, for each generator.
 pub type Row = [u32; GENERATORS];

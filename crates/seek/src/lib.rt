@@ -2,7 +2,7 @@
 // grows with it: the lines stand in order, so a search by halves finds a representation.
 //
 //   Scope            what a table is read with
-//   LARGEST, FURTHEST     how far a guess goes
+//   FURTHEST         how far a guess goes
 //   find             the first line of a representation, by halves
 //   stride, onward, guess            where it would be if all between had one degree
 //   ends_at, find_near, found_near   a representation whose line a guess may tell
@@ -21,10 +21,9 @@ ghost use Rattle.definitions.specs.Table.{REP, wordAt, lineCount, levelAt, firs
 ghost use Rattle.heads.specs.Order.{before, Split, Splits};
 ghost use Rattle.seek.specs.Seek.{Whole, Found, Follows, NextOf};
 use level::Listed;
+use rows::ORDER;
 
-// No degree of a right table is above the one, and no two numbers of representations are further apart than the other.
-const LARGEST: usize = 4096;
-
+// No two numbers of representations are further apart.
 const FURTHEST: usize = 4294967295;
 
 // How many lines there are, how many generators, and the modulus of the exponents.
@@ -72,7 +71,7 @@ fn stride(gens: u32, deg: u32) -> usize
     requires { ⌜ gens ≤ maxGenerators ⌝ }
     ensures { λ x. ⌜ x ≤ maxGenerators * maxOrder ⌝ }
 {
-    if level::up(deg) > LARGEST {
+    if level::up(deg) > ORDER {
         return 0;
     }
     level::up(gens) * level::up(deg)

@@ -10,7 +10,7 @@
 --   moved-many, moved-prime    an orbit that moves has p members, so that p is no more than there are representations, and small
 --   reps-half                  representations are few
 use mathlib.Core.Path.{_≡_, refl, ap, sym, _∙_, subst}
-use Prim.Native.Nat.{ℕ, _+_, _*_, _<_, _≤_}
+use Prim.Native.Nat.{ℕ, suc, _+_, _*_, _<_, _≤_}
 use native.Mathlib.Numerals.{add-one}
 use native.Mathlib.Omega.{arith}
 use native.Mathlib.Nat.{mul-le-mul-left, mul-le-mul-right}
@@ -18,7 +18,7 @@ use native.Mathlib.Decide.{decLt}
 use mathlib.Core.List.{List}
 use lib.ListN.{length}
 use Rattle.definitions.specs.Lists.{iter}
-use Rattle.definitions.specs.Presentation.{maxOrder}
+use Rattle.definitions.specs.Presentation.{maxOrder, maxDegree}
 use Rattle.numbers.proofs.Pigeonhole.{injects-le}
 use Rattle.numbers.proofs.Orbits.{Orbits, iter-below, moved-distinct}
 use Rattle.level.specs.declared.Listed.{Listed}
@@ -71,13 +71,13 @@ module _ (f : Frame) (W : List ℕ) where
     reps-half = let a : 2 * f .reps ≤ f .p * f .reps = mul-le-mul-right (f .reps) (S .prime .0) in omega (arith, S .few)
 
     -- the square of the prime of an orbit that moves is at most the order
-    pub moved-prime : f .p ≤ f .reps → f .p ≤ 64
-    moved-prime l = go (decLt 64 (f .p))
+    pub moved-prime : f .p ≤ f .reps → f .p ≤ maxDegree
+    moved-prime l = go (decLt maxDegree (f .p))
       where
-        go : Dec (64 < f .p) → f .p ≤ 64
+        go : Dec (maxDegree < f .p) → f .p ≤ maxDegree
         go (yes h) =
             let a : f .p * f .p ≤ f .p * f .reps = mul-le-mul-left (f .p) l in
-            let b : f .p * 65 ≤ f .p * f .p = mul-le-mul-left (f .p) h in
+            let b : f .p * suc maxDegree ≤ f .p * f .p = mul-le-mul-left (f .p) h in
             absurd (omega (arith, S .few))
         go (no h) = omega arith
 

@@ -26,7 +26,7 @@ use level::Listed;
 use rows::Row;
 
 // The numbers of a row of notes.
-const NOTE: usize = 5;
+pub const NOTE: usize = 5;
 
 // Its first line.
 pub const FIRST: usize = 0;

@@ -64,7 +64,7 @@ fn form(relations: &Relations, words: &[u32]) -> Option<Vec<Vec<Rep>>> {
 fn rep(relations: &Relations, i: usize, lines: &[&[u32]]) -> Option<Rep> {
     let (n, m) = (relations.n(), relations.order() as u32);
     let degree = lines[0][2] as usize;
-    let small = (1..=64).contains(&degree) && degree * degree <= relations.orders()[i];
+    let small = (1..=128).contains(&degree) && degree * degree <= relations.orders()[i];
     if !small || lines.len() != n * degree || lines.iter().any(|l| l[2] as usize != degree) {
         return None;
     }

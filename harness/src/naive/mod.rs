@@ -77,7 +77,7 @@ pub fn accept(text: &[u8]) -> Result<Relations, u32> {
         return Err(12);
     }
     let order = (0..n).fold(1u64, |order, j| order.saturating_mul(u64::from(lines.p[j][j])));
-    if n > 12 || order > 4096 {
+    if n > 14 || order > 16384 {
         return Err(13);
     }
     let primes: Vec<u32> = (0..n).map(|j| lines.p[j][j]).collect();

@@ -6,41 +6,38 @@ use mathlib.Core.Path.{_∙_, ap}
 use mathlib.Core.Bool.{false≢true}
 use Prim.Native.Nat.{ℕ, _*_, _-_, _%_, _<_}
 use native.Mathlib.Omega.{arith}
+use lib.ListN.{length}
 use denote.Ref.{now}
 use Rattle.check_first.specs.First.{Character}
-use Rattle.check_first.proofs.Marks.{SlotsTaken, allowed-none, taking-none, taking-more, multiple-small, multiple-power}
+use Rattle.check_first.proofs.Marks.{SlotsTaken, allowed-own, taking-none, taking-more, multiple-small, multiple-power}
 use Rattle.check_first.proofs.all_characters.Statement.{statement}
 use Rattle.check_first.proofs.all_characters.Tie as tie
 
 abbrev Inv-loop : tie.InvT-loop
-Inv-loop words rows s p part free₀ k₀ free k = SlotsTaken (s .gens) words p part k free × ((q : ℕ) → q < k → Character s words rows p q)
+Inv-loop words rows s p part free₀ k₀ free k = SlotsTaken (length free₀) (s .gens) words p part k free × ((q : ℕ) → q < k → Character s words rows p q)
 
 abbrev μ-loop : tie.MeasureT-loop
 μ-loop words rows s p part free₀ k₀ free k = p - k
 
-slice-aggregate-mark : tie.Need-slice-aggregate-mark Inv-loop μ-loop
-slice-aggregate-mark c = search needs
-
 mark-requires : tie.Need-mark-requires Inv-loop μ-loop
 mark-requires c κs =
-    let z = c .before .before in
-    (allowed-none (z .args .part), z .pre .positive, omega (arith, z .pre .product, z .pre .small))
+    let z = c .before .before .before in
+    let P = z .pre .0 in
+    (z .pre .1, P .positive, omega (arith, P .product, z .pre .2))
 
 loop-holds : tie.Need-loop-holds Inv-loop μ-loop
 loop-holds c =
-    let at-mark = c .before in
-    (taking-none (at-mark .mark .ensures), λ q l. absurd (omega arith))
-
-slice-aggregate-character : tie.Need-slice-aggregate-character Inv-loop μ-loop
-slice-aggregate-character c =
-    let at-loop = c .before .before in
-    omega (arith, at-loop .loop .inv .0 .allowed .size)
+    let at-mark = c .before .before in
+    (taking-none (allowed-own (at-mark .mark .ensures)), λ q l. absurd (omega arith))
 
 character-requires : tie.Need-character-requires Inv-loop μ-loop
 character-requires c κs =
     let at-loop = c .before .before in
-    let z = at-loop .before .before .before .before .before in
-    (record { part = z .args .part; parted = z .pre; allowed = at-loop .loop .inv .0 .allowed }, omega arith)
+    let z = at-loop .before .before .before .before .before .before .before in
+    (record { part = z .args .part; parted = z .pre .0; allowed = allowed-own (at-loop .loop .inv .0 .allowed) }, omega arith)
+
+same-length : tie.Need-same-length Inv-loop μ-loop
+same-length c = search needs
 
 returns : tie.Need-returns Inv-loop μ-loop
 returns c = λ x. absurd (false≢true x)
@@ -53,22 +50,28 @@ loop-less c = omega arith
 
 loop-again : tie.Need-loop-again Inv-loop μ-loop
 loop-again c =
-    let at-character = c .before .before in
+    let at-character = c .before .before .before in
     let at-loop = at-character .before .before .before in
-    let z = at-loop .before .before .before .before .before in
+    let z = at-loop .before .before .before .before .before .before .before in
     let a = z .args in
     let h = at-character .character .ensures (not-false (at-character .character .result) (c .if1 .left)) in (
       taking-more (at-loop .loop .inv .0) (h .takes),
       below-more (λ q. Character (a .s) (now (a .words)) (now (a .rows)) (a .p) q) (at-loop .loop .k) (at-loop .loop .inv .1) (h .is),
     )
 
+same-length-2 : tie.Need-same-length-2 Inv-loop μ-loop
+same-length-2 c =
+    let at-loop = c .before in
+    let at-mark = at-loop .before .before .before in
+    at-loop .loop .inv .0 .allowed .size ∙ at-mark .mark .ensures .size
+
 returns-2 : tie.Need-returns-2 Inv-loop μ-loop
 returns-2 c =
     let at-loop = c .before in
-    let z = at-loop .before .before .before .before .before in
+    let z = at-loop .before .before .before .before .before .before .before in
     λ x.
     let a = z .args in
-    let P = z .pre in
+    let P = z .pre .0 in
     let t = at-loop .loop .inv .0 in
     record {
       room = P .room;
@@ -86,13 +89,13 @@ all-characters-spec =
     (tie.spec
     Inv-loop
     μ-loop
-    slice-aggregate-mark
     mark-requires
     loop-holds
-    slice-aggregate-character
     character-requires
+    same-length
     returns
     add-k
     loop-less
     loop-again
+    same-length-2
     returns-2)

@@ -51,8 +51,8 @@ mul-if4 c =
 returns-4 : tie.Need-returns-4
 returns-4 c = λ x. absurd (false≢true x)
 
-all-characters-requires : tie.Need-all-characters-requires
-all-characters-requires c κs =
+marked-characters-requires : tie.Need-marked-characters-requires
+marked-characters-requires c κs =
     let at-wide3 = c .before .before in
     let at-if3 = at-wide3 .before in
     let at-up2 = at-if3 .before in
@@ -76,7 +76,7 @@ returns-5 c =
     let at-wide = c .before .before .before .before .before .before .before .before in
     let z = at-wide .before .before .before .before .before in
     λ x. let a = z .args in
-    subst (Characters (a .s) (now (a .words)) (now (a .rows))) (at-wide .wide .ensures .0) (c .all-characters .ensures x)
+    subst (Characters (a .s) (now (a .words)) (now (a .rows))) (at-wide .wide .ensures .0) (c .marked-characters .ensures x)
 
 pub characters-spec : {M : Type 1} → statement M
 characters-spec =
@@ -94,5 +94,5 @@ characters-spec =
     wide-requires-3
     mul-if4
     returns-4
-    all-characters-requires
+    marked-characters-requires
     returns-5)

@@ -3,13 +3,15 @@ use borrow.Author.Needs.{needs}
 use mathlib.Core.Path.{_≡_, sym, _∙_, subst}
 use Prim.Native.Nat.{_-_, _≤_}
 use native.Mathlib.Omega.{arith}
+use lib.ListN.{length}
+use denote.Ref.{now}
 use Rattle.check_first.specs.First.{Allowed}
 use Rattle.check_first.proofs.Marks.{allowed-more}
 use Rattle.check_first.proofs.set_first.Statement.{statement}
 use Rattle.check_first.proofs.set_first.Tie as tie
 
 abbrev Inv-loop : tie.InvT-loop
-Inv-loop free₀ p e₀ free e = Allowed e 1 free × (e ≤ p)
+Inv-loop free₀ p e₀ free e = Allowed (length free₀) e 1 free × (e ≤ p)
 
 abbrev μ-loop : tie.MeasureT-loop
 μ-loop free₀ p e₀ free e = p - e
@@ -48,7 +50,7 @@ returns c =
     let z = at-loop .before in
     let l = at-loop .loop in
     let q : l .e ≡ z .args .p = omega (arith, l .inv .1) in
-    subst (λ k. Allowed k 1 (l .free)) q (l .inv .0)
+    subst (λ k. Allowed (length (now (z .args .free))) k 1 (l .free)) q (l .inv .0)
 
 pub set-first-spec : {M : Type 1} → statement M
 set-first-spec =

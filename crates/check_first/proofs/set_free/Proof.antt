@@ -4,13 +4,15 @@ use mathlib.Core.Path.{_≡_, sym, _∙_, subst}
 use Prim.Native.Nat.{suc, _*_, _-_, _≤_, _<_}
 use native.Mathlib.Omega.{arith}
 use native.Mathlib.Nat.{mul-lt-mul-of-pos-right, mul-le-mul-right}
+use lib.ListN.{length}
+use denote.Ref.{now}
 use Rattle.check_first.specs.First.{Allowed}
 use Rattle.check_first.proofs.Marks.{allowed-more}
 use Rattle.check_first.proofs.set_free.Statement.{statement}
 use Rattle.check_first.proofs.set_free.Tie as tie
 
 abbrev Inv-loop : tie.InvT-loop
-Inv-loop free₀ p part e₀ k₀ free e k = Allowed k part free × (e ≡ k * part) × (k ≤ p)
+Inv-loop free₀ p part e₀ k₀ free e k = Allowed (length free₀) k part free × (e ≡ k * part) × (k ≤ p)
 
 abbrev μ-loop : tie.MeasureT-loop
 μ-loop free₀ p part e₀ k₀ free e k = p - k
@@ -59,7 +61,7 @@ returns c =
     let z = at-loop .before in
     let l = at-loop .loop in
     let q : l .k ≡ z .args .p = omega (arith, l .inv .2) in
-    subst (λ k. Allowed k (z .args .part) (l .free)) q (l .inv .0)
+    subst (λ k. Allowed (length (now (z .args .free))) k (z .args .part) (l .free)) q (l .inv .0)
 
 pub set-free-spec : {M : Type 1} → statement M
 set-free-spec =

@@ -52,9 +52,9 @@ returns-4 c =
     let S = started (now (z .args .primes)) F (omega (arith, at-if2 .if2 .left)) (z .pre .1, z .pre .2) in
     counted-pass (F .heads) (F .whole) (ap (λ k. getD (now (z .args .orders)) k 0) (sym (at-up .up .ensures)) ∙ at-if1 .if1 .left) (up-to-one S)
 
-small-fits-requires : tie.Need-small-fits-requires
-small-fits-requires c κs =
-    let at-if3 = c .before .before .before .before in
+listed-fits-requires : tie.Need-listed-fits-requires
+listed-fits-requires c κs =
+    let at-if3 = c .before .before in
     let at-level-one = at-if3 .before in
     let at-if2 = at-level-one .before .before in
     let z = at-if2 .before .before .before .before .before .before .before in
@@ -63,32 +63,13 @@ small-fits-requires c κs =
 
 returns-5 : tie.Need-returns-5
 returns-5 c =
-    let at-if3 = c .before .before .before .before .before in
+    let at-if3 = c .before .before .before in
     let at-level-one = at-if3 .before in
     let at-if1 = at-level-one .before .before .before .before in
     let at-up = at-if1 .before .before .before in
     let z = at-up .before .before in
     let F = at-level-one .level-one .ensures (not-false (at-level-one .level-one .result) (at-if3 .if3 .left)) in
-    counted-pass (F .heads) (F .whole) (ap (λ k. getD (now (z .args .orders)) k 0) (sym (at-up .up .ensures)) ∙ at-if1 .if1 .left) (c .small-fits .ensures)
-
-large-fits-requires : tie.Need-large-fits-requires
-large-fits-requires c κs =
-    let at-if3 = c .before .before .before .before in
-    let at-level-one = at-if3 .before in
-    let at-if2 = at-level-one .before .before in
-    let z = at-if2 .before .before .before .before .before .before .before in
-    let F = at-level-one .level-one .ensures (not-false (at-level-one .level-one .result) (at-if3 .if3 .left)) in
-    started (now (z .args .primes)) F (omega (arith, at-if2 .if2 .left)) (z .pre .1, z .pre .2)
-
-returns-6 : tie.Need-returns-6
-returns-6 c =
-    let at-if3 = c .before .before .before .before .before in
-    let at-level-one = at-if3 .before in
-    let at-if1 = at-level-one .before .before .before .before in
-    let at-up = at-if1 .before .before .before in
-    let z = at-up .before .before in
-    let F = at-level-one .level-one .ensures (not-false (at-level-one .level-one .result) (at-if3 .if3 .left)) in
-    counted-pass (F .heads) (F .whole) (ap (λ k. getD (now (z .args .orders)) k 0) (sym (at-up .up .ensures)) ∙ at-if1 .if1 .left) (c .large-fits .ensures)
+    counted-pass (F .heads) (F .whole) (ap (λ k. getD (now (z .args .orders)) k 0) (sym (at-up .up .ensures)) ∙ at-if1 .if1 .left) (c .listed-fits .ensures)
 
 pub fitting-levels-spec : {M : Type 1} → statement M
 fitting-levels-spec =
@@ -103,7 +84,5 @@ fitting-levels-spec =
     level-one-requires
     returns-3
     returns-4
-    small-fits-requires
-    returns-5
-    large-fits-requires
-    returns-6)
+    listed-fits-requires
+    returns-5)

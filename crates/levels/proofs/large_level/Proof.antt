@@ -1,7 +1,7 @@
--- `large_level` makes arrays for every level.
+-- `large_level` makes blocks for every prime of an orbit that moves.
 use native.Mathlib.Omega.{arith}
 use borrow.Author.Needs.{needs}
-use Rattle.survey.proofs.Level.{reps-half, moved-prime}
+use Rattle.survey.proofs.Level.{moved-prime}
 use Rattle.levels.proofs.large_level.Statement.{statement}
 use Rattle.levels.proofs.large_level.Tie as tie
 
@@ -13,8 +13,8 @@ slice-aggregate-append-level-2 c = search needs
 
 append-level-requires : tie.Need-append-level-requires
 append-level-requires c κs = let z = c .before .before .before .before in
-    let S = z .pre .sound .stands in
-    (z .pre, omega (arith, reps-half (z .args .f) _ S), λ h. omega (arith, moved-prime (z .args .f) _ S h))
+    let S = z .pre .0 .sound .stands in
+    (z .pre .0, omega arith, λ h. omega (arith, moved-prime (z .args .f) _ S h))
 
 same-length : tie.Need-same-length
 same-length c = search needs
