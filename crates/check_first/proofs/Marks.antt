@@ -1,6 +1,6 @@
 -- Exponents by marks.
 --
---   allowed-none, allowed-more     no multiple, and one more; blank-room: the numbers of a modulus are among those that are not marked
+--   allowed-none, allowed-more     no multiple, and one more
 --   allowed-own, allowed-as, takes-as   the same by another name
 --   takes-free             an exponent that is marked is taken
 --   SlotsTaken                 the exponents of the first r representations are taken, and differ
@@ -8,20 +8,17 @@
 --   product-positive, multiple-small, multiple-power     a factor is positive; a multiple is below the modulus, and p times it is 0
 use mathlib.Core.Path.{_≡_, refl, sym, _∙_, ap, subst}
 use mathlib.Core.List.{List}
-use Prim.Native.Nat.{ℕ, zero, suc, _+_, _*_, _%_, _≤_, _<_}
+use Prim.Native.Nat.{ℕ, zero, suc, _+_, _*_, _%_, _<_}
 use native.Mathlib.Nat.{mul-lt-mul-of-pos-right, mul-mod-right}
 use native.Mathlib.Decide.{decLt, ℕ-discrete}
 use native.Mathlib.Omega.{arith}
-use lib.ListN.{length, getD, set, replicate, length-set, length-replicate}
+use lib.ListN.{length, getD, set, length-set}
 use lib.Seq.{getD-set-same, getD-set-other}
-use Rattle.numbers.proofs.Lists.{blank}
+use Rattle.claims.specs.Claims.{Cleared}
 use Rattle.check_first.specs.First.{exponentOf, Allowed, Takes}
 
-pub allowed-none : (k part : ℕ) → Allowed (length {A = ℕ} (replicate k 0)) 0 part (replicate k 0)
-allowed-none k part = record { size = refl; only = λ e n. absurd (n (blank k e)) }
-
-pub blank-room : (k m : ℕ) → m ≤ k → m ≤ length {A = ℕ} (replicate k 0)
-blank-room k m l = omega (arith, length-replicate {A = ℕ} k 0)
+pub allowed-none : {part : ℕ} {M : List ℕ} → Cleared M → Allowed (length M) 0 part M
+allowed-none h = record { size = refl; only = λ e n. absurd (n (h e)) }
 
 pub allowed-more : {s k part : ℕ} {M : List ℕ} (e : ℕ) → e ≡ k * part → Allowed s k part M → Allowed s (k + 1) part (set M e 1)
 allowed-more {s} {k} {part} {M} e is A = record { size = length-set M e 1 ∙ A .size; only = λ f n. go f n (ℕ-discrete f e) }

@@ -6,9 +6,7 @@
 //   line_is                      a line of a representation of degree 1 on level 1
 //   conjugate, led_to            a generator above generator 0
 //   images_ok                    all of them
-//   character, all_characters       a representation, and all of level 1 with marks that are lent
-//   small_characters, middle_characters, large_characters, marked_characters     with as many marks as the modulus wants
-//   characters                   all of level 1
+//   character, all_characters, small_characters, characters     a representation, and all of level 1
 //   level_one                    the heads of the table, and level 1
 ghost use mathlib.Core.Path.{_≡_};
 ghost use mathlib.Core.Bool.{true};
@@ -174,7 +172,7 @@ fn character(words: &[u32], rows: &Rows, s: Scope, p: usize, k: usize, free: &mu
     images_ok(words, rows, s, p, k, e)
 }
 
-// The first p representations are right, with exponents modulo m = p * part, where no number is marked.
+// The first p representations are right, with exponents modulo m = p * part.
 fn all_characters(
     words: &[u32],
     rows: &Rows,
@@ -183,9 +181,10 @@ fn all_characters(
     part: usize,
     free: &mut [u8],
 ) -> bool
-    requires { ⌜ Parted s (now words) p part × Allowed (length (now free)) 0 part (now free) × (s .m ≤ length (now free)) ⌝ }
+    requires { ⌜ Parted s (now words) p part × (s .m ≤ length (now free)) ⌝ }
     ensures { λ r. ⌜ (r ≡ true → Characters s (now (words .entry)) (now (rows .entry)) p) ⌝ }
 {
+    claims::clear(free);
     mark(free, p, part);
     for k in 0..p {
         if !character(words, rows, s, p, k, free) {
@@ -204,40 +203,8 @@ fn small_characters(words: &[u32], rows: &Rows, s: Scope, p: usize, part: usize)
     all_characters(words, rows, s, p, part, &mut free)
 }
 
-// The first p representations are right, with marks for moduli up to 4,096.
-fn middle_characters(words: &[u32], rows: &Rows, s: Scope, p: usize, part: usize) -> bool
-    requires { ⌜ Parted s (now words) p part × (s .m ≤ 4096) ⌝ }
-    ensures { λ r. ⌜ (r ≡ true → Characters s (now (words .entry)) (now (rows .entry)) p) ⌝ }
-{
-    let mut free = [TAKEN; 4096];
-    all_characters(words, rows, s, p, part, &mut free)
-}
-
-// The first p representations are right, with marks for every modulus.
-fn large_characters(words: &[u32], rows: &Rows, s: Scope, p: usize, part: usize) -> bool
-    requires { ⌜ Parted s (now words) p part ⌝ }
-    ensures { λ r. ⌜ (r ≡ true → Characters s (now (words .entry)) (now (rows .entry)) p) ⌝ }
-{
-    let mut free = [TAKEN; ORDER];
-    all_characters(words, rows, s, p, part, &mut free)
-}
-
-// The first p representations are right, with as many marks as the modulus wants.
-fn marked_characters(words: &[u32], rows: &Rows, s: Scope, p: usize, part: usize) -> bool
-    requires { ⌜ Parted s (now words) p part ⌝ }
-    ensures { λ r. ⌜ (r ≡ true → Characters s (now (words .entry)) (now (rows .entry)) p) ⌝ }
-{
-    if s.m <= 64 {
-        return small_characters(words, rows, s, p, part);
-    }
-    if s.m <= 4096 {
-        return middle_characters(words, rows, s, p, part);
-    }
-    large_characters(words, rows, s, p, part)
-}
-
-// The first p representations are those of a right level 1, where p is the prime of generator 0.
-fn characters(words: &[u32], rows: &Rows, s: Scope, p: u32) -> bool
+// The first p representations are those of a right level 1, where p is the prime of generator 0 and there are marks for all exponents.
+fn characters(words: &[u32], rows: &Rows, s: Scope, p: u32, free: &mut [u8]) -> bool
     requires { ⌜ Scoped s (now words) × (0 < s .m) ⌝ }
     ensures { λ r. ⌜ (r ≡ true → Characters s (now (words .entry)) (now (rows .entry)) p) ⌝ }
 {
@@ -245,6 +212,9 @@ fn characters(words: &[u32], rows: &Rows, s: Scope, p: u32) -> bool
         return false;
     }
     if level::up(s.m) > ORDER {
+        return false;
+    }
+    if level::up(s.m) > free.len() {
         return false;
     }
     let many = check_lines::wide(p);
@@ -255,18 +225,28 @@ fn characters(words: &[u32], rows: &Rows, s: Scope, p: u32) -> bool
     if many * check_lines::wide(s.gens) > s.lines {
         return false;
     }
-    marked_characters(words, rows, s, many, part)
+    if s.m <= 64 {
+        return small_characters(words, rows, s, many, part);
+    }
+    all_characters(words, rows, s, many, part, free)
 }
 
 // The table is complete with possible degrees, and its level 1 is right, where p is the prime of generator 0.
-pub fn level_one(words: &[u32], rows: &Rows, orders: &Orders, s: Scope, p: u32) -> bool
+pub fn level_one(
+    words: &[u32],
+    rows: &Rows,
+    orders: &Orders,
+    s: Scope,
+    p: u32,
+    free: &mut [u8],
+) -> bool
     requires { ⌜ Scoped s (now words) × (0 < s .m) ⌝ }
     ensures { λ r. ⌜ (r ≡ true → FirstLevel s (now (words .entry)) (now (rows .entry)) (now (orders .entry)) p) ⌝ }
 {
     if orders[1] != p {
         return false;
     }
-    if !characters(words, rows, s, p) {
+    if !characters(words, rows, s, p, free) {
         return false;
     }
     if !check_heads::heads_behind(words, orders, s, level::up(p)) {

@@ -27,9 +27,10 @@ pub record Reaching (s : Scope) (T : List ℕ) (rows : List (List ℕ)) (primes 
   pub listed : Lined (s .gens) T i F low below
   pub fits : LevelsFit s T rows primes orders i
 
-module _ {s : Scope} {T : List ℕ} {rows : List (List ℕ)} {primes orders F₀ : List ℕ} {many : ℕ} (O : LevelOne s T rows primes orders F₀ many) where
-  pub reaching-none : Reaching s T rows primes orders F₀ F₀ 0 many 1
-  reaching-none = record { size = refl; from = omega arith; listed = O .listed; fits = O .fits }
+module _ {s : Scope} {T : List ℕ} {rows : List (List ℕ)} {primes orders F₀ : List ℕ} (O : LevelOne s T rows primes orders F₀) where
+  pub reaching-none : (many : ℕ) → many ≡ getD primes 0 0 → Reaching s T rows primes orders F₀ F₀ 0 many 1
+  reaching-none many e =
+      record { size = refl; from = omega arith; listed = subst (Lined (s .gens) T 1 F₀ 0) (sym e) (O .listed); fits = O .fits }
 
   module _ {F : List ℕ} {low below i : ℕ} (R : Reaching s T rows primes orders F₀ F low below i) where
     -- the loop is left before level i + 1, or behind the last level
@@ -86,11 +87,15 @@ module _ {s : Scope} {T : List ℕ} {rows : List (List ℕ)} {primes orders F₀
 -- ---- Level 1
 
 pub level-one : {s : Scope} {T : List ℕ} {rows : List (List ℕ)} {primes orders F : List ℕ} {many : ℕ} → Started s T rows primes orders
-    → many ≡ getD primes 0 0 → many ≤ length F → CharacterLines (s .gens) many F → LevelOne s T rows primes orders F many
+    → many ≡ getD primes 0 0 → many ≤ length F → CharacterLines (s .gens) many F → LevelOne s T rows primes orders F
 level-one {s} {T} {rows} {primes} {orders} {F} {many} S e room L = record {
   whole = S .whole;
   short = S .short;
   modulus = S .modulus;
-  listed = record { counts = e ∙ S .counts; room = omega arith; line = λ r h. ap (λ k. getD F k 0) (zero-add r) ∙ L .line r h ∙ S .line r (omega (arith, e)) };
+  listed = record {
+    counts = S .counts;
+    room = omega (arith, e);
+    line = λ r h. ap (λ k. getD F k 0) (zero-add r) ∙ L .line r (omega (arith, e)) ∙ S .line r h;
+  };
   fits = S .fits;
 }

@@ -48,11 +48,11 @@ pub record Started (s : Scope) (T : List ℕ) (rows : List (List ℕ)) (primes o
 pub record CharacterLines (n k : ℕ) (F : List ℕ) : Type 0 where
   pub line : (r : ℕ) → r < k → getD F r 0 ≡ r * n
 
-pub record LevelOne (s : Scope) (T : List ℕ) (rows : List (List ℕ)) (primes orders firsts : List ℕ) (many : ℕ) : Type 0 where
+pub record LevelOne (s : Scope) (T : List ℕ) (rows : List (List ℕ)) (primes orders firsts : List ℕ) : Type 0 where
   pub whole : Whole s T
   pub short : s .lines ≤ maxLines
   pub modulus : (0 < s .m) × (s .m ≤ maxModulus)
-  pub listed : Lined (s .gens) T 1 firsts 0 many
+  pub listed : Lined (s .gens) T 1 firsts 0 (getD primes 0 0)
   pub fits : LevelsFit s T rows primes orders 1
 
 pub record FittingLevels (s : Scope) (rows : List (List ℕ)) (primes orders T : List ℕ) (k : ℕ) : Type 0 where

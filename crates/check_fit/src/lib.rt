@@ -3,9 +3,8 @@
 //
 //   upper_levels_fit                     the levels above the first
 //   character_lines                      the first lines of level 1, in a list
-//   levels_fit                           all levels, with a list that is lent
-//   small_fits, middle_fits, large_fits, listed_fits     with a list as long as the order wants
-//   fitting_levels                       a table
+//   levels_fit, lent_levels              all levels, with a list and marks that are lent
+//   levels_of_16 .. levels_of_any        with room for orders up to so many; fitting_levels chooses among them
 ghost use mathlib.Core.Path.{_≡_};
 ghost use Prim.Native.Nat.{_*_, _≤_, _<_};
 ghost use lib.ListN.{length};
@@ -31,16 +30,17 @@ fn upper_levels_fit(
     orders: &Orders,
     s: Scope,
     firsts: &mut [u32],
-    many: usize,
+    marks: &mut [u8],
+    slots: &mut [u8],
 ) -> u32
-    requires { ⌜ LevelOne s (now words) (now rows) (now primes) (now orders) (now firsts) many ⌝ }
+    requires { ⌜ LevelOne s (now words) (now rows) (now primes) (now orders) (now firsts) ⌝ }
     ensures { λ k. ⌜ FitUpTo s (now (words .entry)) (now (rows .entry)) (now (primes .entry)) (now (orders .entry)) k ⌝ }
     ensures { λ k. ⌜ length (now (firsts .exit)) ≡ length (now (firsts .entry)) ⌝ }
 {
     let gens = s.gens;
     let reach = commuting::reaches(rows, level::up(gens));
     let mut low: usize = 0;
-    let mut below = many;
+    let mut below = level::up(primes[0]);
     for i in 1..gens {
         let high = low + below;
         let k = level::up(i);
@@ -56,7 +56,7 @@ fn upper_levels_fit(
             high,
             above,
         };
-        if !check_level::level_fits(words, firsts, rows, &reach, s, g) {
+        if !check_level::level_fits(words, firsts, rows, &reach, s, g, marks, slots) {
             return i;
         }
         low = high;
@@ -85,6 +85,8 @@ fn levels_fit(
     orders: &Orders,
     s: Scope,
     firsts: &mut [u32],
+    marks: &mut [u8],
+    slots: &mut [u8],
 ) -> u32
     requires { ⌜ Started s (now words) (now rows) (now primes) (now orders) ⌝ }
     ensures { λ k. ⌜ FitUpTo s (now (words .entry)) (now (rows .entry)) (now (primes .entry)) (now (orders .entry)) k ⌝ }
@@ -94,54 +96,20 @@ fn levels_fit(
         return 1;
     }
     character_lines(firsts, many, s.gens);
-    upper_levels_fit(words, rows, primes, orders, s, firsts, many)
+    upper_levels_fit(words, rows, primes, orders, s, firsts, marks, slots)
 }
 
-// How many of the first levels fit, with a list for 128 representations, which suffice for orders up to 64: the order of a level is
-// at least twice that of the level below.
-fn small_fits(words: &[u32], rows: &Rows, primes: &Row, orders: &Orders, s: Scope) -> u32
-    requires { ⌜ Started s (now words) (now rows) (now primes) (now orders) ⌝ }
-    ensures { λ k. ⌜ FitUpTo s (now (words .entry)) (now (rows .entry)) (now (primes .entry)) (now (orders .entry)) k ⌝ }
-{
-    let mut firsts = [0u32; 128];
-    levels_fit(words, rows, primes, orders, s, &mut firsts)
-}
-
-// How many of the first levels fit, with a list for 8,192 representations, which suffice for orders up to 4,096.
-fn middle_fits(words: &[u32], rows: &Rows, primes: &Row, orders: &Orders, s: Scope) -> u32
-    requires { ⌜ Started s (now words) (now rows) (now primes) (now orders) ⌝ }
-    ensures { λ k. ⌜ FitUpTo s (now (words .entry)) (now (rows .entry)) (now (primes .entry)) (now (orders .entry)) k ⌝ }
-{
-    let mut firsts = [0u32; 8192];
-    levels_fit(words, rows, primes, orders, s, &mut firsts)
-}
-
-// How many of the first levels fit, with a list that suffices for every order.
-fn large_fits(words: &[u32], rows: &Rows, primes: &Row, orders: &Orders, s: Scope) -> u32
-    requires { ⌜ Started s (now words) (now rows) (now primes) (now orders) ⌝ }
-    ensures { λ k. ⌜ FitUpTo s (now (words .entry)) (now (rows .entry)) (now (primes .entry)) (now (orders .entry)) k ⌝ }
-{
-    let mut firsts = [0u32; 2 * ORDER];
-    levels_fit(words, rows, primes, orders, s, &mut firsts)
-}
-
-// How many of the first levels fit, with as long a list as the order wants.
-fn listed_fits(words: &[u32], rows: &Rows, primes: &Row, orders: &Orders, s: Scope) -> u32
-    requires { ⌜ Started s (now words) (now rows) (now primes) (now orders) ⌝ }
-    ensures { λ k. ⌜ FitUpTo s (now (words .entry)) (now (rows .entry)) (now (primes .entry)) (now (orders .entry)) k ⌝ }
-{
-    if s.m <= 64 {
-        return small_fits(words, rows, primes, orders, s);
-    }
-    if s.m <= 4096 {
-        return middle_fits(words, rows, primes, orders, s);
-    }
-    large_fits(words, rows, primes, orders, s)
-}
-
-// How many of the first levels of a table fit, each on the level below, with exponents modulo the order: these levels pass, and
-// where there are any the heads of all lines are in order.
-pub fn fitting_levels(words: &[u32], rows: &Rows, primes: &Row, orders: &Orders, s: Scope) -> u32
+// How many of the first levels of a table fit, with a list for first lines and with marks that are lent.
+fn lent_levels(
+    words: &[u32],
+    rows: &Rows,
+    primes: &Row,
+    orders: &Orders,
+    s: Scope,
+    firsts: &mut [u32],
+    marks: &mut [u8],
+    slots: &mut [u8],
+) -> u32
     requires { ⌜ Scoped s (now words) × (0 < s .m) × (s .m ≤ maxModulus) ⌝ }
     ensures { λ k. ⌜ FittingLevels s (now (rows .entry)) (now (primes .entry)) (now (orders .entry)) (now (words .entry)) k ⌝ }
 {
@@ -152,11 +120,179 @@ pub fn fitting_levels(words: &[u32], rows: &Rows, primes: &Row, orders: &Orders,
     if s.lines > MAX_LINES {
         return 0;
     }
-    if !check_first::level_one(words, rows, orders, s, primes[0]) {
+    if !check_first::level_one(words, rows, orders, s, primes[0], marks) {
         return 0;
     }
     if s.gens == 1 {
         return 1;
     }
-    listed_fits(words, rows, primes, orders, s)
+    levels_fit(words, rows, primes, orders, s, firsts, marks, slots)
+}
+
+// How many of them fit, with room for orders up to 16: no level has more representations or slots than there are elements, and the order of a
+// level is at least twice that of the level below.
+fn levels_of_16(words: &[u32], rows: &Rows, primes: &Row, orders: &Orders, s: Scope) -> u32
+    requires { ⌜ Scoped s (now words) × (0 < s .m) × (s .m ≤ maxModulus) ⌝ }
+    ensures { λ k. ⌜ FittingLevels s (now (rows .entry)) (now (primes .entry)) (now (orders .entry)) (now (words .entry)) k ⌝ }
+{
+    let mut firsts = [0u32; 2 * 16];
+    let mut marks = [0u8; 16];
+    let mut slots = [0u8; 16];
+    lent_levels(
+        words,
+        rows,
+        primes,
+        orders,
+        s,
+        &mut firsts,
+        &mut marks,
+        &mut slots,
+    )
+}
+
+// How many of them fit, with room for orders up to 64.
+fn levels_of_64(words: &[u32], rows: &Rows, primes: &Row, orders: &Orders, s: Scope) -> u32
+    requires { ⌜ Scoped s (now words) × (0 < s .m) × (s .m ≤ maxModulus) ⌝ }
+    ensures { λ k. ⌜ FittingLevels s (now (rows .entry)) (now (primes .entry)) (now (orders .entry)) (now (words .entry)) k ⌝ }
+{
+    let mut firsts = [0u32; 2 * 64];
+    let mut marks = [0u8; 64];
+    let mut slots = [0u8; 64];
+    lent_levels(
+        words,
+        rows,
+        primes,
+        orders,
+        s,
+        &mut firsts,
+        &mut marks,
+        &mut slots,
+    )
+}
+
+// How many of them fit, with room for orders up to 256.
+fn levels_of_256(words: &[u32], rows: &Rows, primes: &Row, orders: &Orders, s: Scope) -> u32
+    requires { ⌜ Scoped s (now words) × (0 < s .m) × (s .m ≤ maxModulus) ⌝ }
+    ensures { λ k. ⌜ FittingLevels s (now (rows .entry)) (now (primes .entry)) (now (orders .entry)) (now (words .entry)) k ⌝ }
+{
+    let mut firsts = [0u32; 2 * 256];
+    let mut marks = [0u8; 256];
+    let mut slots = [0u8; 256];
+    lent_levels(
+        words,
+        rows,
+        primes,
+        orders,
+        s,
+        &mut firsts,
+        &mut marks,
+        &mut slots,
+    )
+}
+
+// How many of them fit, with room for orders up to 512.
+fn levels_of_512(words: &[u32], rows: &Rows, primes: &Row, orders: &Orders, s: Scope) -> u32
+    requires { ⌜ Scoped s (now words) × (0 < s .m) × (s .m ≤ maxModulus) ⌝ }
+    ensures { λ k. ⌜ FittingLevels s (now (rows .entry)) (now (primes .entry)) (now (orders .entry)) (now (words .entry)) k ⌝ }
+{
+    let mut firsts = [0u32; 2 * 512];
+    let mut marks = [0u8; 512];
+    let mut slots = [0u8; 512];
+    lent_levels(
+        words,
+        rows,
+        primes,
+        orders,
+        s,
+        &mut firsts,
+        &mut marks,
+        &mut slots,
+    )
+}
+
+// How many of them fit, with room for orders up to 1,024.
+fn levels_of_1024(words: &[u32], rows: &Rows, primes: &Row, orders: &Orders, s: Scope) -> u32
+    requires { ⌜ Scoped s (now words) × (0 < s .m) × (s .m ≤ maxModulus) ⌝ }
+    ensures { λ k. ⌜ FittingLevels s (now (rows .entry)) (now (primes .entry)) (now (orders .entry)) (now (words .entry)) k ⌝ }
+{
+    let mut firsts = [0u32; 2 * 1024];
+    let mut marks = [0u8; 1024];
+    let mut slots = [0u8; 1024];
+    lent_levels(
+        words,
+        rows,
+        primes,
+        orders,
+        s,
+        &mut firsts,
+        &mut marks,
+        &mut slots,
+    )
+}
+
+// How many of them fit, with room for orders up to 4,096.
+fn levels_of_4096(words: &[u32], rows: &Rows, primes: &Row, orders: &Orders, s: Scope) -> u32
+    requires { ⌜ Scoped s (now words) × (0 < s .m) × (s .m ≤ maxModulus) ⌝ }
+    ensures { λ k. ⌜ FittingLevels s (now (rows .entry)) (now (primes .entry)) (now (orders .entry)) (now (words .entry)) k ⌝ }
+{
+    let mut firsts = [0u32; 2 * 4096];
+    let mut marks = [0u8; 4096];
+    let mut slots = [0u8; 4096];
+    lent_levels(
+        words,
+        rows,
+        primes,
+        orders,
+        s,
+        &mut firsts,
+        &mut marks,
+        &mut slots,
+    )
+}
+
+// How many of them fit, with room for every order.
+fn levels_of_any(words: &[u32], rows: &Rows, primes: &Row, orders: &Orders, s: Scope) -> u32
+    requires { ⌜ Scoped s (now words) × (0 < s .m) × (s .m ≤ maxModulus) ⌝ }
+    ensures { λ k. ⌜ FittingLevels s (now (rows .entry)) (now (primes .entry)) (now (orders .entry)) (now (words .entry)) k ⌝ }
+{
+    let mut firsts = [0u32; 2 * ORDER];
+    let mut marks = [0u8; ORDER];
+    let mut slots = [0u8; ORDER];
+    lent_levels(
+        words,
+        rows,
+        primes,
+        orders,
+        s,
+        &mut firsts,
+        &mut marks,
+        &mut slots,
+    )
+}
+
+// How many of the first levels of a table fit, each on the level below, with exponents modulo the order: these levels pass, and
+// where there are any the heads of all lines are in order.
+pub fn fitting_levels(words: &[u32], rows: &Rows, primes: &Row, orders: &Orders, s: Scope) -> u32
+    requires { ⌜ Scoped s (now words) × (0 < s .m) × (s .m ≤ maxModulus) ⌝ }
+    ensures { λ k. ⌜ FittingLevels s (now (rows .entry)) (now (primes .entry)) (now (orders .entry)) (now (words .entry)) k ⌝ }
+{
+    if s.m <= 16 {
+        return levels_of_16(words, rows, primes, orders, s);
+    }
+    if s.m <= 64 {
+        return levels_of_64(words, rows, primes, orders, s);
+    }
+    if s.m <= 256 {
+        return levels_of_256(words, rows, primes, orders, s);
+    }
+    if s.m <= 512 {
+        return levels_of_512(words, rows, primes, orders, s);
+    }
+    if s.m <= 1024 {
+        return levels_of_1024(words, rows, primes, orders, s);
+    }
+    if s.m <= 4096 {
+        return levels_of_4096(words, rows, primes, orders, s);
+    }
+    levels_of_any(words, rows, primes, orders, s)
 }

@@ -3,7 +3,7 @@
 // asks holds.
 //
 //   RunEnd, run_lines, first_lines          the first lines of a level, in a list
-//   level_compares, small_compares, large_compares, compares     all representations of the level
+//   level_compares, small_compares, compares     all representations of the level
 //   level_relates                        their intertwiners
 //   level_fits                           the level
 ghost use mathlib.Core.Path.{_≡_};
@@ -18,7 +18,6 @@ ghost use Rattle.check_level.specs.Level.{Compares, Relates, LevelFits};
 use commuting::Reaches;
 use compare::Stage;
 use level::Listed;
-use rows::ORDER;
 use rows::Rows;
 use seek::Scope;
 
@@ -130,7 +129,7 @@ fn level_compares(
     true
 }
 
-// Compares the level with marks for 64 representations and slots, which suffice for orders up to 64.
+// Compares the level with marks for orders up to 64.
 fn small_compares(words: &[u32], firsts: &[u32], rows: &Rows, s: Scope, g: Stage) -> bool
     requires { ⌜ Staged s (now words) (now firsts) g ⌝ }
     ensures { λ r. ⌜ (r ≡ true → Compares s (now (words .entry)) (now (rows .entry)) g) ⌝ }
@@ -140,38 +139,25 @@ fn small_compares(words: &[u32], firsts: &[u32], rows: &Rows, s: Scope, g: Stage
     level_compares(words, firsts, rows, s, g, &mut marks, &mut slots)
 }
 
-// Compares the level with marks for 4,096 representations and slots, which suffice for orders up to 4,096.
-fn middle_compares(words: &[u32], firsts: &[u32], rows: &Rows, s: Scope, g: Stage) -> bool
-    requires { ⌜ Staged s (now words) (now firsts) g ⌝ }
-    ensures { λ r. ⌜ (r ≡ true → Compares s (now (words .entry)) (now (rows .entry)) g) ⌝ }
-{
-    let mut marks = [0u8; 4096];
-    let mut slots = [0u8; 4096];
-    level_compares(words, firsts, rows, s, g, &mut marks, &mut slots)
-}
-
-// Compares the level with marks for all representations and slots that a level may have.
-fn large_compares(words: &[u32], firsts: &[u32], rows: &Rows, s: Scope, g: Stage) -> bool
-    requires { ⌜ Staged s (now words) (now firsts) g ⌝ }
-    ensures { λ r. ⌜ (r ≡ true → Compares s (now (words .entry)) (now (rows .entry)) g) ⌝ }
-{
-    let mut marks = [0u8; ORDER];
-    let mut slots = [0u8; ORDER];
-    level_compares(words, firsts, rows, s, g, &mut marks, &mut slots)
-}
-
-// Compares the level with as many marks as the order wants.
-fn compares(words: &[u32], firsts: &[u32], rows: &Rows, s: Scope, g: Stage) -> bool
+// Compares the level with marks that are lent, unless the order is small.
+fn compares(
+    words: &[u32],
+    firsts: &[u32],
+    rows: &Rows,
+    s: Scope,
+    g: Stage,
+    marks: &mut [u8],
+    slots: &mut [u8],
+) -> bool
     requires { ⌜ Staged s (now words) (now firsts) g ⌝ }
     ensures { λ r. ⌜ (r ≡ true → Compares s (now (words .entry)) (now (rows .entry)) g) ⌝ }
 {
     if s.m <= 64 {
         return small_compares(words, firsts, rows, s, g);
     }
-    if s.m <= 4096 {
-        return middle_compares(words, firsts, rows, s, g);
-    }
-    large_compares(words, firsts, rows, s, g)
+    claims::clear(marks);
+    claims::clear(slots);
+    level_compares(words, firsts, rows, s, g, marks, slots)
 }
 
 // The intertwiners of every representation of a level that is compared carry the generator on top over, in single columns.
@@ -209,11 +195,13 @@ pub fn level_fits(
     reach: &Reaches,
     s: Scope,
     g: Stage,
+    marks: &mut [u8],
+    slots: &mut [u8],
 ) -> bool
     requires { ⌜ Staged s (now words) (now firsts) g × Quiet (s .gens) (now rows) (now reach) ⌝ }
     ensures { λ r. ⌜ (r ≡ true → LevelFits s (now (words .entry)) (now (rows .entry)) (g .top) (g .p)) ⌝ }
 {
-    if !compares(words, firsts, rows, s, g) {
+    if !compares(words, firsts, rows, s, g, marks, slots) {
         return false;
     }
     level_relates(words, firsts, rows, reach, s, g)

@@ -1,5 +1,6 @@
 -- Marks as they are set.
 --
+--   Clearing, clearing-none, clearing-more, clearing-all     marks that are taken away
 --   kept-same, kept-set, kept-more     marks that are not free stay
 --   took-again, took-free              what is claimed whole, one reference
 --   shares-free                        a slot
@@ -7,13 +8,38 @@
 use mathlib.Core.Path.{_≡_, refl, sym, _∙_, ap, subst}
 use mathlib.Core.List.{List}
 use Prim.Native.Nat.{ℕ, _+_, _≤_, _<_}
-use native.Mathlib.Decide.{ℕ-discrete}
+use native.Mathlib.Decide.{decLt, ℕ-discrete}
 use native.Mathlib.Omega.{arith}
-use lib.ListN.{length, getD, set, length-set}
+use lib.ListN.{length, getD, set, length-set, List·getD-eq-default}
 use lib.Seq.{getD-set-same, getD-set-other}
 use borrow.Author.Count.{below-more}
 use Rattle.definitions.specs.Monomial.{Rep}
-use Rattle.claims.specs.Claims.{StaysMarked, Took, TookAll, Shares}
+use Rattle.claims.specs.Claims.{Cleared, StaysMarked, Took, TookAll, Shares}
+
+-- ---- No marks
+
+pub record Clearing (many k : ℕ) (M : List ℕ) : Type 0 where
+  pub size : length M ≡ many
+  pub free : (f : ℕ) → f < k → getD M f 0 ≡ 0
+
+pub clearing-none : (M : List ℕ) → Clearing (length M) 0 M
+clearing-none M = record { size = refl; free = λ f l. absurd (omega arith) }
+
+pub clearing-more : {many k : ℕ} {M : List ℕ} → k < many → Clearing many k M → Clearing many (k + 1) (set M k 0)
+clearing-more {many} {k} {M} l C = record { size = length-set M k 0 ∙ C .size; free = λ f h. go f h (ℕ-discrete f k) }
+  where
+    go : (f : ℕ) → f < k + 1 → Dec (f ≡ k) → getD (set M k 0) f 0 ≡ 0
+    go f h (yes e) = subst (λ f. getD (set M k 0) f 0 ≡ 0) (sym e) (getD-set-same M k 0 0 (omega (arith, C .size)))
+    go f h (no e) = getD-set-other M k f 0 0 e ∙ C .free f (omega arith)
+
+pub clearing-all : {many k : ℕ} {M : List ℕ} → many ≤ k → Clearing many k M → Cleared M
+clearing-all {many} {k} {M} l C f = go (decLt f many)
+  where
+    go : Dec (f < many) → getD M f 0 ≡ 0
+    go (yes h) = C .free f (omega arith)
+    go (no h) = List·getD-eq-default M 0 {n = f} (omega (arith, C .size))
+
+-- ---- Marks that stay
 
 pub kept-same : (M : List ℕ) → StaysMarked M M
 kept-same M f h = refl

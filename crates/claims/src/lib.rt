@@ -3,6 +3,7 @@
 // whole. One pass over the level, with a mark for each representation of the level below and one for each slot.
 //
 //   FREE, SHARED, TAKEN             the marks
+//   clear                           no marks
 //   one_reference                   whether all columns have one reference
 //   take, take_all                  what is claimed whole
 //   slot, share                     a slot
@@ -14,7 +15,7 @@ ghost use lib.ListN.{length};
 ghost use Rattle.definitions.specs.Table.{levelAt};
 ghost use Rattle.seek.specs.Seek.{Whole, HasLines};
 ghost use Rattle.seek.specs.Among.{repIn};
-ghost use Rattle.claims.specs.Claims.{oneReference, Took, TookAll, Shares, ClaimedIn, FirstClash};
+ghost use Rattle.claims.specs.Claims.{Cleared, oneReference, Took, TookAll, Shares, ClaimedIn, FirstClash};
 use level::Listed;
 use rows::ORDER;
 use seek::Scope;
@@ -25,6 +26,16 @@ const FREE: u8 = 0;
 const SHARED: u8 = 1;
 
 const TAKEN: u8 = 2;
+
+// Takes all marks away.
+pub fn clear(marks: &mut [u8])
+    ensures { λ _. ⌜ Cleared (now (marks .exit)) × (length (now (marks .exit)) ≡ length (now (marks .entry))) ⌝ }
+{
+    let many = marks.len();
+    for k in 0..many {
+        marks[k] = FREE;
+    }
+}
 
 // All columns of generator 0 have the reference of column 0.
 fn one_reference(words: &[u32], d: Listed) -> bool

@@ -1,6 +1,6 @@
 -- The words of a build, level by level.
 --
---   BuiltTo              after i levels: what is written, where the last begins, and how many representations it has
+--   built-as           the same by another number
 --   first-asks         what level 1 asks
 --   stage-one          level 1 is written
 --   stage-placed, stage-asks   what the next level asks
@@ -33,11 +33,10 @@ use Rattle.levels.proofs.First.{exponents-below}
 use Rattle.levels.proofs.Room.{prime-le}
 use Rattle.levels.proofs.Climb.{next-upTo, next-room, next-reps, one-upTo, one-reps, one-room, one-placed}
 use Rattle.levels.specs.Given.{Given}
+use Rattle.levels.specs.Climbing.{BuiltTo}
 
-pub record BuiltTo (A : Accepted) (i base reps end : ℕ) (w₀ w : List ℕ) : Type 0 where
-  pub wrote : Wrote w₀ 0 (upTo A i) w (8 * end)
-  pub base-is : i < A .C .P .n → 8 * base ≡ length (upTo A (i - 1))
-  pub reps-is : reps ≡ length (levelOf A i)
+pub built-as : {A : Accepted} {i k base reps end : ℕ} {w₀ w : List ℕ} → i ≡ k → BuiltTo A i base reps end w₀ w → BuiltTo A k base reps end w₀ w
+built-as {A} {base = base} {reps = reps} {end = end} {w₀ = w₀} {w = w} e S = subst (λ i. BuiltTo A i base reps end w₀ w) e S
 
 take-wrote : (b s c : List ℕ) (next : ℕ) → Wrote b 0 s c next → take next c ≡ s
 unfolding put
@@ -65,6 +64,11 @@ module _ {A : Accepted} {rows : List (List ℕ)} {primes : List ℕ} {n m have :
         base-is = λ l. one-placed A rows (G .reads) l .base-is;
         reps-is = q ∙ sym (one-reps A);
       }
+
+  -- ---- All of them
+
+  pub stage-last : {base reps end : ℕ} {w₀ w : List ℕ} → BuiltTo A n base reps end w₀ w → Wrote w₀ 0 (upTo A (A .C .P .n)) w (8 * end)
+  stage-last S = built-as (G .n-is) S .wrote
 
   -- ---- The next
 

@@ -1,13 +1,17 @@
 // All levels, one behind the other.
 //
 //   SPARE                          rows more than an array wants
-//   tiny_level .. largest_level    a level behind the level below, with arrays of its own; next_level chooses among them
+//   noted_level                    a level behind the level below, with notes that are lent
+//   level_of_16 .. level_of_any    with arrays for so many representations; next_level chooses among them
+//   Reached, levels_to             the first levels
 //   build_levels                   all of them
-ghost use Prim.Native.Nat.{_≤_};
+ghost use Prim.Native.Nat.{_*_, _≤_, _<_};
 ghost use lib.ListN.{length};
 ghost use Rattle.clifford.specs.Accepted.{Accepted};
 ghost use Rattle.builder.specs.Level.{LevelAsked, LevelMade};
+ghost use Rattle.survey.specs.Notes.{noteWidth};
 ghost use Rattle.levels.specs.Given.{Given, AllWritten};
+ghost use Rattle.levels.specs.Climbing.{LevelsWritten};
 use builder::Written;
 use orbits::BLOCK;
 use rows::DEGREES;
@@ -20,9 +24,18 @@ use survey::NOTE;
 // Rows more of an array, so that no two lie whole pages apart.
 const SPARE: usize = 16;
 
-// Appends the level above the one that the frame shows, with arrays for 16 representations and blocks: an orbit that moves has
-// no more blocks than there are representations.
-fn tiny_level(words: &mut [u32], rows: &Rows, f: Frame) -> Written
+// Appends the level above the one that the frame shows, with notes that are lent and with as many blocks as there are at most: where
+// an orbit moves, the square of the prime is at most the order.
+fn noted_level(words: &mut [u32], rows: &Rows, notes: &mut [u32], f: Frame) -> Written
+    requires { ⌜ LevelAsked f (now words) (now rows) × (noteWidth * f .reps ≤ length (now notes)) ⌝ }
+    ensures { λ t. ⌜ LevelMade f (now (words .entry)) (now (rows .entry)) t (now (words .exit)) ⌝ }
+{
+    let mut blocks = [0u32; BLOCK * (DEGREES + SPARE)];
+    builder::append_level(words, rows, notes, &mut blocks, f)
+}
+
+// Appends it with notes and blocks for 16 representations: an orbit that moves has no more blocks than there are representations.
+fn level_of_16(words: &mut [u32], rows: &Rows, f: Frame) -> Written
     requires { ⌜ LevelAsked f (now words) (now rows) × (f .reps ≤ 16) ⌝ }
     ensures { λ t. ⌜ LevelMade f (now (words .entry)) (now (rows .entry)) t (now (words .exit)) ⌝ }
 {
@@ -31,8 +44,8 @@ fn tiny_level(words: &mut [u32], rows: &Rows, f: Frame) -> Written
     builder::append_level(words, rows, &mut notes, &mut blocks, f)
 }
 
-// Appends it with arrays for 64 representations and blocks.
-fn small_level(words: &mut [u32], rows: &Rows, f: Frame) -> Written
+// Appends it with notes and blocks for 64.
+fn level_of_64(words: &mut [u32], rows: &Rows, f: Frame) -> Written
     requires { ⌜ LevelAsked f (now words) (now rows) × (f .reps ≤ 64) ⌝ }
     ensures { λ t. ⌜ LevelMade f (now (words .entry)) (now (rows .entry)) t (now (words .exit)) ⌝ }
 {
@@ -41,35 +54,58 @@ fn small_level(words: &mut [u32], rows: &Rows, f: Frame) -> Written
     builder::append_level(words, rows, &mut notes, &mut blocks, f)
 }
 
-// Appends it with arrays for 512 representations and for as many blocks as there are at most: where an orbit moves, the square
-// of the prime is at most the order.
-fn middle_level(words: &mut [u32], rows: &Rows, f: Frame) -> Written
+// Appends it with notes for 128 representations.
+fn level_of_128(words: &mut [u32], rows: &Rows, f: Frame) -> Written
+    requires { ⌜ LevelAsked f (now words) (now rows) × (f .reps ≤ 128) ⌝ }
+    ensures { λ t. ⌜ LevelMade f (now (words .entry)) (now (rows .entry)) t (now (words .exit)) ⌝ }
+{
+    let mut notes = [0u32; NOTE * (128 + SPARE)];
+    noted_level(words, rows, &mut notes, f)
+}
+
+// Appends it with notes for 256 representations.
+fn level_of_256(words: &mut [u32], rows: &Rows, f: Frame) -> Written
+    requires { ⌜ LevelAsked f (now words) (now rows) × (f .reps ≤ 256) ⌝ }
+    ensures { λ t. ⌜ LevelMade f (now (words .entry)) (now (rows .entry)) t (now (words .exit)) ⌝ }
+{
+    let mut notes = [0u32; NOTE * (256 + SPARE)];
+    noted_level(words, rows, &mut notes, f)
+}
+
+// Appends it with notes for 512 representations.
+fn level_of_512(words: &mut [u32], rows: &Rows, f: Frame) -> Written
     requires { ⌜ LevelAsked f (now words) (now rows) × (f .reps ≤ 512) ⌝ }
     ensures { λ t. ⌜ LevelMade f (now (words .entry)) (now (rows .entry)) t (now (words .exit)) ⌝ }
 {
     let mut notes = [0u32; NOTE * (512 + SPARE)];
-    let mut blocks = [0u32; BLOCK * (DEGREES + SPARE)];
-    builder::append_level(words, rows, &mut notes, &mut blocks, f)
+    noted_level(words, rows, &mut notes, f)
 }
 
-// Appends it with arrays for 2048 representations.
-fn large_level(words: &mut [u32], rows: &Rows, f: Frame) -> Written
+// Appends it with notes for 1,024 representations.
+fn level_of_1024(words: &mut [u32], rows: &Rows, f: Frame) -> Written
+    requires { ⌜ LevelAsked f (now words) (now rows) × (f .reps ≤ 1024) ⌝ }
+    ensures { λ t. ⌜ LevelMade f (now (words .entry)) (now (rows .entry)) t (now (words .exit)) ⌝ }
+{
+    let mut notes = [0u32; NOTE * (1024 + SPARE)];
+    noted_level(words, rows, &mut notes, f)
+}
+
+// Appends it with notes for 2,048 representations.
+fn level_of_2048(words: &mut [u32], rows: &Rows, f: Frame) -> Written
     requires { ⌜ LevelAsked f (now words) (now rows) × (f .reps ≤ 2048) ⌝ }
     ensures { λ t. ⌜ LevelMade f (now (words .entry)) (now (rows .entry)) t (now (words .exit)) ⌝ }
 {
     let mut notes = [0u32; NOTE * (2048 + SPARE)];
-    let mut blocks = [0u32; BLOCK * (DEGREES + SPARE)];
-    builder::append_level(words, rows, &mut notes, &mut blocks, f)
+    noted_level(words, rows, &mut notes, f)
 }
 
-// Appends it with arrays that suffice for every level: the level below has at most half the order of representations.
-fn largest_level(words: &mut [u32], rows: &Rows, f: Frame) -> Written
+// Appends it with notes that suffice for every level: the level below has at most half the order of representations.
+fn level_of_any(words: &mut [u32], rows: &Rows, f: Frame) -> Written
     requires { ⌜ LevelAsked f (now words) (now rows) ⌝ }
     ensures { λ t. ⌜ LevelMade f (now (words .entry)) (now (rows .entry)) t (now (words .exit)) ⌝ }
 {
     let mut notes = [0u32; NOTE * (ORDER / 2 + SPARE)];
-    let mut blocks = [0u32; BLOCK * (DEGREES + SPARE)];
-    builder::append_level(words, rows, &mut notes, &mut blocks, f)
+    noted_level(words, rows, &mut notes, f)
 }
 
 // Appends that level with the smallest arrays that suffice.
@@ -78,18 +114,68 @@ fn next_level(words: &mut [u32], rows: &Rows, f: Frame) -> Written
     ensures { λ t. ⌜ LevelMade f (now (words .entry)) (now (rows .entry)) t (now (words .exit)) ⌝ }
 {
     if f.reps <= 16 {
-        return tiny_level(words, rows, f);
+        return level_of_16(words, rows, f);
     }
     if f.reps <= 64 {
-        return small_level(words, rows, f);
+        return level_of_64(words, rows, f);
+    }
+    if f.reps <= 128 {
+        return level_of_128(words, rows, f);
+    }
+    if f.reps <= 256 {
+        return level_of_256(words, rows, f);
     }
     if f.reps <= 512 {
-        return middle_level(words, rows, f);
+        return level_of_512(words, rows, f);
+    }
+    if f.reps <= 1024 {
+        return level_of_1024(words, rows, f);
     }
     if f.reps <= 2048 {
-        return large_level(words, rows, f);
+        return level_of_2048(words, rows, f);
     }
-    largest_level(words, rows, f)
+    level_of_any(words, rows, f)
+}
+
+// Where the level that was written last begins and ends, and how many representations it has.
+struct Reached {
+    base: usize,
+    reps: u32,
+    end: usize,
+}
+
+// Writes the first i levels of a presentation from the first word on: those below, then the next.
+fn levels_to(words: &mut [u32], rows: &Rows, primes: &Row, n: u32, m: u32, i: u32) -> Reached
+    requires { ⌜ ((A : Accepted) × Given (now rows) (now primes) n m (length (now words)) A) × (0 < i) × (i ≤ n) ⌝ }
+    ensures { λ r. ⌜ LevelsWritten (now (rows .entry)) (now (primes .entry)) n m i (now (words .entry)) r (now (words .exit)) ⌝ }
+{
+    if i == 1 {
+        let reps = primes[0];
+        let end = first::first_level(words, rows, n, reps, m);
+        return Reached {
+            base: 0,
+            reps: reps,
+            end: end,
+        };
+    }
+    let top = i - 1;
+    let b = levels_to(words, rows, primes, n, m, top);
+    let k = level::up(top);
+    let f = Frame {
+        m: m,
+        top: top,
+        gens: n,
+        p: primes[k],
+        base: b.base,
+        reps: b.reps,
+        end: b.end,
+    };
+    let t = next_level(words, rows, f);
+    Reached {
+        base: b.end,
+        reps: t.reps,
+        end: t.end,
+    }
 }
 
 // Writes the levels of a presentation from the first word on. Returns how many lines they are.
@@ -97,24 +183,6 @@ pub fn build_levels(words: &mut [u32], rows: &Rows, primes: &Row, n: u32, m: u32
     requires { ⌜ ((A : Accepted) × Given (now rows) (now primes) n m (length (now words)) A) ⌝ }
     ensures { λ x. ⌜ AllWritten (now (rows .entry)) (now (primes .entry)) n m (now (words .entry)) x (now (words .exit)) ⌝ }
 {
-    let mut reps = primes[0];
-    let mut base = 0usize;
-    let mut end = first::first_level(words, rows, n, reps, m);
-    for i in 1..n {
-        let k = level::up(i);
-        let f = Frame {
-            m: m,
-            top: i,
-            gens: n,
-            p: primes[k],
-            base: base,
-            reps: reps,
-            end: end,
-        };
-        let t = next_level(words, rows, f);
-        base = end;
-        end = t.end;
-        reps = t.reps;
-    }
-    end
+    let r = levels_to(words, rows, primes, n, m, n);
+    r.end
 }

@@ -9,7 +9,7 @@ use native.Mathlib.Omega.{arith}
 use lib.ListN.{length}
 use denote.Ref.{now}
 use Rattle.check_first.specs.First.{Character}
-use Rattle.check_first.proofs.Marks.{SlotsTaken, allowed-own, taking-none, taking-more, multiple-small, multiple-power}
+use Rattle.check_first.proofs.Marks.{SlotsTaken, allowed-none, allowed-own, taking-none, taking-more, multiple-small, multiple-power}
 use Rattle.check_first.proofs.all_characters.Statement.{statement}
 use Rattle.check_first.proofs.all_characters.Tie as tie
 
@@ -19,11 +19,16 @@ Inv-loop words rows s p part free₀ k₀ free k = SlotsTaken (length free₀) (
 abbrev μ-loop : tie.MeasureT-loop
 μ-loop words rows s p part free₀ k₀ free k = p - k
 
+clear-requires : tie.Need-clear-requires Inv-loop μ-loop
+clear-requires c κs = search needs
+
 mark-requires : tie.Need-mark-requires Inv-loop μ-loop
 mark-requires c κs =
-    let z = c .before .before .before in
+    let at-clear = c .before .before .before in
+    let z = at-clear .before .before .before .before in
     let P = z .pre .0 in
-    (z .pre .1, P .positive, omega (arith, P .product, z .pre .2))
+    let C = at-clear .clear .ensures in
+    (allowed-none (C .0), P .positive, omega (arith, P .product, z .pre .1, C .1))
 
 loop-holds : tie.Need-loop-holds Inv-loop μ-loop
 loop-holds c =
@@ -33,7 +38,7 @@ loop-holds c =
 character-requires : tie.Need-character-requires Inv-loop μ-loop
 character-requires c κs =
     let at-loop = c .before .before in
-    let z = at-loop .before .before .before .before .before .before .before in
+    let z = at-loop .before .before .before .before .before .before .before .before .before .before .before in
     (record { part = z .args .part; parted = z .pre .0; allowed = allowed-own (at-loop .loop .inv .0 .allowed) }, omega arith)
 
 same-length : tie.Need-same-length Inv-loop μ-loop
@@ -52,7 +57,7 @@ loop-again : tie.Need-loop-again Inv-loop μ-loop
 loop-again c =
     let at-character = c .before .before .before in
     let at-loop = at-character .before .before .before in
-    let z = at-loop .before .before .before .before .before .before .before in
+    let z = at-loop .before .before .before .before .before .before .before .before .before .before .before in
     let a = z .args in
     let h = at-character .character .ensures (not-false (at-character .character .result) (c .if1 .left)) in (
       taking-more (at-loop .loop .inv .0) (h .takes),
@@ -63,12 +68,13 @@ same-length-2 : tie.Need-same-length-2 Inv-loop μ-loop
 same-length-2 c =
     let at-loop = c .before in
     let at-mark = at-loop .before .before .before in
-    at-loop .loop .inv .0 .allowed .size ∙ at-mark .mark .ensures .size
+    let at-clear = at-mark .before .before .before .before in
+    at-loop .loop .inv .0 .allowed .size ∙ at-mark .mark .ensures .size ∙ at-clear .clear .ensures .1
 
 returns-2 : tie.Need-returns-2 Inv-loop μ-loop
 returns-2 c =
     let at-loop = c .before in
-    let z = at-loop .before .before .before .before .before .before .before in
+    let z = at-loop .before .before .before .before .before .before .before .before .before .before .before in
     λ x.
     let a = z .args in
     let P = z .pre .0 in
@@ -89,6 +95,7 @@ all-characters-spec =
     (tie.spec
     Inv-loop
     μ-loop
+    clear-requires
     mark-requires
     loop-holds
     character-requires

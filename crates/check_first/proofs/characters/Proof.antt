@@ -1,4 +1,4 @@
--- `characters` sees to it that the modulus is a multiple of the prime, and that the lines are there.
+-- `characters` sees to it that the modulus is a multiple of the prime, and that marks and lines are there.
 use borrow.Author.Needs.{needs}
 use mathlib.Core.Path.{_∙_, ap, subst}
 use mathlib.Core.Bool.{false≢true}
@@ -6,7 +6,7 @@ use Prim.Native.Nat.{_*_}
 use native.Mathlib.Omega.{arith}
 use denote.Ref.{now}
 use Rattle.check_heads.proofs.Places.{product-fits}
-use Rattle.check_first.specs.First.{Characters}
+use Rattle.check_first.specs.First.{Parted, Characters}
 use Rattle.check_first.proofs.Marks.{product-positive}
 use Rattle.check_first.proofs.characters.Statement.{statement}
 use Rattle.check_first.proofs.characters.Tie as tie
@@ -20,6 +20,12 @@ up-requires c κs = search needs
 returns-2 : tie.Need-returns-2
 returns-2 c = λ x. absurd (false≢true x)
 
+up-requires-2 : tie.Need-up-requires-2
+up-requires-2 c κs = search needs
+
+returns-3 : tie.Need-returns-3
+returns-3 c = λ x. absurd (false≢true x)
+
 wide-requires : tie.Need-wide-requires
 wide-requires c κs = search needs
 
@@ -29,54 +35,70 @@ div-wide c = search needs
 wide-requires-2 : tie.Need-wide-requires-2
 wide-requires-2 c κs = search needs
 
-mul-if3 : tie.Need-mul-if3
-mul-if3 c =
+mul-if4 : tie.Need-mul-if4
+mul-if4 c =
     let at-wide = c .before .before in
     omega (arith, product-fits (at-wide .wide .result) (c .wide2 .result) (at-wide .wide .ensures .1) (c .wide2 .ensures .1))
 
-up-requires-2 : tie.Need-up-requires-2
-up-requires-2 c κs = search needs
-
-returns-3 : tie.Need-returns-3
-returns-3 c = λ x. absurd (false≢true x)
-
-wide-requires-3 : tie.Need-wide-requires-3
-wide-requires-3 c κs = search needs
-
-mul-if4 : tie.Need-mul-if4
-mul-if4 c =
-    let at-wide = c .before .before .before .before .before in
-    omega (arith, product-fits (at-wide .wide .result) (c .wide3 .result) (at-wide .wide .ensures .1) (c .wide3 .ensures .1))
+up-requires-3 : tie.Need-up-requires-3
+up-requires-3 c κs = search needs
 
 returns-4 : tie.Need-returns-4
 returns-4 c = λ x. absurd (false≢true x)
 
-marked-characters-requires : tie.Need-marked-characters-requires
-marked-characters-requires c κs =
-    let at-wide3 = c .before .before in
-    let at-if3 = at-wide3 .before in
-    let at-up2 = at-if3 .before in
-    let at-wide2 = at-up2 .before in
+wide-requires-3 : tie.Need-wide-requires-3
+wide-requires-3 c κs = search needs
+
+mul-if5 : tie.Need-mul-if5
+mul-if5 c =
+    let at-wide = c .before .before .before .before .before in
+    omega (arith, product-fits (at-wide .wide .result) (c .wide3 .result) (at-wide .wide .ensures .1) (c .wide3 .ensures .1))
+
+returns-5 : tie.Need-returns-5
+returns-5 c = λ x. absurd (false≢true x)
+
+parted : (e : tie.Else5) → let w = e .before .before .before .before .before in
+    let a = w .before .before .before .before .before .before .before .before .before .before .args in
+    Parted (a .s) (now (a .words)) (w .before .before .wide .result) (w .wide2 .result)
+parted e =
+    let at-wide3 = e .before .before in
+    let at-if4 = at-wide3 .before in
+    let at-up3 = at-if4 .before in
+    let at-wide2 = at-up3 .before in
     let at-wide = at-wide2 .before .before in
-    let at-if2 = at-wide .before in
+    let at-if2 = at-wide .before .before .before in
     let at-up = at-if2 .before in
-    let z = at-up .before .before .before in
-    let z = z in
-    let e = at-if3 .if3 .left ∙ at-up2 .up2 .ensures in
+    let z = at-up .before .before .before .before in
+    let q = at-if4 .if4 .left ∙ at-up3 .up3 .ensures in
     record {
       counted = z .pre .0;
-      room = omega (arith, ap (λ n. at-wide .wide .result * n) (at-wide3 .wide3 .ensures .0), c .if4 .left, z .pre .0 .lines-are);
-      product = e;
-      positive = product-positive (at-wide .wide .result) (at-wide2 .wide2 .result) (z .args .s .m) e (z .pre .1);
+      room = omega (arith, ap (λ n. at-wide .wide .result * n) (at-wide3 .wide3 .ensures .0), e .if5 .left, z .pre .0 .lines-are);
+      product = q;
+      positive = product-positive (at-wide .wide .result) (at-wide2 .wide2 .result) (z .args .s .m) q (z .pre .1);
       small = omega (arith, at-if2 .if2 .left, at-up .up .ensures);
     }
 
-returns-5 : tie.Need-returns-5
-returns-5 c =
-    let at-wide = c .before .before .before .before .before .before .before .before in
-    let z = at-wide .before .before .before .before .before in
-    λ x. let a = z .args in
-    subst (Characters (a .s) (now (a .words)) (now (a .rows))) (at-wide .wide .ensures .0) (c .marked-characters .ensures x)
+small-characters-requires : tie.Need-small-characters-requires
+small-characters-requires c κs = (parted (c .before .before), search needs)
+
+returns-6 : tie.Need-returns-6
+returns-6 c =
+    let at-wide = c .before .before .before .before .before .before .before .before .before .before in
+    λ x. subst (Characters _ _ _) (at-wide .wide .ensures .0) (c .small-characters .ensures x)
+
+all-characters-requires : tie.Need-all-characters-requires
+all-characters-requires c κs =
+    let e = c .before .before .before in
+    let at-if3 = e .before .before .before .before .before .before .before .before in
+    (parted e, omega (arith, at-if3 .if3 .left, at-if3 .before .up2 .ensures))
+
+same-length : tie.Need-same-length
+same-length c = search needs
+
+returns-7 : tie.Need-returns-7
+returns-7 c =
+    let at-wide = c .before .before .before .before .before .before .before .before .before .before .before .before .before in
+    λ x. subst (Characters _ _ _) (at-wide .wide .ensures .0) (c .before .before .all-characters .ensures x)
 
 pub characters-spec : {M : Type 1} → statement M
 characters-spec =
@@ -85,14 +107,19 @@ characters-spec =
     returns
     up-requires
     returns-2
+    up-requires-2
+    returns-3
     wide-requires
     div-wide
     wide-requires-2
-    mul-if3
-    up-requires-2
-    returns-3
-    wide-requires-3
     mul-if4
+    up-requires-3
     returns-4
-    marked-characters-requires
-    returns-5)
+    wide-requires-3
+    mul-if5
+    returns-5
+    small-characters-requires
+    returns-6
+    all-characters-requires
+    same-length
+    returns-7)

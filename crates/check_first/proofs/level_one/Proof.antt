@@ -19,8 +19,11 @@ returns c = λ x. absurd (false≢true x)
 
 characters-requires : tie.Need-characters-requires
 characters-requires c κs =
-    let z = c .before .before .before in
+    let z = c .before .before .before .before .before in
     z .pre
+
+same-length : tie.Need-same-length
+same-length c = search needs
 
 returns-2 : tie.Need-returns-2
 returns-2 c = λ x. absurd (false≢true x)
@@ -31,9 +34,9 @@ up-requires c κs = search needs
 heads-behind-requires : tie.Need-heads-behind-requires
 heads-behind-requires c κs =
     let at-if2 = c .before in
-    let at-characters = at-if2 .before in
-    let at-if1 = at-characters .before in
-    let z = at-if1 .before .before .before in
+    let at-characters = at-if2 .before .before .before in
+    let at-if1 = at-characters .before .before in
+    let z = at-if1 .before .before .before .before in
     let a = z .args in
     let C = at-characters .characters .ensures (not-false (at-characters .characters .result) (at-if2 .if2 .left)) in (
       z .pre .0,
@@ -41,13 +44,16 @@ heads-behind-requires c κs =
           (character-opened C (λ l. omega (arith, at-if1 .if1 .left))),
     )
 
+same-length-2 : tie.Need-same-length-2
+same-length-2 c = search needs
+
 returns-3 : tie.Need-returns-3
 returns-3 c = λ x. absurd (false≢true x)
 
 count-of-requires : tie.Need-count-of-requires
 count-of-requires c κs =
     let at-heads-behind = c .before in
-    let z = at-heads-behind .before .before .before .before .before .before .before in
+    let z = at-heads-behind .before .before .before .before .before .before .before .before .before .before .before in
     let a = z .args in
     let C = z .pre .0 in
     let h = sym (at-heads-behind .heads-behind .ensures) ∙ not-false (at-heads-behind .heads-behind .result) (c .if3 .left) in (
@@ -63,15 +69,18 @@ count-of-requires c κs =
 up-requires-2 : tie.Need-up-requires-2
 up-requires-2 c κs = search needs
 
+same-length-3 : tie.Need-same-length-3
+same-length-3 c = search needs
+
 returns-4 : tie.Need-returns-4
 returns-4 c =
     let at-count-of = c .before in
     let at-if3 = at-count-of .before in
     let at-heads-behind = at-if3 .before in
     let at-if2 = at-heads-behind .before .before in
-    let at-characters = at-if2 .before in
-    let at-if1 = at-characters .before in
-    let z = at-if1 .before .before .before in
+    let at-characters = at-if2 .before .before .before in
+    let at-if1 = at-characters .before .before in
+    let z = at-if1 .before .before .before .before in
     λ x.
     let a = z .args in
     let C = z .pre .0 in
@@ -93,10 +102,13 @@ level-one-spec =
     element-copy-out-if1
     returns
     characters-requires
+    same-length
     returns-2
     up-requires
     heads-behind-requires
+    same-length-2
     returns-3
     count-of-requires
     up-requires-2
+    same-length-3
     returns-4)

@@ -1,4 +1,5 @@
 -- `level_fits` compares, then asks the intertwiners.
+use borrow.Author.Needs.{needs}
 use borrow.Author.Tests.{not-false}
 use mathlib.Core.Bool.{false≢true}
 use Rattle.check_level.proofs.Level as level
@@ -7,23 +8,35 @@ use Rattle.check_level.proofs.level_fits.Tie as tie
 
 compares-requires : tie.Need-compares-requires
 compares-requires c κs =
-    let z = c .before .before in
+    let z = c .before .before .before .before .before .before in
     z .pre .0
+
+same-length : tie.Need-same-length
+same-length c = search needs
+
+same-length-2 : tie.Need-same-length-2
+same-length-2 c = search needs
 
 returns : tie.Need-returns
 returns c = λ e. absurd (false≢true e)
 
 level-relates-requires : tie.Need-level-relates-requires
 level-relates-requires c κs =
-    let at-compares = c .before in
-    let z = at-compares .before .before .before in
+    let at-compares = c .before .before .before .before .before in
+    let z = at-compares .before .before .before .before .before .before .before in
     (z .pre .0, at-compares .compares .ensures (not-false (at-compares .compares .result) (c .if1 .left)), z .pre .1)
+
+same-length-3 : tie.Need-same-length-3
+same-length-3 c = search needs
+
+same-length-4 : tie.Need-same-length-4
+same-length-4 c = search needs
 
 returns-2 : tie.Need-returns-2
 returns-2 c =
     let at-if1 = c .before in
-    let at-compares = at-if1 .before in
-    let z = at-compares .before .before .before in
+    let at-compares = at-if1 .before .before .before .before .before in
+    let z = at-compares .before .before .before .before .before .before .before in
     λ e. level.level-fits (z .pre .0) (at-compares .compares .ensures (not-false (at-compares .compares .result) (at-if1 .if1 .left)))
     (c .level-relates .ensures e)
 
@@ -32,6 +45,10 @@ level-fits-spec =
     tie.close
     (tie.spec
     compares-requires
+    same-length
+    same-length-2
     returns
     level-relates-requires
+    same-length-3
+    same-length-4
     returns-2)
