@@ -6,8 +6,11 @@
 //   fixes_power                  conjugation by a generator fixes its power word
 //   is_inner_at, is_inner_on, is_inner    its power is conjugation by that word
 //   level_passes, consistent     the test for a generator; for all
+ghost use mathlib.Core.Path.{_≡_};
 ghost use Prim.Native.Nat.{suc, _≤_, _<_};
+ghost use lib.ListN.{length};
 ghost use Rattle.definitions.specs.Lists.{allBelow};
+ghost use Rattle.definitions.specs.Presentation.{maxGenerators};
 ghost use Rattle.definitions.specs.Consistency.{keepsPowers, keepsCommutators, fixesPower, powerIsInner, levelTest};
 ghost use Rattle.rows.specs.Rows.{Ranged};
 ghost use Rattle.commuting.specs.Commuting.{Central};
@@ -32,18 +35,16 @@ use rows::word;
 // A normal form for each generator.
 pub type Forms = [[u32; GENERATORS]; GENERATORS];
 
-// The images of the generators below i under conjugation by generator i.
-fn images(primes: &Row, rows: &Rows, reach: &Reaches, i: usize) -> Forms
-    requires { ⌜ Prepared (suc i) (now primes) (now rows) (now reach) ⌝ }
-    ensures { λ r. ⌜ Images i (now (primes .entry)) (now (rows .entry)) r i ⌝ }
+// The images of the generators below i under conjugation by generator i, written into rows that are lent.
+fn images(primes: &Row, rows: &Rows, reach: &Reaches, i: usize, h: &mut Forms)
+    requires { ⌜ Prepared (suc i) (now primes) (now rows) (now reach) × (length (now h) ≡ maxGenerators) ⌝ }
+    ensures { λ _. ⌜ Images i (now (primes .entry)) (now (rows .entry)) (now (h .exit)) i × (length (now (h .exit)) ≡ maxGenerators) ⌝ }
 {
-    let mut h = [[0u32; GENERATORS]; GENERATORS];
     for k in 0..i {
         let g = generator(k);
         let c = conjugate(primes, rows, reach, i, i, g);
         h[k] = c;
     }
-    h
 }
 
 // The value over the images h of the first k exponents of x, on level i.
@@ -231,16 +232,24 @@ fn is_inner(primes: &Row, rows: &Rows, reach: &Reaches, rise: &Reaches, i: usize
     true
 }
 
-// The known test for generator i.
-fn level_passes(primes: &Row, rows: &Rows, reach: &Reaches, rise: &Reaches, i: usize) -> bool
-    requires { ⌜ Prepared (suc i) (now primes) (now rows) (now reach) × Central (suc i) (now rows) (now rise) ⌝ }
+// The known test for generator i, with rows that are lent for the images of those below it.
+fn level_passes(
+    primes: &Row,
+    rows: &Rows,
+    reach: &Reaches,
+    rise: &Reaches,
+    i: usize,
+    h: &mut Forms,
+) -> bool
+    requires { ⌜ Prepared (suc i) (now primes) (now rows) (now reach) × Central (suc i) (now rows) (now rise) × (length (now h) ≡ maxGenerators) ⌝ }
     ensures { λ r. ⌜ Settles i (now (primes .entry)) (now (rows .entry)) (λ P. levelTest P i) r ⌝ }
+    ensures { λ _. ⌜ length (now (h .exit)) ≡ maxGenerators ⌝ }
 {
-    let h = images(primes, rows, reach, i);
-    if !keeps_powers(primes, rows, reach, &h, i) {
+    images(primes, rows, reach, i, h);
+    if !keeps_powers(primes, rows, reach, h, i) {
         return false;
     }
-    if !keeps_commutators(primes, rows, reach, rise, &h, i) {
+    if !keeps_commutators(primes, rows, reach, rise, h, i) {
         return false;
     }
     if !fixes_power(primes, rows, reach, i) {
@@ -256,8 +265,9 @@ pub fn consistent(primes: &Row, rows: &Rows, n: usize) -> bool
 {
     let reach = reaches(rows, n);
     let rise = rises(rows, &reach, n);
+    let mut h = [[0u32; GENERATORS]; GENERATORS];
     for i in 0..n {
-        if !level_passes(primes, rows, &reach, &rise, i) {
+        if !level_passes(primes, rows, &reach, &rise, i, &mut h) {
             return false;
         }
     }

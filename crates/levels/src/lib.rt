@@ -2,7 +2,7 @@
 //
 //   SPARE                          rows more than an array wants
 //   noted_level                    a level behind the level below, with notes that are lent
-//   level_of_16 .. level_of_any    with arrays for so many representations; next_level chooses among them
+//   level_of_4 .. level_of_any     with arrays for so many representations; next_level chooses among them
 //   Reached, levels_to             the first levels
 //   build_levels                   all of them
 ghost use Prim.Native.Nat.{_*_, _≤_, _<_};
@@ -34,7 +34,27 @@ fn noted_level(words: &mut [u32], rows: &Rows, notes: &mut [u32], f: Frame) -> W
     builder::append_level(words, rows, notes, &mut blocks, f)
 }
 
-// Appends it with notes and blocks for 16 representations: an orbit that moves has no more blocks than there are representations.
+// Appends it with notes and blocks for 4 representations: an orbit that moves has no more blocks than there are representations.
+fn level_of_4(words: &mut [u32], rows: &Rows, f: Frame) -> Written
+    requires { ⌜ LevelAsked f (now words) (now rows) × (f .reps ≤ 4) ⌝ }
+    ensures { λ t. ⌜ LevelMade f (now (words .entry)) (now (rows .entry)) t (now (words .exit)) ⌝ }
+{
+    let mut notes = [0u32; NOTE * 4];
+    let mut blocks = [0u32; BLOCK * 4];
+    builder::append_level(words, rows, &mut notes, &mut blocks, f)
+}
+
+// Appends it with notes and blocks for 8.
+fn level_of_8(words: &mut [u32], rows: &Rows, f: Frame) -> Written
+    requires { ⌜ LevelAsked f (now words) (now rows) × (f .reps ≤ 8) ⌝ }
+    ensures { λ t. ⌜ LevelMade f (now (words .entry)) (now (rows .entry)) t (now (words .exit)) ⌝ }
+{
+    let mut notes = [0u32; NOTE * 8];
+    let mut blocks = [0u32; BLOCK * 8];
+    builder::append_level(words, rows, &mut notes, &mut blocks, f)
+}
+
+// Appends it with notes and blocks for 16.
 fn level_of_16(words: &mut [u32], rows: &Rows, f: Frame) -> Written
     requires { ⌜ LevelAsked f (now words) (now rows) × (f .reps ≤ 16) ⌝ }
     ensures { λ t. ⌜ LevelMade f (now (words .entry)) (now (rows .entry)) t (now (words .exit)) ⌝ }
@@ -54,15 +74,6 @@ fn level_of_64(words: &mut [u32], rows: &Rows, f: Frame) -> Written
     builder::append_level(words, rows, &mut notes, &mut blocks, f)
 }
 
-// Appends it with notes for 128 representations.
-fn level_of_128(words: &mut [u32], rows: &Rows, f: Frame) -> Written
-    requires { ⌜ LevelAsked f (now words) (now rows) × (f .reps ≤ 128) ⌝ }
-    ensures { λ t. ⌜ LevelMade f (now (words .entry)) (now (rows .entry)) t (now (words .exit)) ⌝ }
-{
-    let mut notes = [0u32; NOTE * (128 + SPARE)];
-    noted_level(words, rows, &mut notes, f)
-}
-
 // Appends it with notes for 256 representations.
 fn level_of_256(words: &mut [u32], rows: &Rows, f: Frame) -> Written
     requires { ⌜ LevelAsked f (now words) (now rows) × (f .reps ≤ 256) ⌝ }
@@ -78,15 +89,6 @@ fn level_of_512(words: &mut [u32], rows: &Rows, f: Frame) -> Written
     ensures { λ t. ⌜ LevelMade f (now (words .entry)) (now (rows .entry)) t (now (words .exit)) ⌝ }
 {
     let mut notes = [0u32; NOTE * (512 + SPARE)];
-    noted_level(words, rows, &mut notes, f)
-}
-
-// Appends it with notes for 1,024 representations.
-fn level_of_1024(words: &mut [u32], rows: &Rows, f: Frame) -> Written
-    requires { ⌜ LevelAsked f (now words) (now rows) × (f .reps ≤ 1024) ⌝ }
-    ensures { λ t. ⌜ LevelMade f (now (words .entry)) (now (rows .entry)) t (now (words .exit)) ⌝ }
-{
-    let mut notes = [0u32; NOTE * (1024 + SPARE)];
     noted_level(words, rows, &mut notes, f)
 }
 
@@ -113,23 +115,23 @@ fn next_level(words: &mut [u32], rows: &Rows, f: Frame) -> Written
     requires { ⌜ LevelAsked f (now words) (now rows) ⌝ }
     ensures { λ t. ⌜ LevelMade f (now (words .entry)) (now (rows .entry)) t (now (words .exit)) ⌝ }
 {
+    if f.reps <= 4 {
+        return level_of_4(words, rows, f);
+    }
+    if f.reps <= 8 {
+        return level_of_8(words, rows, f);
+    }
     if f.reps <= 16 {
         return level_of_16(words, rows, f);
     }
     if f.reps <= 64 {
         return level_of_64(words, rows, f);
     }
-    if f.reps <= 128 {
-        return level_of_128(words, rows, f);
-    }
     if f.reps <= 256 {
         return level_of_256(words, rows, f);
     }
     if f.reps <= 512 {
         return level_of_512(words, rows, f);
-    }
-    if f.reps <= 1024 {
-        return level_of_1024(words, rows, f);
     }
     if f.reps <= 2048 {
         return level_of_2048(words, rows, f);

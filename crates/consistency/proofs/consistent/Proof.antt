@@ -1,11 +1,13 @@
 -- `consistent` meets its contract: the test passed for every generator so far.
 use borrow.Author.Needs.{needs}
-use mathlib.Core.Path.{_≡_, subst}
+use mathlib.Core.Path.{_≡_, refl, subst}
 use mathlib.Core.Bool.{true}
 use Prim.Native.Nat.{suc, _-_, _≤_}
 use native.Mathlib.Omega.{arith}
+use lib.ListN.{length}
 use denote.Ref.{now}
 use borrow.Author.Tests.{not-true, not-false}
+use Rattle.definitions.specs.Presentation.{maxGenerators}
 use Rattle.definitions.specs.Lists.{allBelow}
 use Rattle.definitions.specs.Consistency.{levelTest}
 use Rattle.consistency.specs.Answers.{TestAnswer}
@@ -17,10 +19,10 @@ use Rattle.consistency.proofs.consistent.Statement.{statement}
 use Rattle.consistency.proofs.consistent.Tie as tie
 
 abbrev Inv-loop : tie.InvT-loop
-Inv-loop primes rows n reach rise i₀ i = (i ≤ n) × TestAnswer n primes rows (λ P. allBelow i (levelTest P)) true
+Inv-loop primes rows n reach rise h₀ i₀ h i = (i ≤ n) × TestAnswer n primes rows (λ P. allBelow i (levelTest P)) true × (length h ≡ maxGenerators)
 
 abbrev μ-loop : tie.MeasureT-loop
-μ-loop primes rows n reach rise i₀ i = n - i
+μ-loop primes rows n reach rise h₀ i₀ h i = n - i
 
 reaches-requires : tie.Need-reaches-requires Inv-loop μ-loop
 reaches-requires c κs = c .pre .few
@@ -29,21 +31,23 @@ rises-requires : tie.Need-rises-requires Inv-loop μ-loop
 rises-requires c κs = (c .before .before .pre .few, c .before .reaches .ensures)
 
 loop-holds : tie.Need-loop-holds Inv-loop μ-loop
-loop-holds c = (search needs, answer-none)
+loop-holds c = (search needs, answer-none, refl)
 
 level-passes-requires : tie.Need-level-passes-requires Inv-loop μ-loop
 level-passes-requires c κs =
-    let r = c .before .before .before .before in
+    let l = c .before .before .before .before in
+    let r = l .before in
     let z = r .before .before .before in
-    let few : suc (c .before .before .before .loop .i) ≤ z .args .n = search needs in (
+    let few : suc (l .loop .i) ≤ z .args .n = search needs in (
       record { ranged = ready-below few (z .pre); quiet = quiet-below few (r .before .before .reaches .ensures) },
       central-below few (r .rises .ensures),
+      l .loop .inv .2,
     )
 
 returns : tie.Need-returns Inv-loop μ-loop
 returns c =
-    let l = c .before .before .before .before .before .loop in
-    decides (answer-fails (search needs) (l .inv .1) (c .before .level-passes .ensures) (not-true _ (c .if1 .taken)))
+    let l = c .before .before .before .before .before .before .loop in
+    decides (answer-fails (search needs) (l .inv .1) (c .before .level-passes .ensures .0) (not-true _ (c .if1 .taken)))
 
 add-i : tie.Need-add-i Inv-loop μ-loop
 add-i c = search needs
@@ -53,8 +57,8 @@ loop-less c = search needs
 
 loop-again : tie.Need-loop-again Inv-loop μ-loop
 loop-again c =
-    let l = c .before .before .before .before .before .loop in
-    (search needs, answer-more (search needs) (l .inv .1) (c .before .level-passes .ensures) (not-false _ (c .if1 .left)))
+    let l = c .before .before .before .before .before .before .loop in
+    (search needs, answer-more (search needs) (l .inv .1) (c .before .level-passes .ensures .0) (not-false _ (c .if1 .left)), c .before .level-passes .ensures .1)
 
 returns-2 : tie.Need-returns-2 Inv-loop μ-loop
 returns-2 c =

@@ -1,5 +1,5 @@
 -- `images` meets its contract: the first k rows are images.
-use mathlib.Core.Path.{_≡_, refl, _∙_, subst}
+use mathlib.Core.Path.{_≡_, _∙_, subst}
 use Prim.Native.Nat.{_-_, _≤_}
 use native.Mathlib.Omega.{arith}
 use lib.ListN.{length, length-set}
@@ -18,7 +18,7 @@ abbrev μ-loop : tie.MeasureT-loop
 μ-loop primes rows reach i h₀ k₀ h k = i - k
 
 loop-holds : tie.Need-loop-holds Inv-loop μ-loop
-loop-holds c = (search needs, refl, images-none)
+loop-holds c = (search needs, c .pre .1, images-none)
 
 generator-requires : tie.Need-generator-requires Inv-loop μ-loop
 generator-requires c κs = search needs
@@ -26,13 +26,13 @@ generator-requires c κs = search needs
 conjugate-requires : tie.Need-conjugate-requires Inv-loop μ-loop
 conjugate-requires c κs =
     let z = c .before .before .before in
-    record { prepared = z .pre; level = omega arith; small = generator-small (z .pre) (c .generator .ensures) }
+    record { prepared = z .pre .0; level = omega arith; small = generator-small (z .pre .0) (c .generator .ensures) }
 
-mul-h : tie.Need-mul-h Inv-loop μ-loop
-mul-h c = search needs
+mul-c : tie.Need-mul-c Inv-loop μ-loop
+mul-c c = search needs
 
-array-set-from-h : tie.Need-array-set-from-h Inv-loop μ-loop
-array-set-from-h c = search needs
+element-set-from-c : tie.Need-element-set-from-c Inv-loop μ-loop
+element-set-from-c c = search needs
 
 add-k : tie.Need-add-k Inv-loop μ-loop
 add-k c = search needs
@@ -53,7 +53,7 @@ returns c =
     let z = c .before .before in
     let l = c .before .loop in
     let e : l .k ≡ z .args .i = omega arith in
-    subst (Images (z .args .i) (now (z .args .primes)) (now (z .args .rows)) (l .h)) e (l .inv .2)
+    (subst (Images (z .args .i) (now (z .args .primes)) (now (z .args .rows)) (l .h)) e (l .inv .2), l .inv .1)
 
 pub images-spec : {M : Type 1} → statement M
 images-spec =
@@ -64,8 +64,8 @@ images-spec =
     loop-holds
     generator-requires
     conjugate-requires
-    mul-h
-    array-set-from-h
+    mul-c
+    element-set-from-c
     add-k
     loop-less
     loop-again

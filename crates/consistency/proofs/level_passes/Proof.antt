@@ -12,15 +12,17 @@ keeps-powers-requires : tie.Need-keeps-powers-requires
 keeps-powers-requires c κs = search needs
 
 returns : tie.Need-returns
-returns c = level-first (c .before .keeps-powers .ensures) (not-true _ (c .if1 .taken))
+returns c = (level-first (c .before .keeps-powers .ensures) (not-true _ (c .if1 .taken)), c .before .before .before .images .ensures .1)
 
 keeps-commutators-requires : tie.Need-keeps-commutators-requires
 keeps-commutators-requires c κs = search needs
 
 returns-2 : tie.Need-returns-2
 returns-2 c =
-    let p = c .before .before .before in
-    level-second (p .before .keeps-powers .ensures) (not-false _ (p .if1 .left)) (c .before .keeps-commutators .ensures) (not-true _ (c .if2 .taken))
+    let p = c .before .before .before in (
+      level-second (p .before .keeps-powers .ensures) (not-false _ (p .if1 .left)) (c .before .keeps-commutators .ensures) (not-true _ (c .if2 .taken)),
+      c .before .before .before .before .before .before .images .ensures .1,
+    )
 
 fixes-power-requires : tie.Need-fixes-power-requires
 fixes-power-requires c κs = search needs
@@ -28,9 +30,11 @@ fixes-power-requires c κs = search needs
 returns-3 : tie.Need-returns-3
 returns-3 c =
     let k = c .before .before in
-    let p = k .before .before .before in
-    level-third (p .before .keeps-powers .ensures) (not-false _ (p .if1 .left)) (k .before .keeps-commutators .ensures) (not-false _ (k .if2 .left))
-    (c .before .fixes-power .ensures) (not-true _ (c .if3 .taken))
+    let p = k .before .before .before in (
+      level-third (p .before .keeps-powers .ensures) (not-false _ (p .if1 .left)) (k .before .keeps-commutators .ensures) (not-false _ (k .if2 .left))
+          (c .before .fixes-power .ensures) (not-true _ (c .if3 .taken)),
+      c .before .before .before .before .before .before .before .before .images .ensures .1,
+    )
 
 is-inner-requires : tie.Need-is-inner-requires
 is-inner-requires c κs = search needs
@@ -39,9 +43,11 @@ returns-4 : tie.Need-returns-4
 returns-4 c =
     let f = c .before in
     let k = f .before .before in
-    let p = k .before .before .before in
-    level-last (p .before .keeps-powers .ensures) (not-false _ (p .if1 .left)) (k .before .keeps-commutators .ensures) (not-false _ (k .if2 .left))
-    (f .before .fixes-power .ensures) (not-false _ (f .if3 .left)) (c .is-inner .ensures)
+    let p = k .before .before .before in (
+      level-last (p .before .keeps-powers .ensures) (not-false _ (p .if1 .left)) (k .before .keeps-commutators .ensures) (not-false _ (k .if2 .left))
+          (f .before .fixes-power .ensures) (not-false _ (f .if3 .left)) (c .is-inner .ensures),
+      c .before .before .before .before .before .before .before .before .before .images .ensures .1,
+    )
 
 pub level-passes-spec : {M : Type 1} → statement M
 level-passes-spec =
