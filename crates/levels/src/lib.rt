@@ -64,6 +64,16 @@ fn level_of_16(words: &mut [u32], rows: &Rows, f: Frame) -> Written
     builder::append_level(words, rows, &mut notes, &mut blocks, f)
 }
 
+// Appends it with notes and blocks for 32.
+fn level_of_32(words: &mut [u32], rows: &Rows, f: Frame) -> Written
+    requires { ⌜ LevelAsked f (now words) (now rows) × (f .reps ≤ 32) ⌝ }
+    ensures { λ t. ⌜ LevelMade f (now (words .entry)) (now (rows .entry)) t (now (words .exit)) ⌝ }
+{
+    let mut notes = [0u32; NOTE * 32];
+    let mut blocks = [0u32; BLOCK * 32];
+    builder::append_level(words, rows, &mut notes, &mut blocks, f)
+}
+
 // Appends it with notes and blocks for 64.
 fn level_of_64(words: &mut [u32], rows: &Rows, f: Frame) -> Written
     requires { ⌜ LevelAsked f (now words) (now rows) × (f .reps ≤ 64) ⌝ }
@@ -72,15 +82,6 @@ fn level_of_64(words: &mut [u32], rows: &Rows, f: Frame) -> Written
     let mut notes = [0u32; NOTE * (64 + SPARE)];
     let mut blocks = [0u32; BLOCK * (64 + SPARE)];
     builder::append_level(words, rows, &mut notes, &mut blocks, f)
-}
-
-// Appends it with notes for 256 representations.
-fn level_of_256(words: &mut [u32], rows: &Rows, f: Frame) -> Written
-    requires { ⌜ LevelAsked f (now words) (now rows) × (f .reps ≤ 256) ⌝ }
-    ensures { λ t. ⌜ LevelMade f (now (words .entry)) (now (rows .entry)) t (now (words .exit)) ⌝ }
-{
-    let mut notes = [0u32; NOTE * (256 + SPARE)];
-    noted_level(words, rows, &mut notes, f)
 }
 
 // Appends it with notes for 512 representations.
@@ -124,11 +125,11 @@ fn next_level(words: &mut [u32], rows: &Rows, f: Frame) -> Written
     if f.reps <= 16 {
         return level_of_16(words, rows, f);
     }
+    if f.reps <= 32 {
+        return level_of_32(words, rows, f);
+    }
     if f.reps <= 64 {
         return level_of_64(words, rows, f);
-    }
-    if f.reps <= 256 {
-        return level_of_256(words, rows, f);
     }
     if f.reps <= 512 {
         return level_of_512(words, rows, f);
