@@ -128,7 +128,7 @@ pub fn conjugate(primes: &Row, rows: &Rows, reach: &Reaches, k: usize, j: usize,
     requires { ⌜ Conjugand k j (now primes) (now rows) (now reach) x ⌝ }
     ensures { λ r. ⌜ Conjugate k j (now (primes .entry)) (now (rows .entry)) x r ⌝ }
 {
-    let m = moved(rows, reach, k, j, x);
+    let m = moved(rows, reach, k, j, &x);
     if m == 0 {
         return x;
     }

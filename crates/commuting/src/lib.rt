@@ -93,9 +93,9 @@ pub fn rises(rows: &Rows, reach: &Reaches, n: usize) -> Reaches
 }
 
 // One more than the highest of the first k exponents of x that conjugation by generator j may change; 0 where it keeps all.
-pub fn moved(rows: &Rows, reach: &Reaches, k: usize, j: usize, x: Row) -> usize
+pub fn moved(rows: &Rows, reach: &Reaches, k: usize, j: usize, x: &Row) -> usize
     requires { ⌜ (k ≤ j) × (j < maxGenerators) × Reach (now rows) j (getD (now reach) j 0) ⌝ }
-    ensures { λ r. ⌜ KeepsFrom (now (rows .entry)) k j x r ⌝ }
+    ensures { λ r. ⌜ KeepsFrom (now (rows .entry)) k j (now (x .entry)) r ⌝ }
 {
     let first = reach[j];
     let mut m = if first < k { first } else { k };

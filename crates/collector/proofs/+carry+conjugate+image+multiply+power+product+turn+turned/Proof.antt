@@ -186,12 +186,15 @@ carry-returns-2 t c =
     carry-copied (z .pre .1 .0) (u .word .ensures) (z .pre .1 .1) (c .before .before .product .ensures) (c .copied .ensures)
 
 conjugate-moved-requires : (t : ℕ) → conjugate-lts.Need-moved-requires (conjugate-claims t) (conjugate-at t) conjugate.Post
-conjugate-moved-requires t c κs = let q = c .pre .1 in (q .level, omega (arith, q .prepared .ranged .few), q .prepared .quiet .at (c .args .j) (omega arith))
+conjugate-moved-requires t c κs =
+    let z = c .before in
+    let q = z .pre .1 in
+    (q .level, omega (arith, q .prepared .ranged .few), q .prepared .quiet .at (z .args .j) (omega arith))
 
 conjugate-returns : (t : ℕ) → conjugate-lts.Need-returns (conjugate-claims t) (conjugate-at t) conjugate.Post
 conjugate-returns t c =
     let m = c .before in
-    let z = m .before in
+    let z = m .before .before in
     conjugate-still (z .pre .1) (m .moved .ensures) (c .if1 .taken)
 
 conjugate-sub-l : (t : ℕ) → conjugate-lts.Need-sub-l (conjugate-claims t) (conjugate-at t) conjugate.Post
@@ -200,7 +203,7 @@ conjugate-sub-l t c = search needs
 conjugate-conjugate-requires : (t : ℕ) → conjugate-lts.Need-conjugate-requires (conjugate-claims t) (conjugate-at t) conjugate.Post
 conjugate-conjugate-requires t c κs =
     let m = c .before in
-    let z = m .before in
+    let z = m .before .before in
     let asked = lower-asks (z .pre .1) (m .moved .ensures) (c .if1 .left) in
     (omega (arith, z .pre .0, asked .level, m .moved .ensures .less, c .if1 .left), asked)
 
@@ -210,13 +213,13 @@ conjugate-mul-z t c = search needs
 conjugate-array-write-z : (t : ℕ) → conjugate-lts.Need-array-write-z (conjugate-claims t) (conjugate-at t) conjugate.Post
 conjugate-array-write-z t c =
     let m = c .before .before in
-    let z = m .before in
+    let z = m .before .before in
     moved-within (z .pre .1) (m .moved .ensures) (c .before .if1 .left)
 
 conjugate-image-requires : (t : ℕ) → conjugate-lts.Need-image-requires (conjugate-claims t) (conjugate-at t) conjugate.Post
 conjugate-image-requires t c κs =
     let m = c .before .before in
-    let z = m .before in
+    let z = m .before .before in
     let low = moved-level (z .pre .1) (m .moved .ensures) (c .before .if1 .left) in
     (omega (arith, z .pre .0), (z .pre .1 .prepared, omega (arith, z .pre .1 .level)))
 
@@ -226,13 +229,13 @@ conjugate-mul-power t c = search needs
 conjugate-array-read-power : (t : ℕ) → conjugate-lts.Need-array-read-power (conjugate-claims t) (conjugate-at t) conjugate.Post
 conjugate-array-read-power t c =
     let m = c .before .before .before in
-    let z = m .before in
+    let z = m .before .before in
     moved-within (z .pre .1) (m .moved .ensures) (c .before .before .if1 .left)
 
 conjugate-power-requires : (t : ℕ) → conjugate-lts.Need-power-requires (conjugate-claims t) (conjugate-at t) conjugate.Post
 conjugate-power-requires t c κs =
     let m = c .before .before .before in
-    let z = m .before in
+    let z = m .before .before in
     let few = m .moved .ensures .less in
     (omega (arith, z .pre .0), power-asks (z .pre .1) (m .moved .ensures) (c .before .before .if1 .left) (c .image .ensures))
 
@@ -240,7 +243,7 @@ conjugate-product-requires : (t : ℕ) → conjugate-lts.Need-product-requires (
 conjugate-product-requires t c κs =
     let q = c .before .before in
     let m = q .before .before in
-    let z = m .before in
+    let z = m .before .before in
     let few = m .moved .ensures .less in
     let long : length (q .conjugate .result) ≡ maxGenerators = search needs in (
       omega (arith, z .pre .0),
@@ -253,20 +256,20 @@ conjugate-mul-stacked t c = search needs
 conjugate-array-read-stacked : (t : ℕ) → conjugate-lts.Need-array-read-stacked (conjugate-claims t) (conjugate-at t) conjugate.Post
 conjugate-array-read-stacked t c =
     let m = c .before .before .before .before .before in
-    let z = m .before in
+    let z = m .before .before in
     moved-within (z .pre .1) (m .moved .ensures) (c .before .before .before .before .if1 .left)
 
 conjugate-stacked-requires : (t : ℕ) → conjugate-lts.Need-stacked-requires (conjugate-claims t) (conjugate-at t) conjugate.Post
 conjugate-stacked-requires t c κs =
     let m = c .before .before .before .before .before in
-    let z = m .before in
+    let z = m .before .before in
     moved-within (z .pre .1) (m .moved .ensures) (c .before .before .before .before .if1 .left)
 
 conjugate-returns-2 : (t : ℕ) → conjugate-lts.Need-returns-2 (conjugate-claims t) (conjugate-at t) conjugate.Post
 conjugate-returns-2 t c =
     let q = c .before .before .before .before in
     let m = q .before .before in
-    let z = m .before in
+    let z = m .before .before in
     let long : length (q .conjugate .result) ≡ maxGenerators = search needs in
     conjugate-top (z .pre .1) (m .moved .ensures) (q .before .if1 .left) long (q .conjugate .ensures)
     (c .before .before .before .image .ensures) (c .before .before .power .ensures) (c .before .product .ensures) (c .stacked .ensures)

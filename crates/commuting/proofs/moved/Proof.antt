@@ -27,7 +27,7 @@ element-copy-out-first c = search needs
 loop-holds : tie.Need-loop-holds Inv-loop μ-loop
 loop-holds c =
     let z = c .before .before in
-    let keeps-from = KeepsFrom (now (z .args .rows)) (z .args .k) (z .args .j) (z .args .t5) in (
+    let keeps-from = KeepsFrom (now (z .args .rows)) (z .args .k) (z .args .j) (now (z .args .x)) in (
       search needs,
       search needs,
       ⊎-elim (λ w. omega arith) (λ w. omega arith) (c .if1 .came),
@@ -43,8 +43,8 @@ sub-stays-2 c = search needs
 mul-stays : tie.Need-mul-stays Inv-loop μ-loop
 mul-stays c = search needs
 
-array-read-stays : tie.Need-array-read-stays Inv-loop μ-loop
-array-read-stays c = search needs
+element-copy-out-stays : tie.Need-element-copy-out-stays Inv-loop μ-loop
+element-copy-out-stays c = search needs
 
 stays-requires : tie.Need-stays-requires Inv-loop μ-loop
 stays-requires c κs = search needs
@@ -60,14 +60,14 @@ loop-less c = search needs
 
 loop-again : tie.Need-loop-again Inv-loop μ-loop
 loop-again c =
-    let l = c .before .before .before .before .loop in
+    let l = c .before .before .before .before .before .loop in
     (search needs, search needs, search needs, moved-more (search needs) (sym (c .before .stays .ensures) ∙ not-false _ (c .if2 .left)) (l .inv .3))
 
 returns-2 : tie.Need-returns-2 Inv-loop μ-loop
 returns-2 c =
     let z = c .before .before .before .before in
     let e : c .before .loop .m ≡ 0 = omega arith in
-    subst (KeepsFrom (now (z .args .rows)) (z .args .k) (z .args .j) (z .args .t5)) e (c .before .loop .inv .3)
+    subst (KeepsFrom (now (z .args .rows)) (z .args .k) (z .args .j) (now (z .args .x))) e (c .before .loop .inv .3)
 
 pub moved-spec : {M : Type 1} → statement M
 moved-spec =
@@ -81,7 +81,7 @@ moved-spec =
     sub-stays
     sub-stays-2
     mul-stays
-    array-read-stays
+    element-copy-out-stays
     stays-requires
     returns
     sub-m
