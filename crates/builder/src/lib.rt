@@ -29,7 +29,7 @@ fn survey_level(low: &[u32], rows: &Rows, notes: &mut [u32], f: Frame) -> u32
     let x = survey::count_numbers(low, notes, f);
     let t = level::up(f.top);
     let u = rows::word(rows, t, t);
-    let n = rows::top(t, u);
+    let n = rows::top(t, &u);
     survey::find_shifts(low, notes, &u, n, f);
     x
 }

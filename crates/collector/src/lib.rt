@@ -65,7 +65,7 @@ fn carry(primes: &Row, rows: &Rows, reach: &Reaches, k: usize, x: &mut Row)
     ensures { λ r. ⌜ CarriedInPlace k (now (primes .entry)) (now (rows .entry)) (now (x .entry)) (now (x .exit)) ⌝ }
 {
     let u = word(rows, k, k);
-    if top(k, u) == 0 {
+    if top(k, &u) == 0 {
         return;
     }
     let v = product(primes, rows, reach, k, u, *x);
@@ -77,7 +77,7 @@ fn multiply(primes: &Row, rows: &Rows, reach: &Reaches, i: usize, x: &mut Row, y
     requires { ⌜ Factors i (now primes) (now rows) (now reach) (now x) (now y) × (length (now x) ≡ maxGenerators) ⌝ }
     ensures { λ r. ⌜ MultipliedInPlace i (now (primes .entry)) (now (rows .entry)) (now (x .entry)) (now (y .entry)) (now (x .exit)) ⌝ }
 {
-    let m = top(i, *y);
+    let m = top(i, y);
     if m == 0 {
         return;
     }
@@ -149,11 +149,11 @@ fn alone(rows: &Rows, m: usize, x: Row) -> bool
     if m == 0 {
         return false;
     }
-    if top(m - 1, x) != 0 {
+    if top(m - 1, &x) != 0 {
         return false;
     }
     let u = word(rows, m - 1, m - 1);
-    top(m - 1, u) == 0
+    top(m - 1, &u) == 0
 }
 
 // The exponent of generator k in x, e times, below its prime.
@@ -174,7 +174,7 @@ pub fn power(primes: &Row, rows: &Rows, reach: &Reaches, i: usize, x: Row, e: u3
     if e == 1 {
         return x;
     }
-    let m = top(i, x);
+    let m = top(i, &x);
     if alone(rows, m, x) {
         return multiple(primes, m - 1, x, e);
     }

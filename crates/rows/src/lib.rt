@@ -93,9 +93,9 @@ pub fn empty(i: usize, x: Row) -> bool
 }
 
 // One more than the highest of the first i exponents that is not 0; 0 where all are.
-pub fn top(i: usize, x: Row) -> usize
+pub fn top(i: usize, x: &Row) -> usize
     requires { ⌜ i ≤ maxGenerators ⌝ }
-    ensures { λ r. ⌜ Top i x r ⌝ }
+    ensures { λ r. ⌜ Top i (now (x .entry)) r ⌝ }
 {
     let mut k = i;
     while k > 0 {

@@ -27,19 +27,19 @@ word-requires c κs = let o = c .before .before .before .before .before .before 
     (omega (arith, c .up .ensures), omega (arith, c .up .ensures, z .pre .0 .stands .gens))
 
 top-requires : tie.Need-top-requires
-top-requires c κs = let u = c .before in
+top-requires c κs = let u = c .before .before in
     let o = u .before .before .before .before .before .before .before in
     let z = o .before .before .before .before .before .before .before .before in
     omega (arith, u .up .ensures, z .pre .0 .stands .gens)
 
 find-shifts-requires : tie.Need-find-shifts-requires
 find-shifts-requires c κs = let t = c .before .before in
-    let n = t .before .before .before .before .before in
+    let n = t .before .before .before .before .before .before in
     let o = n .before .before .before .before in
     let z = o .before .before .before .before .before .before .before .before in (
       z .pre .0 .stands,
       orbited-beside 3 (omega arith) (n .count-numbers .ensures .0 .1) (o .mark-orbits .ensures .0),
-      subst (λ i. Top i (t .before .word .result) (t .top .result)) (t .before .before .up .ensures) (t .top .ensures),
+      subst (λ i. Top i (t .before .before .word .result) (t .top .result)) (t .before .before .before .up .ensures) (t .top .ensures),
     )
 
 same-length : tie.Need-same-length
@@ -47,7 +47,7 @@ same-length c = search needs
 
 returns : tie.Need-returns
 returns c = let s = c .before .before in
-    let w = s .before .before .before .before in
+    let w = s .before .before .before .before .before in
     let n = w .before .before .before .before in
     let o = n .before .before .before .before in
     let z = o .before .before .before .before .before .before .before .before in

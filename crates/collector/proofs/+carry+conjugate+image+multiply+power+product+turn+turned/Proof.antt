@@ -160,28 +160,28 @@ carry-word-requires : (t : ℕ) → carry-lts.Need-word-requires (carry-claims t
 carry-word-requires t c κs = (omega arith, omega (arith, c .pre .1 .0 .ranged .few))
 
 carry-top-requires : (t : ℕ) → carry-lts.Need-top-requires (carry-claims t) (carry-at t) carry.Post
-carry-top-requires t c κs = omega (arith, c .before .pre .1 .0 .ranged .few)
+carry-top-requires t c κs = omega (arith, c .before .before .pre .1 .0 .ranged .few)
 
 carry-returns : (t : ℕ) → carry-lts.Need-returns (carry-claims t) (carry-at t) carry.Post
 carry-returns t c =
-    let u = c .before .before in
+    let u = c .before .before .before in
     let z = u .before in
     carry-none (z .pre .1 .0) (u .word .ensures) (z .pre .1 .1) (c .before .top .ensures) (c .if1 .taken)
 
 carry-product-requires : (t : ℕ) → carry-lts.Need-product-requires (carry-claims t) (carry-at t) carry.Post
 carry-product-requires t c κs =
-    let u = c .before .before .before in
+    let u = c .before .before .before .before in
     let z = u .before in
     (omega (arith, z .pre .0), word-factors (z .pre .1 .0) (u .word .ensures) (z .pre .1 .1))
 
 carry-copied-requires : (t : ℕ) → carry-lts.Need-copied-requires (carry-claims t) (carry-at t) carry.Post
 carry-copied-requires t c κs =
-    let z = c .before .before .before .before .before .before in
+    let z = c .before .before .before .before .before .before .before in
     (omega (arith, z .pre .1 .0 .ranged .few), z .pre .1 .2)
 
 carry-returns-2 : (t : ℕ) → carry-lts.Need-returns-2 (carry-claims t) (carry-at t) carry.Post
 carry-returns-2 t c =
-    let u = c .before .before .before .before .before .before in
+    let u = c .before .before .before .before .before .before .before in
     let z = u .before in
     carry-copied (z .pre .1 .0) (u .word .ensures) (z .pre .1 .1) (c .before .before .product .ensures) (c .copied .ensures)
 
@@ -329,10 +329,10 @@ image-returns-2 t c =
     (omega (arith, z .pre .1 .0 .ranged .few, z .pre .1 .1)) (c .before .before .if1 .left)
 
 multiply-top-requires : (t : ℕ) → multiply-lts.Need-top-requires (multiply-claims t) (multiply-at t) multiply.Post
-multiply-top-requires t c κs = c .before .pre .1 .0 .prepared .ranged .few
+multiply-top-requires t c κs = c .pre .1 .0 .prepared .ranged .few
 
 multiply-returns : (t : ℕ) → multiply-lts.Need-returns (multiply-claims t) (multiply-at t) multiply.Post
-multiply-returns t c = let z = c .before .before .before in multiply-none (z .pre .1 .0) (c .before .top .ensures) (c .if1 .taken)
+multiply-returns t c = let z = c .before .before in multiply-none (z .pre .1 .0) (c .before .top .ensures) (c .if1 .taken)
 
 multiply-sub-k : (t : ℕ) → multiply-lts.Need-sub-k (multiply-claims t) (multiply-at t) multiply.Post
 multiply-sub-k t c = search needs
@@ -341,12 +341,12 @@ multiply-mul-b : (t : ℕ) → multiply-lts.Need-mul-b (multiply-claims t) (mult
 multiply-mul-b t c = search needs
 
 multiply-element-copy-out-b : (t : ℕ) → multiply-lts.Need-element-copy-out-b (multiply-claims t) (multiply-at t) multiply.Post
-multiply-element-copy-out-b t c = let m = c .before in top-within (m .before .before .pre .1 .0) (m .top .ensures) (c .if1 .left)
+multiply-element-copy-out-b t c = let m = c .before in top-within (m .before .pre .1 .0) (m .top .ensures) (c .if1 .left)
 
 multiply-turn-requires : (t : ℕ) → multiply-lts.Need-turn-requires (multiply-claims t) (multiply-at t) multiply.Post
 multiply-turn-requires t c κs =
     let m = c .before .before .before in
-    let z = m .before .before in
+    let z = m .before in
     let low = top-level (z .pre .1 .0) (m .top .ensures) (c .before .before .if1 .left) in
     (omega (arith, z .pre .0), turn-asks (z .pre .1 .0) (m .top .ensures) (c .before .before .if1 .left) (z .pre .1 .1))
 
@@ -354,7 +354,7 @@ multiply-multiply-requires : (t : ℕ) → multiply-lts.Need-multiply-requires (
 multiply-multiply-requires t c κs =
     let x = c .before in
     let m = x .before .before .before .before in
-    let z = m .before .before in
+    let z = m .before in
     let some = x .before .before .before .if1 .left in
     let low = top-level (z .pre .1 .0) (m .top .ensures) some in
     (omega (arith, z .pre .0), multiply-asks (z .pre .1 .0) (m .top .ensures) some (z .pre .1 .1) (x .turn .ensures))
@@ -365,13 +365,13 @@ multiply-mul-s t c = search needs
 multiply-element-copy-out-s : (t : ℕ) → multiply-lts.Need-element-copy-out-s (multiply-claims t) (multiply-at t) multiply.Post
 multiply-element-copy-out-s t c =
     let m = c .before .before .before .before .before .before in
-    top-within (m .before .before .pre .1 .0) (m .top .ensures) (c .before .before .before .before .before .if1 .left)
+    top-within (m .before .pre .1 .0) (m .top .ensures) (c .before .before .before .before .before .if1 .left)
 
 multiply-add-s : (t : ℕ) → multiply-lts.Need-add-s (multiply-claims t) (multiply-at t) multiply.Post
 multiply-add-s t c =
     let x = c .before .before .before in
     let e = x .before .before .before in
-    let z = e .before .before .before in
+    let z = e .before .before in
     omega (arith, sum-fits (z .pre .1 .0) (e .before .top .ensures) (e .if1 .left) (z .pre .1 .1) (x .turn .ensures) (c .before .multiply .ensures))
 
 multiply-mul-p : (t : ℕ) → multiply-lts.Need-mul-p (multiply-claims t) (multiply-at t) multiply.Post
@@ -380,7 +380,7 @@ multiply-mul-p t c = search needs
 multiply-element-copy-out-p : (t : ℕ) → multiply-lts.Need-element-copy-out-p (multiply-claims t) (multiply-at t) multiply.Post
 multiply-element-copy-out-p t c =
     let m = c .before .before .before .before .before .before .before in
-    top-within (m .before .before .pre .1 .0) (m .top .ensures) (c .before .before .before .before .before .before .if1 .left)
+    top-within (m .before .pre .1 .0) (m .top .ensures) (c .before .before .before .before .before .before .if1 .left)
 
 multiply-mul-x : (t : ℕ) → multiply-lts.Need-mul-x (multiply-claims t) (multiply-at t) multiply.Post
 multiply-mul-x t c = search needs
@@ -388,14 +388,14 @@ multiply-mul-x t c = search needs
 multiply-element-write-x : (t : ℕ) → multiply-lts.Need-element-write-x (multiply-claims t) (multiply-at t) multiply.Post
 multiply-element-write-x t c =
     let e = c .before .before .before .before .before .before .before .before in
-    top-within (e .before .before .before .pre .1 .0) (e .before .top .ensures) (e .if1 .left)
+    top-within (e .before .before .pre .1 .0) (e .before .top .ensures) (e .if1 .left)
 
 multiply-returns-2 : (t : ℕ) → multiply-lts.Need-returns-2 (multiply-claims t) (multiply-at t) multiply.Post
 multiply-returns-2 t c =
     let q = c .before .before .before in
     let x = q .before .before in
     let e = x .before .before .before in
-    let z = e .before .before .before in
+    let z = e .before .before in
     multiply-low (z .pre .1 .0) (e .before .top .ensures) (e .if1 .left) (z .pre .1 .1) (x .turn .ensures) (q .multiply .ensures) (c .if2 .taken)
 
 multiply-carry-requires : (t : ℕ) → multiply-lts.Need-carry-requires (multiply-claims t) (multiply-at t) multiply.Post
@@ -403,7 +403,7 @@ multiply-carry-requires t c κs =
     let q = c .before .before .before .before in
     let x = q .before .before in
     let e = x .before .before .before in
-    let z = e .before .before .before in
+    let z = e .before .before in
     let low = top-level (z .pre .1 .0) (e .before .top .ensures) (e .if1 .left) in
     (omega (arith, z .pre .0), carry-asks (z .pre .1 .0) (e .before .top .ensures) (e .if1 .left) (z .pre .1 .1) (x .turn .ensures) (q .multiply .ensures))
 
@@ -414,51 +414,51 @@ multiply-element-write-x-2 : (t : ℕ) → multiply-lts.Need-element-write-x-2 (
 multiply-element-write-x-2 t c =
     let q = c .before .before .before .before .before in
     let e = q .before .before .before .before .before in
-    top-within (e .before .before .before .pre .1 .0) (e .before .top .ensures) (e .if1 .left)
+    top-within (e .before .before .pre .1 .0) (e .before .top .ensures) (e .if1 .left)
 
 multiply-returns-3 : (t : ℕ) → multiply-lts.Need-returns-3 (multiply-claims t) (multiply-at t) multiply.Post
 multiply-returns-3 t c =
     let q = c .before .before .before .before .before in
     let x = q .before .before in
     let e = x .before .before .before in
-    let z = e .before .before .before in
+    let z = e .before .before in
     multiply-high (z .pre .1 .0) (e .before .top .ensures) (e .if1 .left) (z .pre .1 .1) (x .turn .ensures) (q .multiply .ensures) (c .carry .ensures)
     (c .before .before .if2 .left)
 
 abbrev power-Inv-loop : power-lts.InvT-loop
-power-Inv-loop primes rows reach i x e m r₀ n₀ r n = (n ≤ e) × Power i primes rows x r n
+power-Inv-loop primes rows reach i e x m r₀ n₀ r n = (n ≤ e) × Power i primes rows x r n
 
 abbrev power-μ-loop : power-lts.MeasureT-loop
-power-μ-loop primes rows reach i x e m r₀ n₀ r n = e - n
+power-μ-loop primes rows reach i e x m r₀ n₀ r n = e - n
 
 power-returns : (t : ℕ) → power-lts.Need-returns (power-claims t) (power-at t) power.Post power-Inv-loop power-μ-loop
 power-returns t c = power-first (c .if1 .taken) (c .before .pre .1 .1)
 
 power-top-requires : (t : ℕ) → power-lts.Need-top-requires (power-claims t) (power-at t) power.Post power-Inv-loop power-μ-loop
-power-top-requires t c κs = c .before .pre .1 .0 .ranged .few
+power-top-requires t c κs = c .before .before .pre .1 .0 .ranged .few
 
 power-alone-requires : (t : ℕ) → power-lts.Need-alone-requires (power-claims t) (power-at t) power.Post power-Inv-loop power-μ-loop
-power-alone-requires t c κs = omega (arith, c .top .ensures .less, c .before .before .pre .1 .0 .ranged .few)
+power-alone-requires t c κs = omega (arith, c .top .ensures .less, c .before .before .before .pre .1 .0 .ranged .few)
 
 power-sub-multiple : (t : ℕ) → power-lts.Need-sub-multiple (power-claims t) (power-at t) power.Post power-Inv-loop power-μ-loop
 power-sub-multiple t c = omega (arith, c .before .alone .ensures .is (c .if2 .taken) .0)
 
 power-multiple-requires : (t : ℕ) → power-lts.Need-multiple-requires (power-claims t) (power-at t) power.Post power-Inv-loop power-μ-loop
 power-multiple-requires t c κs =
-    multiple-asks (c .before .before .before .before .pre .1 .0) (c .before .before .top .ensures) (c .before .alone .ensures .is (c .if2 .taken) .0)
+    multiple-asks (c .before .before .before .before .before .pre .1 .0) (c .before .before .top .ensures) (c .before .alone .ensures .is (c .if2 .taken) .0)
 
 power-returns-2 : (t : ℕ) → power-lts.Need-returns-2 (power-claims t) (power-at t) power.Post power-Inv-loop power-μ-loop
 power-returns-2 t c =
     let a = c .before .before in
-    let z = a .before .before .before in
+    let z = a .before .before .before .before in
     power-single (z .pre .1 .0 .ranged) (z .pre .1 .1) (a .before .top .ensures) (a .alone .ensures .is (c .before .if2 .taken)) _ (c .multiple .ensures)
 
 power-loop-holds : (t : ℕ) → power-lts.Need-loop-holds (power-claims t) (power-at t) power.Post power-Inv-loop power-μ-loop
-power-loop-holds t c = (search needs, powering-start (c .before .before .before .before .pre .1 .0 .ranged))
+power-loop-holds t c = (search needs, powering-start (c .before .before .before .before .before .pre .1 .0 .ranged))
 
 power-product-requires : (t : ℕ) → power-lts.Need-product-requires (power-claims t) (power-at t) power.Post power-Inv-loop power-μ-loop
 power-product-requires t c κs =
-    let z = c .before .before .before .before .before .before in
+    let z = c .before .before .before .before .before .before .before in
     (omega (arith, z .pre .0), record { prepared = z .pre .1 .0; left = z .pre .1 .1; right = c .before .loop .inv .1 .small })
 
 power-add-n : (t : ℕ) → power-lts.Need-add-n (power-claims t) (power-at t) power.Post power-Inv-loop power-μ-loop
@@ -472,10 +472,10 @@ power-loop-again t c = (search needs, powering-more (c .before .before .loop .in
 
 power-returns-3 : (t : ℕ) → power-lts.Need-returns-3 (power-claims t) (power-at t) power.Post power-Inv-loop power-μ-loop
 power-returns-3 t c =
-    let z = c .before .before .before .before .before .before in
+    let z = c .before .before .before .before .before .before .before in
     let l = c .before .loop in
     let e : l .n ≡ z .args .e = omega arith in
-    subst (Power (z .args .i) (now (z .args .primes)) (now (z .args .rows)) (z .args .x) (l .r)) e (l .inv .1)
+    subst (Power (z .args .i) (now (z .args .primes)) (now (z .args .rows)) (z .args .t5) (l .r)) e (l .inv .1)
 
 product-multiply-requires : (t : ℕ) → product-lts.Need-multiply-requires (product-claims t) (product-at t) product.Post
 product-multiply-requires t c κs = let z = c .before .before in (omega (arith, z .pre .0), (z .pre .1, search needs))

@@ -38,14 +38,14 @@ top-requires-2 c κs = search needs
 
 returns-3 : tie.Need-returns-3
 returns-3 c =
-    let z = c .before .before .before .before .before in
+    let z = c .before .before .before .before .before .before .before in
     let m = z .args .m in
-    let u = c .before .word in
-    let t = c .before .before .before .top in
+    let u = c .before .before .word in
+    let t = c .before .before .before .before .top in
     record {
       is = λ e. (
-        omega (arith, c .before .before .before .before .if1 .left),
-        subst (Top (m - 1) (z .args .x)) (c .before .before .if2 .left) (t .ensures),
+        omega (arith, c .before .before .before .before .before .before .if1 .left),
+        subst (Top (m - 1) (z .args .t3)) (c .before .before .before .if2 .left) (t .ensures),
         subst (λ w. Top (m - 1) w 0) (u .ensures) (subst (Top (m - 1) (u .result)) (eqb-true _ 0 e) (c .top2 .ensures)),
       );
     }

@@ -3,6 +3,7 @@ use borrow.Author.Needs.{needs}
 use mathlib.Core.Path.{_≡_, subst}
 use Prim.Native.Nat.{_≤_}
 use native.Mathlib.Omega.{arith}
+use denote.Ref.{now}
 use Rattle.definitions.specs.Presentation.{maxGenerators}
 use Rattle.rows.specs.Rows.{Top}
 use Rattle.rows.proofs.Parts.{top-none, top-more}
@@ -24,8 +25,8 @@ sub-if1 c = search needs
 mul-if1 : tie.Need-mul-if1 Inv-loop μ-loop
 mul-if1 c = search needs
 
-array-read-if1 : tie.Need-array-read-if1 Inv-loop μ-loop
-array-read-if1 c = search needs
+element-copy-out-if1 : tie.Need-element-copy-out-if1 Inv-loop μ-loop
+element-copy-out-if1 c = search needs
 
 returns : tie.Need-returns Inv-loop μ-loop
 returns c = search needs
@@ -37,13 +38,13 @@ loop-less : tie.Need-loop-less Inv-loop μ-loop
 loop-less c = search needs
 
 loop-again : tie.Need-loop-again Inv-loop μ-loop
-loop-again c = (search needs, search needs, top-more (search needs) (c .if1 .left) (c .before .before .loop .inv .2))
+loop-again c = (search needs, search needs, top-more (search needs) (c .if1 .left) (c .before .before .before .loop .inv .2))
 
 returns-2 : tie.Need-returns-2 Inv-loop μ-loop
 returns-2 c =
     let z = c .before .before in
     let e : c .before .loop .k ≡ 0 = omega arith in
-    subst (Top (z .args .i) (z .args .t2)) e (c .before .loop .inv .2)
+    subst (Top (z .args .i) (now (z .args .x))) e (c .before .loop .inv .2)
 
 pub top-spec : {M : Type 1} → statement M
 top-spec =
@@ -54,7 +55,7 @@ top-spec =
     loop-holds
     sub-if1
     mul-if1
-    array-read-if1
+    element-copy-out-if1
     returns
     sub-k
     loop-less
