@@ -97,7 +97,7 @@ pub fn tables(lines: usize) {
 
 /// Words of a line, and those that the largest build wants.
 pub const LINE: usize = 8;
-pub const WORDS: usize = 786_240;
+pub const WORDS: usize = 3_669_792;
 
 /// The sum modulo `m` of two numbers below it, by a comparison.
 fn compared(a: u32, b: u32, m: u32) -> u32 {

@@ -14,10 +14,10 @@ use native.Mathlib.Decide.{decLt, ℕ-discrete}
 use native.Mathlib.Omega.{arith}
 use lib.ListN.{length, getD, set, length-set}
 use lib.Seq.{getD-set-same, getD-set-other}
-use Rattle.claims.specs.Claims.{Cleared}
+use Rattle.claims.specs.Claims.{Unmarked}
 use Rattle.check_first.specs.First.{exponentOf, Allowed, Takes}
 
-pub allowed-none : {part : ℕ} {M : List ℕ} → Cleared M → Allowed (length M) 0 part M
+pub allowed-none : {part : ℕ} {M : List ℕ} → Unmarked M → Allowed (length M) 0 part M
 allowed-none h = record { size = refl; only = λ e n. absurd (n (h e)) }
 
 pub allowed-more : {s k part : ℕ} {M : List ℕ} (e : ℕ) → e ≡ k * part → Allowed s k part M → Allowed s (k + 1) part (set M e 1)

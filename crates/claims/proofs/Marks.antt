@@ -14,7 +14,7 @@ use lib.ListN.{length, getD, set, length-set, List·getD-eq-default}
 use lib.Seq.{getD-set-same, getD-set-other}
 use borrow.Author.Count.{below-more}
 use Rattle.definitions.specs.Monomial.{Rep}
-use Rattle.claims.specs.Claims.{Cleared, StaysMarked, Took, TookAll, Shares}
+use Rattle.claims.specs.Claims.{Unmarked, StaysMarked, Took, TookAll, Shares}
 
 -- ---- No marks
 
@@ -32,7 +32,7 @@ clearing-more {many} {k} {M} l C = record { size = length-set M k 0 ∙ C .size;
     go f h (yes e) = subst (λ f. getD (set M k 0) f 0 ≡ 0) (sym e) (getD-set-same M k 0 0 (omega (arith, C .size)))
     go f h (no e) = getD-set-other M k f 0 0 e ∙ C .free f (omega arith)
 
-pub clearing-all : {many k : ℕ} {M : List ℕ} → many ≤ k → Clearing many k M → Cleared M
+pub clearing-all : {many k : ℕ} {M : List ℕ} → many ≤ k → Clearing many k M → Unmarked M
 clearing-all {many} {k} {M} l C f = go (decLt f many)
   where
     go : Dec (f < many) → getD M f 0 ≡ 0

@@ -6,7 +6,7 @@
 --   Unshared i L               every two representations of L are apart so
 --   FirstClash i L k           k is a representation of L, or all of them are apart so
 --   oneReference D             the same as a test
---   Cleared M                  nothing is marked
+--   Unmarked M                 nothing is marked
 --   slotOf i p part D          the slot of a representation with one reference
 --   StaysMarked M N            marks that are not free stay
 --   Took f last M N            f was free or is `last`, and is marked whole in N
@@ -45,8 +45,8 @@ pub record FirstClash (i : ℕ) (L : Level) (k : ℕ) : Type 0 where
 
 -- ---- Claims
 
-abbrev pub Cleared : List ℕ → Type 0
-Cleared M = (f : ℕ) → getD M f 0 ≡ 0
+abbrev pub Unmarked : List ℕ → Type 0
+Unmarked M = (f : ℕ) → getD M f 0 ≡ 0
 
 abbrev pub oneReference : Rep → Bool
 oneReference D = allBelow (D .deg) (λ c. eqb (D .ref 0 c) (D .ref 0 0))

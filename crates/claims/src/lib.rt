@@ -15,7 +15,7 @@ ghost use lib.ListN.{length};
 ghost use Rattle.definitions.specs.Table.{levelAt};
 ghost use Rattle.seek.specs.Seek.{Whole, HasLines};
 ghost use Rattle.seek.specs.Among.{repIn};
-ghost use Rattle.claims.specs.Claims.{Cleared, oneReference, Took, TookAll, Shares, ClaimedIn, FirstClash};
+ghost use Rattle.claims.specs.Claims.{Unmarked, oneReference, Took, TookAll, Shares, ClaimedIn, FirstClash};
 use level::Listed;
 use rows::ORDER;
 use seek::Scope;
@@ -29,7 +29,7 @@ const TAKEN: u8 = 2;
 
 // Takes all marks away.
 pub fn clear(marks: &mut [u8])
-    ensures { λ _. ⌜ Cleared (now (marks .exit)) × (length (now (marks .exit)) ≡ length (now (marks .entry))) ⌝ }
+    ensures { λ _. ⌜ Unmarked (now (marks .exit)) × (length (now (marks .exit)) ≡ length (now (marks .entry))) ⌝ }
 {
     let many = marks.len();
     for k in 0..many {

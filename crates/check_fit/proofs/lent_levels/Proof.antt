@@ -45,7 +45,8 @@ same-length c = search needs
 returns-3 : tie.Need-returns-3
 returns-3 c = none-counted
 
-starts : (e : tie.Else3) → let a = e .before .before .before .before .before .before .before .before .before .before .before .before .before .before .before .before .args in
+starts : (e : tie.Else3) → let at-level-one = e .before .before .before in
+    let a = at-level-one .before .before .before .before .before .before .before .before .before .before .before .before .before .args in
     Started (a .s) (now (a .words)) (now (a .rows)) (now (a .primes)) (now (a .orders))
 starts e =
     let at-level-one = e .before .before .before in
@@ -54,7 +55,8 @@ starts e =
     let F = at-level-one .level-one .ensures (not-false (at-level-one .level-one .result) (e .if3 .left)) in
     started (now (z .args .primes)) F (omega (arith, at-if2 .if2 .left)) (z .pre .1, z .pre .2)
 
-passes : {k : ℕ} (e : tie.Else3) → let a = e .before .before .before .before .before .before .before .before .before .before .before .before .before .before .before .before .args in
+passes : {k : ℕ} (e : tie.Else3) → let at-level-one = e .before .before .before in
+    let a = at-level-one .before .before .before .before .before .before .before .before .before .before .before .before .before .args in
     FitUpTo (a .s) (now (a .words)) (now (a .rows)) (now (a .primes)) (now (a .orders)) k
     → FittingLevels (a .s) (now (a .rows)) (now (a .primes)) (now (a .orders)) (now (a .words)) k
 passes e h =
@@ -84,7 +86,9 @@ same-length-5 : tie.Need-same-length-5
 same-length-5 c = search needs
 
 returns-5 : tie.Need-returns-5
-returns-5 c = let at-levels-fit = c .before .before .before .before .before .before in passes (at-levels-fit .before .before .before .before .before .before) (at-levels-fit .levels-fit .ensures)
+returns-5 c =
+    let at-levels-fit = c .before .before .before .before .before .before in
+    passes (at-levels-fit .before .before .before .before .before .before) (at-levels-fit .levels-fit .ensures)
 
 pub lent-levels-spec : {M : Type 1} → statement M
 lent-levels-spec =
