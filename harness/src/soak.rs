@@ -380,7 +380,7 @@ impl Soak {
 
     fn round(&mut self) {
         let bound = match self.random.below(40) {
-            0 if self.random.once_in(8) => 16384,
+            0 if self.random.once_in(32) => 16384,
             0 => 4096,
             1..=2 => 512,
             3..=5 => 128,
