@@ -121,10 +121,6 @@ module _ (R : Rung) where
 
   -- ---- Numbers
 
-  pub made-same : (r : ℕ) → Fm.made (Sc R) r ≡ made R r
-  unfolding Fm.made Steps.made Steps.fixed Steps.leader Steps.orbit
-  made-same r = refl
-
   pub start-same : (r : ℕ) → Fm.start (Sc R) r ≡ Steps.start (P R) m i L r
   unfolding Fm.start Steps.start Fm.made Steps.made Steps.fixed Steps.leader Steps.orbit
   start-same r = refl

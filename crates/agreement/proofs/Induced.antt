@@ -144,9 +144,6 @@ module _ (R : Rung) where
       abbrev φo : Map (E R) Ω
       φo = φ (S R) F (𝓢 R) j ij jn
 
-      in-mem : (b : ℕ) → leader (O R) (rep R (mem b)) ≡ r
-      in-mem b = ap (leader (O R)) (first-rep R (iter (τ R) b r) (iter-below (O R) b r h)) ∙ leader-iter (O R) b r h ∙ own
-
       conjugate-entry : (b : ℕ) → b < p R → (Fm.conjugateEntry (Sc R) j r b ≡ held (φo (mem b))) × In (φo (mem b))
       unfolding Fm.conjugateEntry held wNf
       conjugate-entry b l =

@@ -296,9 +296,6 @@ module _ (T : Twins) where
       deg-of : Fm.inductionAt left r .deg ≡ Fm.inductionAt right r .deg
       deg-of = unfold Fm.inductionAt in (ap (λ d. p * d) (T .degree-same r h))
 
-  none-alike : Alike noRep noRep
-  none-alike = record { deg-same = refl; mat-same = λ g l. refl; ref-same = λ g c l. refl }
-
   given-alike : (s κ : ℕ) → s < count → κ < Fm.made left s → Alike (getD (Fm.givenAt left s) κ noRep) (getD (Fm.givenAt right s) κ noRep)
   unfolding Fm.givenAt Fm.made
   given-alike s κ h l =

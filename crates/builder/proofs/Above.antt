@@ -6,8 +6,7 @@
 --   above-given                the words of what a representation gives are those above it
 --   level-above                the words of a level, representation by representation
 --   above-fixed, above-led, above-none      those above one, by its case
---   fixed-length, led-length, none-length      how many they are
---   level-length, above-le     how many a level has; those above one are no more
+--   fixed-length, led-length   how many they are
 --   above-space                where there is room for the level, there is room for those above one
 --   level-wrote                after the last representation the level is written
 use mathlib.Core.Path.{_≡_, refl, ap, sym, _∙_, subst}
@@ -23,7 +22,7 @@ use Rattle.definitions.specs.Monomial.{Rep, Level, noRep, repOf}
 use Rattle.definitions.specs.Table.{lineOf, repWords, levelWords}
 use Rattle.numbers.proofs.Bools.{cond-true, cond-false}
 use Rattle.numbers.proofs.Lists.{length-blocks}
-use Rattle.numbers.proofs.Sums.{sum-below, term-le}
+use Rattle.numbers.proofs.Sums.{sum-below}
 use Rattle.numbers.proofs.Blocks.{getD-table, length-table, getD-blocks, blocks-below, blocks-stretches, length-even}
 use Rattle.formulas.specs.Formulas.{Source, fixed, leader, made, start, extensionAt, inductionAt, givenAt, levelBy}
 use Rattle.text.specs.Writing.{Wrote}
@@ -112,15 +111,6 @@ module _ (n : ℕ) (S : Source) where
   pub led-length : (r : ℕ) → fixed S r ≡ false → eqb (leader S r) r ≡ true → length (aboveWords n S r) ≡ 8 * (n * (S .p * S .degree r))
   unfolding inductionAt
   led-length r h l = ap length (above-led r h l) ∙ repWords-length n (suc (S .i)) (start S r) (inductionAt S r)
-
-  pub none-length : (r : ℕ) → fixed S r ≡ false → eqb (leader S r) r ≡ false → length (aboveWords n S r) ≡ 0
-  none-length r h l = ap length (above-none r h l)
-
-  pub level-length : length (levelWords n (suc (S .i)) (levelBy S)) ≡ sum (S .count) (λ r. length (aboveWords n S r))
-  level-length = ap length level-above ∙ length-blocks (S .count) (aboveWords n S)
-
-  pub above-le : (r : ℕ) → r < S .count → length (aboveWords n S r) ≤ length (levelWords n (suc (S .i)) (levelBy S))
-  above-le r l = subst (λ x. length (aboveWords n S r) ≤ x) (sym level-length) (term-le (λ r. length (aboveWords n S r)) (S .count) r l)
 
 -- ---- Room
 

@@ -149,9 +149,6 @@ module _ {s : Scope} {T : List ℕ} {rows : List (List ℕ)} {p : ℕ} (C : Char
     abbrev e : ℕ → ℕ
     e r = exponentOf (s .gens) T r
 
-    head-line : (r : ℕ) → lineIn (one r) 0 ≡ r * n
-    head-line r = omega arith
-
     acts : (r : ℕ) → r < p → (t : ℕ) → act m (generatorIn T (one r) 0) (entry 0 t) ≡ entry 0 ((t + e r) % m)
     acts r l t =
         let a : lineIn (one r) 0 + 0 ≡ r * n = omega arith in

@@ -195,14 +195,6 @@ module _ (R : Rung) where
     right : (k : ℕ) → Shows m Φ r tr (product m (Steps.extended (P R) m i L tr k) (repOf L r .matrix j)) (Y (S R) F (numbered (S R) F 𝓢 ρ k) *′ F .X j)
     right k = shows-mul m pos Φ (extended-shows tr k tr-below tr-fixed) Xj
 
-    -- extension 0 has the scalars of the family
-    pub right-shows-zero : Shows m Φ r (F .target j r)
-        (product m (Steps.extended (P R) m i L (Steps.target (P R) m i L j r) 0) (repOf L r .matrix j)) (Y (S R) F 𝓢 *′ F .X j)
-    right-shows-zero = subst (λ s. Shows m Φ r tr (product m (Steps.extended (P R) m i L s 0) (repOf L r .matrix j)) (Y (S R) F 𝓢 *′ F .X j))
-        (sym literal-target)
-        (shows-map m pos Φ (right 0)
-        (ap (λ z. z *′ F .X j) (sym (raised-top (S R) F (numbered (S R) F 𝓢 ρ 0)) ∙ ap (λ g. g (top C i)) (numbered-zero (S R) F 𝓢 ρ) ∙ raised-top (S R) F 𝓢)))
-
     ε^ : ℕ → Residue m
     ε^ k = times E k (ρ .ε)
 

@@ -1,29 +1,28 @@
 -- The steps without searches and without inverses: what a builder computes instead.
 --
 --   less-back, less-over      differences modulo m
---   l-formula          l is a quotient of one exponent, at column 0
 --   last-formula       the last block of an induction is an intertwiner times one scalar
-use mathlib.Core.Path.{_≡_, refl, sym, _∙_, ap, ap₂, subst}
+use mathlib.Core.Path.{_≡_, sym, _∙_, ap, ap₂, subst}
 use Prim.Native.Nat.{ℕ, _+_, _-_, _/_, _%_, _<_}
 use native.Mathlib.Nat.{div-eq-of-eq-mul-right}
 use native.Mathlib.Omega.{arith}
 use Rattle.definitions.specs.Lists.{iter}
-use Rattle.definitions.specs.Monomial.{col, less, product, scale, repOf, image, conjugate}
+use Rattle.definitions.specs.Monomial.{col, less, scale, repOf, image}
 use Rattle.definitions.specs.Steps
 use Rattle.numbers.proofs.Orbits.{leader, position, iter-below, iter-moved}
 use Rattle.group.proofs.Level.{uNf}
 use Rattle.monomial.specs.Exponents.{Exponents, Residue}
 use Rattle.monomial.specs.Frames.{Shows}
 use Rattle.monomial.proofs.Exponents.{neg-of}
-use Rattle.monomial.proofs.Residues.{residues, add-value, less-value, log-value}
+use Rattle.monomial.proofs.Residues.{residues, add-value, less-value}
 use Rattle.monomial.proofs.Frames.{shows-scale, shown-unique}
 use Rattle.monomial.proofs.Schur.{rep-power}
 use Rattle.clifford.specs.Stands.{Stands, Rung}
 use Rattle.clifford.proofs.Numbering.{P, p, N, rep, τ, S, ready, O, orbit-same}
 use Rattle.clifford.proofs.Defect.{defect, defect-eq, defect-const, defect-power, X-maps}
-use Rattle.clifford.proofs.Top.{Y, Y-at, q, q-eq}
-use Rattle.clifford.proofs.Scalars.{parts, q̂, σ, σ-last}
-use Rattle.clifford.proofs.Extensions.{E, Φ, 𝓢, first, first-rep, first-shown, image-shows, l-is, left-shows, right-shows-zero}
+use Rattle.clifford.proofs.Top.{Y, Y-at, q}
+use Rattle.clifford.proofs.Scalars.{σ, σ-last}
+use Rattle.clifford.proofs.Extensions.{E, Φ, 𝓢, first, first-rep, first-shown, image-shows}
 use Rattle.clifford.proofs.Inductions.{along-shows, last-shows, position-of}
 
 module _ (R : Rung) where
@@ -43,18 +42,6 @@ module _ (R : Rung) where
   share-is = div-eq-of-eq-mul-right (omega (arith, T .context .two i)) (R .split)
 
   -- ---- l
-
-  pub l-formula : (j : ℕ) → i < j → j < T .n → (r : ℕ) → r < N R → τ R r ≡ r
-      → Steps.l (P R) m i L j r
-      ≡ less m (col (product m (repOf L r .matrix j) (conjugate m (P R) (Steps.extensionBase (P R) m i L r 0) i j)) 0 .exp)
-      (col (product m (Steps.extended (P R) m i L (Steps.target (P R) m i L j r) 0) (repOf L r .matrix j)) 0 .exp) / (m / p R)
-  l-formula j ij jn r h f =
-      l-is R j ij jn r h f ∙ log-value m pos (parts (S R) m pos F (ready R)) _
-      ∙ ap₂ (_/_) (sym (ap₂ (less m) (first-shown R h (left-shows R j ij jn r h f) ∙ ap (λ z. z .1 .0) (q-eq (S R) F (𝓢 R) j ij jn (first R r)))
-      (first-shown R h (right-shows-zero R j ij jn r h f)) ∙ less-back _ _ ∙ q-is)) (sym share-is)
-    where
-      q-is : (q (S R) F (𝓢 R) j ij jn (first R r)) .0 ≡ (q̂ (S R) m pos F (ready R) j ij jn r) .0
-      q-is = unfold q̂ in refl
 
   -- ---- The last block
 

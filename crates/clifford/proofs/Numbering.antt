@@ -5,7 +5,7 @@
 --   made-fixed, made-leader, made-other       how many representations r gives
 --   given-fixed, given-moved                  the representations of the next level
 --   below-next                                every representation of the next level is one of these
---   leader-fixes, leader-moves                a leader is fixed or moved as its orbit is
+--   leader-moves                              a leader is moved as its orbit is
 --   degree-iter, degree-leader                degrees along an orbit
 use mathlib.Core.Path.{_≡_, refl, sym, _∙_, ap, subst, fun-ext}
 use mathlib.Core.Bool.{Bool, true, false, cond}
@@ -183,9 +183,6 @@ module _ (R : Rung) where
       ∙ next-at s 0 h (subst (λ z. 0 < z) (sym (made-leader s f g)) (omega arith)) ∙ ap (λ z. getD z 0 noRep) (fixed-no s _ _ f ∙ leader-yes s _ _ g)
 
   -- ---- Leaders
-
-  pub leader-fixes : (r : ℕ) → r < N → τ r ≡ r → τ (leader O r) ≡ leader O r
-  leader-fixes r h f = subst (λ s. τ s ≡ s) (sym (leader-fixed O r h f)) f
 
   -- how many extensions lie above a representation
   pub made-of : (r : ℕ) → r < N → ¬ (τ r ≡ r) → made (leader O r) ≡ 1

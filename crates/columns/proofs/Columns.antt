@@ -109,9 +109,6 @@ module _ (m : ℕ) (pos : 0 < m) (d : ℕ) where
 
   -- ---- Equality by columns
 
-  column-in : (c : ℕ) → c < d → In d m (entry c 0)
-  column-in c l = record { row = l; exp = pos }
-
   same-column : (M N : Matrix) (c : ℕ) → sameEntry m (col M c) (col N c) ≡ sameAt (act m M (entry c 0)) (act m N (entry c 0))
   unfolding sameEntry sameAt act
   same-column M N c =

@@ -3,15 +3,14 @@
 --   toNF-suc                       the clause of toNF
 --   toNF-set-high, toNF-set-top    a store at or above the level; a store at its top
 --   toNF-ext, toNF-get             rows that agree below i say one form, and the other way round
---   row-eq                         a row of length i is determined by its form
 --   toNF-valid, valid-get          the form is valid exactly if each exponent is below its prime
 --   toNF-trivial                   a row of zeros
-use mathlib.Core.Path.{_≡_, refl, sym, _∙_, ap, ap₂}
+use mathlib.Core.Path.{_≡_, refl, _∙_, ap, ap₂}
 use mathlib.Core.List.{List}
 use Prim.Native.Nat.{ℕ, zero, suc, _≤_, _<_}
 use native.Mathlib.Omega.{arith}
 use lib.ListN.{length, getD, set}
-use lib.Seq.{getD-set-same, getD-set-other, ext-getD}
+use lib.Seq.{getD-set-same, getD-set-other}
 use Rattle.definitions.specs.Presentation.{toNF, trivial, Presentation, Valid}
 use Rattle.numbers.proofs.Lists.{below-suc}
 
@@ -34,9 +33,6 @@ toNF-set-high i j r a l = toNF-ext i (set r j a) r (λ k h. getD-set-other r j k
 
 pub toNF-set-top : (i : ℕ) (r : List ℕ) (a : ℕ) → i < length r → toNF (suc i) (set r i a) ≡ (a, toNF i r)
 toNF-set-top i r a l = toNF-suc i (set r i a) ∙ ap₂ (λ s t. (s, t)) (getD-set-same r i a 0 l) (toNF-set-high i i r a (omega arith))
-
-pub row-eq : (i : ℕ) (r q : List ℕ) → length r ≡ i → length q ≡ i → toNF i r ≡ toNF i q → r ≡ q
-row-eq i r q a b e = ext-getD 0 r q (a ∙ sym b) (λ k l. toNF-get i r q e k (omega arith))
 
 pub toNF-trivial : (i : ℕ) (r : List ℕ) → ((k : ℕ) → k < i → getD r k 0 ≡ 0) → toNF i r ≡ trivial i
 unfolding toNF trivial

@@ -3,7 +3,6 @@
 --   next-upTo                 the words before, and the lines of the formulas behind them
 --   next-lines, next-room     the lines of the formulas, in the numbers of the frame; there is room for them
 --   next-reps                 how many representations the formulas give
---   next-placed               the frame of the level after
 --   one-reps, one-upTo, one-length, one-room, one-placed      the same for level 1
 use mathlib.Core.Path.{_≡_, refl, sym, _∙_, ap, ap₂, subst}
 use mathlib.Core.List.{List, _++_}
@@ -91,29 +90,6 @@ module _ (A : Accepted) where
   next-reps (suc k) f W Q = ap₂ (λ f W. numberIn f W (f .reps)) (placed A k f W Q) (Q .words-are) ∙ reps-at k (Q .below)
 
   -- ---- Frames
-
-  -- the level after begins where this one ends, and ends where its lines end
-  pub next-placed : (i : ℕ) (f : Frame) (W : List ℕ) (rows : List (List ℕ)) {primes : List ℕ}
-      → Placed A i f W → Reads (A .C .P) (A .C .P .n) primes rows
-      → suc i < A .C .P .n → (end : ℕ) → 8 * end ≡ 8 * f .end + length (levelWords (A .C .P .n) (suc i) (levelBy (sourceIn f W rows)))
-      → Placed A (suc i)
-      (record { m = f .m; top = suc i; gens = f .gens; p = A .C .P .p (suc i); base = f .end; reps = numberIn f W (f .reps); end = end })
-      (W ++ levelWords (A .C .P .n) (suc i) (levelBy (sourceIn f W rows)))
-  next-placed i f W rows Q told l end e =
-      let c : suc i - 1 ≡ i = omega arith in
-      record {
-        above = omega arith;
-        below = l;
-        modulus-is = Q .modulus-is;
-        top-is = refl;
-        gens-is = Q .gens-is;
-        prime-is = refl;
-        base-is = Q .end-is ∙ ap (λ x. length (upTo A x)) (sym c);
-        reps-is = next-reps i f W Q;
-        end-is = e ∙ ap (λ x. x + length (levelWords n (suc i) (levelBy (sourceIn f W rows)))) (Q .end-is ∙ ap length (sym (Q .words-are)))
-            ∙ sym (length-append W (levelWords n (suc i) (levelBy (sourceIn f W rows)))) ∙ ap length (next-upTo i f W rows Q told);
-        words-are = next-upTo i f W rows Q told;
-      }
 
   -- ---- Level 1
 

@@ -54,10 +54,6 @@ module _ (A : Accepted) where
   unfolding linesTo
   lines-suc k = sum-suc k _
 
-  pub lines-mono : (k l : ℕ) → k ≤ l → linesTo A k ≤ linesTo A l
-  unfolding linesTo
-  lines-mono k l h = sum-mono k l _ h
-
   pub upTo-length : (k : ℕ) → length (upTo A k) ≡ 8 * linesTo A k
   unfolding upTo linesTo
   upTo-length k =

@@ -4,7 +4,6 @@
 --   prime-le, whole            every prime is at most the order, and divides it
 --   degree-le, reps-le, columns-le     degrees, representations and columns of a level are at most its order
 --   lines-le, room             the words of the first levels have room in those that a build wants
---   line-count                 the lines of the table
 --   lines-small                under the ceilings they are few
 use mathlib.Core.Path.{_≡_, sym, _∙_, ap, subst}
 use Prim.Native.Nat.{ℕ, zero, suc, _+_, _*_, _-_, _/_, _≤_, _<_}
@@ -14,15 +13,14 @@ use lib.ListN.{length}
 use Rattle.definitions.specs.Lists.{sum}
 use Rattle.definitions.specs.Presentation.{maxGenerators, maxOrder, Presentation, order, buildWords, lineWords}
 use Rattle.definitions.specs.Monomial.{Level}
-use Rattle.definitions.specs.Table.{lineCount}
-use Rattle.definitions.specs.Steps.{levels, tableOf}
+use Rattle.definitions.specs.Steps.{levels}
 use Rattle.numbers.proofs.Lists.{sum-mono}
 use Rattle.numbers.proofs.Sums.{sum-le, sum-mul, sum-const, sum-below, term-le}
 use Rattle.group.proofs.Order.{order-positive}
 use Rattle.clifford.specs.Accepted.{Accepted}
 use Rattle.clifford.proofs.Standing.{standing, setting, order-split}
 use Rattle.levels.specs.Built.{upTo, linesTo, degreeIn, WithinCeilings, levelOf, modulus}
-use Rattle.levels.proofs.Places.{upTo-length, upTo-all}
+use Rattle.levels.proofs.Places.{upTo-length}
 
 self-square : (d : ℕ) → d ≤ d * d
 self-square zero = omega arith
@@ -119,13 +117,6 @@ module _ (A : Accepted) where
       let a = lines-le k l in
       let b : n * sum k (λ i. order P (suc i)) ≤ n * sum n (λ i. order P (suc i)) = mul-le-mul-left n (sum-mono k n (λ i. order P (suc i)) l) in
       subst (λ x. x ≤ 8 * (n * sum n (λ i. order P (suc i)))) (sym (upTo-length A k)) (omega arith)
-
-  pub table-length : length (tableOf (A .C .P)) ≡ 8 * linesTo A (A .C .P .n)
-  table-length = ap length (sym (upTo-all A)) ∙ upTo-length A n
-
-  pub line-count : lineCount (tableOf (A .C .P)) ≡ linesTo A (A .C .P .n)
-  unfolding lineCount lineWords
-  line-count = ap (λ z. z / 8) table-length ∙ mul-div-right (linesTo A n) (omega arith)
 
   -- ---- Under the ceilings
 

@@ -1,7 +1,7 @@
 -- Laws of monomial maps, of inverses, and of powers of a map at one basis index.
 --
 --   maps-laws                        the product is associative, the identity is one
---   at-mul, at-one, at-diagonal      a product, the identity and a diagonal at one basis index
+--   at-mul, at-one                   a product and the identity at one basis index
 --   pair, at-column                  equal parts make equal entries; equal maps have equal columns
 --   inverse-root, inverse-mul, inverse-power, inverse-diagonal, inverse-injective      inverses
 --   power-fixes                      the powers of a map that fixes a basis index
@@ -77,10 +77,6 @@ module _ {E : Type 0} (𝓔 : Exponents E) {Ω : Type 0} where
   pub at-one : (a : Ω) → one a ≡ (a, nil)
   unfolding maps
   at-one a = refl
-
-  pub at-diagonal : (s : Ω → E) (a : Ω) → diagonal 𝓔 Ω s a ≡ (a, s a)
-  unfolding diagonal
-  at-diagonal s a = refl
 
   -- a product at a basis index whose image under the right factor is known
   pub mul-at : (A B : Map 𝓔 Ω) (a b : Ω) (x : E) → B a ≡ (b, x) → (A * B) a ≡ ((A b) .0, add ((A b) .1) x)

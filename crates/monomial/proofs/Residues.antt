@@ -2,7 +2,7 @@
 --
 --   Residue-path                 residues are equal where their numbers are
 --   residues m pos               the numbers below m are exponents
---   add-value, neg-value, nil-value, times-value      their numbers
+--   add-value, nil-value, times-value      their numbers
 --   residue, residue-value       a number modulo m
 --   less-value, less-mod         the difference modulo m of the definitions
 --   part, part-times             s / p, where p divides s
@@ -40,10 +40,6 @@ module _ (m : ℕ) (pos : 0 < m) where
   pub add-value : (x y : Residue m) → (residues .add x y) .0 ≡ (x .0 + y .0) % m
   unfolding residues
   add-value x y = refl
-
-  pub neg-value : (x : Residue m) → (residues .neg x) .0 ≡ (m - x .0) % m
-  unfolding residues
-  neg-value x = refl
 
   pub nil-value : (residues .nil) .0 ≡ 0
   unfolding residues

@@ -10,7 +10,7 @@ use mathlib.Core.List.{List}
 use Prim.Native.Nat.{ℕ, suc, _+_, _%_, _≤_, _<_}
 use native.Mathlib.Nat.{mod-eq-of-lt}
 use native.Mathlib.Omega.{arith}
-use lib.Dec.{eqb, ltb, leb}
+use lib.Dec.{eqb, ltb}
 use lib.ListN.{length}
 use borrow.Author.Tests.{ltb-true, leb-true, eqb-true}
 use Rattle.definitions.specs.declared.Entry.{Entry}
@@ -101,12 +101,6 @@ module _ (W : Two) where
   pub fits : (r o : ℕ) → passing r o ≡ true → o + repOf Low (Rp r .ref 0 o) .deg ≤ Rp r .deg
   unfolding passing Judgement.wholeBlock
   fits r o h = leb-true _ _ (and-right (ltb (Rp r .ref 0 o) (length Low)) _ (and-left _ _ (and-left (Judgement.wholeBlock Low (Rp r) o) _ h)))
-
-  pub one-ref : (r o c : ℕ) → passing r o ≡ true → c < repOf Low (Rp r .ref 0 o) .deg → Rp r .ref 0 (o + c) ≡ Rp r .ref 0 o
-  unfolding passing Judgement.wholeBlock
-  one-ref r o c h l = eqb-true _ _
-      (allBelow-elim _ _ (and-right (ltb (Rp r .ref 0 o) (length Low) && leb (o + repOf Low (Rp r .ref 0 o) .deg) (Rp r .deg)) _
-      (and-left (Judgement.wholeBlock Low (Rp r) o) _ h)) c l)
 
   pub wide : (r o : ℕ) → passing r o ≡ true → 0 < repOf Low (Rp r .ref 0 o) .deg
   wide r o h = low-fair .degree-pos (Rp r .ref 0 o) (listed r o h)

@@ -6,9 +6,6 @@ use borrow.Author.Needs.{needs}
 use Rattle.acceptance.proofs.accepted.Statement.{statement}
 use Rattle.acceptance.proofs.accepted.Tie as tie
 
-read-requires : tie.Need-read-requires
-read-requires c κs = search needs
-
 returns : tie.Need-returns
 returns c = accepted-refused (c .before .read .ensures) (omega arith)
 
@@ -28,6 +25,4 @@ returns-3 c =
     accepted-inconsistent (z .ensures) (omega arith) (c .before .consistent .ensures) (c .if2 .left) refl
 
 pub accepted-spec : {M : Type 1} → statement M
-accepted-spec =
-    tie.close
-    (tie.spec read-requires returns consistent-requires returns-2 returns-3)
+accepted-spec = tie.close (tie.spec (λ c κs. search needs) returns consistent-requires returns-2 returns-3)

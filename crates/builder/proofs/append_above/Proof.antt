@@ -38,9 +38,6 @@ append-extensions-requires c κs = let t = c .before .before in
     let P = z .pre .0 in
     extensions-asked (z .args .f) _ (now (z .args .rows)) (z .args .r) (t .top-target .ensures) (P .0) (P .1) (c .before .if2 .taken) (z .pre .1)
 
-same-length : tie.Need-same-length
-same-length c = search needs
-
 returns-2 : tie.Need-returns-2
 returns-2 c = let i = c .before .before .before .before in
     let z = i .before .before .before .before .before .before .before .before .before in
@@ -57,12 +54,6 @@ append-induction-requires c κs = let i = c .before .before in
     let rows = now (z .args .rows) in
     induction-asked (z .args .f) _ rows (z .args .r) (i .before .top-target .ensures) (P .0) (P .1) (i .if2 .left) led (now (z .args .blocks)) (P .2) (z .pre .1)
 
-same-length-2 : tie.Need-same-length-2
-same-length-2 c = search needs
-
-same-length-3 : tie.Need-same-length-3
-same-length-3 c = search needs
-
 returns-3 : tie.Need-returns-3
 returns-3 c = let E = c .before .before .before .before in
     let i = E .before .before .before in
@@ -76,6 +67,5 @@ returns-3 c = let E = c .before .before .before .before in
 pub append-above-spec : {M : Type 1} → statement M
 append-above-spec =
     tie.close
-    (tie.spec
-    note-requires returns mul-n slice-reshare-prefix-top-target slice-aggregate-top-target top-target-requires append-extensions-requires
-    same-length returns-2 append-induction-requires same-length-2 same-length-3 returns-3)
+    (tie.spec note-requires returns mul-n slice-reshare-prefix-top-target slice-aggregate-top-target top-target-requires append-extensions-requires
+    (λ c. search needs) returns-2 append-induction-requires (λ c. search needs) (λ c. search needs) returns-3)

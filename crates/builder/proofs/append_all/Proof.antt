@@ -36,12 +36,6 @@ append-above-requires c κs = let z = c .before .before .before .before .before 
     let lent : BlocksLent f (l .blocks) = λ h. omega (arith, l .inv .2, z .pre .0 .1 h) in
     rw (G .below) ((z .pre .0 .0, less-than, lent), record { from = G .from; room = room })
 
-add-r : tie.Need-add-r Inv-loop μ-loop
-add-r c = search needs
-
-loop-less : tie.Need-loop-less Inv-loop μ-loop
-loop-less c = search needs
-
 loop-again : tie.Need-loop-again Inv-loop μ-loop
 loop-again c = let l = c .before .before .before .before .before .before .before .before .loop in
     let G = l .inv .3 in
@@ -60,4 +54,6 @@ returns c = let z = c .before .before .before .before .before in
     all-wrote (z .args .f) (lowOf (z .args .f) (now (z .args .words))) (now (z .args .rows)) (l .inv .3) e
 
 pub append-all-spec : {M : Type 1} → statement M
-append-all-spec = tie.close (tie.spec Inv-loop μ-loop loop-holds append-above-requires add-r loop-less loop-again same-length same-length-2 returns)
+append-all-spec =
+    tie.close
+    (tie.spec Inv-loop μ-loop loop-holds append-above-requires (λ c. search needs) (λ c. search needs) loop-again same-length same-length-2 returns)

@@ -25,15 +25,6 @@ append-all-requires c κs = let s = c .before .before .before .before .before in
     let z = s .before .before .before .before .before .before .before in
     ((s .survey-level .ensures .1, z .pre .2), record { from = le-refl _; room = z .pre .0 .room })
 
-same-length : tie.Need-same-length
-same-length c = search needs
-
-same-length-2 : tie.Need-same-length-2
-same-length-2 c = search needs
-
-same-length-3 : tie.Need-same-length-3
-same-length-3 c = search needs
-
 returns : tie.Need-returns
 returns c = let a = c .before .before .before .before in
     let s = a .before .before .before .before .before .before in
@@ -42,6 +33,5 @@ returns c = let a = c .before .before .before .before in
 pub append-level-spec : {M : Type 1} → statement M
 append-level-spec =
     tie.close
-    (tie.spec
-    mul-n slice-reshare-prefix-survey-level slice-aggregate-survey-level survey-level-requires append-all-requires
-    same-length same-length-2 same-length-3 returns)
+    (tie.spec mul-n slice-reshare-prefix-survey-level slice-aggregate-survey-level survey-level-requires append-all-requires (λ c. search needs)
+    (λ c. search needs) (λ c. search needs) returns)

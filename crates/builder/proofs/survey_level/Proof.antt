@@ -18,9 +18,6 @@ count-numbers-requires : tie.Need-count-numbers-requires
 count-numbers-requires c κs = let o = c .before .before .before in
     (o .before .before .before .before .before .before .before .before .pre .0 .stands, o .mark-orbits .ensures .0)
 
-up-requires : tie.Need-up-requires
-up-requires c κs = search needs
-
 word-requires : tie.Need-word-requires
 word-requires c κs = let o = c .before .before .before .before .before .before .before in
     let z = o .before .before .before .before .before .before .before .before in
@@ -42,9 +39,6 @@ find-shifts-requires c κs = let t = c .before .before in
       subst (λ i. Top i (t .before .before .word .result) (t .top .result)) (t .before .before .before .up .ensures) (t .top .ensures),
     )
 
-same-length : tie.Need-same-length
-same-length c = search needs
-
 returns : tie.Need-returns
 returns c = let s = c .before .before in
     let w = s .before .before .before .before .before in
@@ -57,5 +51,5 @@ returns c = let s = c .before .before in
 pub survey-level-spec : {M : Type 1} → statement M
 survey-level-spec =
     tie.close
-    (tie.spec
-    find-lines-requires mark-orbits-requires count-numbers-requires up-requires word-requires top-requires find-shifts-requires same-length returns)
+    (tie.spec find-lines-requires mark-orbits-requires count-numbers-requires (λ c κs. search needs) word-requires top-requires find-shifts-requires
+    (λ c. search needs) returns)

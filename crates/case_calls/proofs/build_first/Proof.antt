@@ -8,20 +8,8 @@ use borrow.Author.Needs.{needs}
 use Rattle.case_calls.proofs.build_first.Statement.{statement}
 use Rattle.case_calls.proofs.build_first.Tie as tie
 
-words-lent-requires : tie.Need-words-lent-requires
-words-lent-requires c κs = search needs
-
-slice-relend-prefix-build : tie.Need-slice-relend-prefix-build
-slice-relend-prefix-build c = search needs
-
 slice-aggregate-build : tie.Need-slice-aggregate-build
 slice-aggregate-build c = sym (length-take-le _ _ (omega arith))
-
-build-requires : tie.Need-build-requires
-build-requires c κs = search needs
-
-same-length : tie.Need-same-length
-same-length c = search needs
 
 returns : tie.Need-returns
 returns c =
@@ -33,10 +21,4 @@ returns c =
 pub build-first-spec : {M : Type 1} → statement M
 build-first-spec =
     tie.close
-    (tie.spec
-    words-lent-requires
-    slice-relend-prefix-build
-    slice-aggregate-build
-    build-requires
-    same-length
-    returns)
+    (tie.spec (λ c κs. search needs) (λ c. search needs) slice-aggregate-build (λ c κs. search needs) (λ c. search needs) returns)

@@ -9,24 +9,10 @@ use Rattle.case_calls.proofs.build_sevens.Tie as tie
 slice-aggregate-build-first : tie.Need-slice-aggregate-build-first
 slice-aggregate-build-first c = sym (length-replicate {0} {A = ℕ} 786240 7)
 
-build-first-requires : tie.Need-build-first-requires
-build-first-requires c κs = search needs
-
 slice-aggregate-mix-words : tie.Need-slice-aggregate-mix-words
 slice-aggregate-mix-words c = sym (c .before .before .build-first .kept .1 .0 ∙ length-replicate {0} {A = ℕ} 786240 7)
-
-mix-words-requires : tie.Need-mix-words-requires
-mix-words-requires c κs = search needs
-
-returns : tie.Need-returns
-returns c = search needs
 
 pub build-sevens-spec : {M : Type 1} → statement M
 build-sevens-spec =
     tie.close
-    (tie.spec
-    slice-aggregate-build-first
-    build-first-requires
-    slice-aggregate-mix-words
-    mix-words-requires
-    returns)
+    (tie.spec slice-aggregate-build-first (λ c κs. search needs) slice-aggregate-mix-words (λ c κs. search needs) (λ c. search needs))

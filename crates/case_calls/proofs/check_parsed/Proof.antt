@@ -8,26 +8,8 @@ use borrow.Author.Needs.{needs}
 use Rattle.case_calls.proofs.check_parsed.Statement.{statement}
 use Rattle.case_calls.proofs.check_parsed.Tie as tie
 
-slice-aggregate-parse : tie.Need-slice-aggregate-parse
-slice-aggregate-parse c = search needs
-
-parse-requires : tie.Need-parse-requires
-parse-requires c κs = search needs
-
-slice-aggregate-words-lent : tie.Need-slice-aggregate-words-lent
-slice-aggregate-words-lent c = search needs
-
-words-lent-requires : tie.Need-words-lent-requires
-words-lent-requires c κs = search needs
-
-array-share-prefix-words : tie.Need-array-share-prefix-words
-array-share-prefix-words c = search needs
-
 slice-aggregate-check : tie.Need-slice-aggregate-check
 slice-aggregate-check c = sym (length-take-le _ _ (omega arith))
-
-check-requires : tie.Need-check-requires
-check-requires c κs = search needs
 
 returns : tie.Need-returns
 returns c =
@@ -39,12 +21,5 @@ returns c =
 pub check-parsed-spec : {M : Type 1} → statement M
 check-parsed-spec =
     tie.close
-    (tie.spec
-    slice-aggregate-parse
-    parse-requires
-    slice-aggregate-words-lent
-    words-lent-requires
-    array-share-prefix-words
-    slice-aggregate-check
-    check-requires
-    returns)
+    (tie.spec (λ c. search needs) (λ c κs. search needs) (λ c. search needs) (λ c κs. search needs) (λ c. search needs) slice-aggregate-check
+    (λ c κs. search needs) returns)

@@ -8,20 +8,8 @@ use borrow.Author.Needs.{needs}
 use Rattle.case_calls.proofs.write_first.Statement.{statement}
 use Rattle.case_calls.proofs.write_first.Tie as tie
 
-bytes-lent-requires : tie.Need-bytes-lent-requires
-bytes-lent-requires c κs = search needs
-
-slice-relend-prefix-write-table : tie.Need-slice-relend-prefix-write-table
-slice-relend-prefix-write-table c = search needs
-
 slice-aggregate-write-table : tie.Need-slice-aggregate-write-table
 slice-aggregate-write-table c = sym (length-take-le _ _ (omega arith))
-
-write-table-requires : tie.Need-write-table-requires
-write-table-requires c κs = search needs
-
-same-length : tie.Need-same-length
-same-length c = search needs
 
 returns : tie.Need-returns
 returns c =
@@ -33,10 +21,4 @@ returns c =
 pub write-first-spec : {M : Type 1} → statement M
 write-first-spec =
     tie.close
-    (tie.spec
-    bytes-lent-requires
-    slice-relend-prefix-write-table
-    slice-aggregate-write-table
-    write-table-requires
-    same-length
-    returns)
+    (tie.spec (λ c κs. search needs) (λ c. search needs) slice-aggregate-write-table (λ c κs. search needs) (λ c. search needs) returns)

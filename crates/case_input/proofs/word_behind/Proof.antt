@@ -4,14 +4,8 @@ use Rattle.case_input.proofs.Parsed.{behind-space, behind-line, behind-
 use Rattle.case_input.proofs.word_behind.Statement.{statement}
 use Rattle.case_input.proofs.word_behind.Tie as tie
 
-add-result : tie.Need-add-result
-add-result c = search needs
-
 returns : tie.Need-returns
 returns c = behind-space (c .before .args .b) (c .before .args .k) (c .if1 .taken)
-
-add-result-2 : tie.Need-add-result-2
-add-result-2 c = search needs
 
 returns-2 : tie.Need-returns-2
 returns-2 c = behind-line (c .before .before .args .b) (c .before .before .args .k) (c .before .if1 .left) (c .if2 .taken)
@@ -20,4 +14,4 @@ returns-3 : tie.Need-returns-3
 returns-3 c = behind-other (c .before .before .args .b) (c .before .before .args .k) (c .before .if1 .left) (c .if2 .left)
 
 pub word-behind-spec : {M : Type 1} → statement M
-word-behind-spec = tie.close (tie.spec add-result returns add-result-2 returns-2 returns-3)
+word-behind-spec = tie.close (tie.spec (λ c. search needs) returns (λ c. search needs) returns-2 returns-3)

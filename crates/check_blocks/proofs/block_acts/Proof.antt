@@ -26,12 +26,6 @@ returns c =
     let t = c .before .generator-acts in
     tested-fails (c .before .before .before .loop .inv) (omega arith) (sym (t .ensures) ∙ not-true (t .result) (c .if1 .taken))
 
-add-k : tie.Need-add-k Inv-loop μ-loop
-add-k c = omega arith
-
-loop-less : tie.Need-loop-less Inv-loop μ-loop
-loop-less c = omega arith
-
 loop-again : tie.Need-loop-again Inv-loop μ-loop
 loop-again c =
     let t = c .before .generator-acts in
@@ -43,13 +37,4 @@ returns-2 c = tested-all (c .before .loop .inv) (omega arith)
 pub block-acts-spec : {M : Type 1} → statement M
 block-acts-spec =
     tie.close
-    (tie.spec
-    Inv-loop
-    μ-loop
-    loop-holds
-    generator-acts-requires
-    returns
-    add-k
-    loop-less
-    loop-again
-    returns-2)
+    (tie.spec Inv-loop μ-loop loop-holds generator-acts-requires returns (λ c. omega arith) (λ c. omega arith) loop-again returns-2)

@@ -7,9 +7,6 @@ use Rattle.check_blocks.proofs.Blocks.{column-there, whole-listed, whol
 use Rattle.check_blocks.proofs.block_at.Statement.{statement}
 use Rattle.check_blocks.proofs.block_at.Tie as tie
 
-up-requires : tie.Need-up-requires
-up-requires c κs = search needs
-
 add-word-at : tie.Need-add-word-at
 add-word-at c =
     let u = c .before in
@@ -23,9 +20,6 @@ word-at-requires c κs =
     let z = u .before .before in
     let f = column-there (z .pre .0) (z .args .o) (z .pre .2) in
     (omega (arith, f, u .up .ensures), omega arith)
-
-up-requires-2 : tie.Need-up-requires-2
-up-requires-2 c κs = search needs
 
 found-near-requires : tie.Need-found-near-requires
 found-near-requires c κs =
@@ -49,6 +43,4 @@ returns c =
     whole-refers (z .pre .0) (a .o) (z .pre .3) (v .up2 .result) _ (v .up2 .ensures ∙ w .word-at .ensures) line (c .found-near .ensures)
 
 pub block-at-spec : {M : Type 1} → statement M
-block-at-spec =
-    tie.close
-    (tie.spec up-requires add-word-at word-at-requires up-requires-2 found-near-requires returns)
+block-at-spec = tie.close (tie.spec (λ c κs. search needs) add-word-at word-at-requires (λ c κs. search needs) found-near-requires returns)

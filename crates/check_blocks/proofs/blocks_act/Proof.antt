@@ -69,16 +69,4 @@ returns-2 c =
     going-all (a .s) (now (a .words)) (a .i) (a .d) (z .pre .0) (l .loop .inv) (omega (arith, c .if1 .left))
 
 pub blocks-act-spec : {M : Type 1} → statement M
-blocks-act-spec =
-    tie.close
-    (tie.spec
-    Inv-loop
-    μ-loop
-    loop-holds
-    block-at-requires
-    block-acts-requires
-    returns
-    add-o
-    loop-less
-    loop-again
-    returns-2)
+blocks-act-spec = tie.close (tie.spec Inv-loop μ-loop loop-holds block-at-requires block-acts-requires returns add-o loop-less loop-again returns-2)

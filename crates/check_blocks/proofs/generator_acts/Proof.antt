@@ -25,12 +25,6 @@ returns c =
     let t = c .before .column-acts in
     tested-fails (c .before .before .before .loop .inv) (omega arith) (sym (t .ensures) ∙ not-true (t .result) (c .if1 .taken))
 
-add-c : tie.Need-add-c Inv-loop μ-loop
-add-c c = omega arith
-
-loop-less : tie.Need-loop-less Inv-loop μ-loop
-loop-less c = omega arith
-
 loop-again : tie.Need-loop-again Inv-loop μ-loop
 loop-again c =
     let t = c .before .column-acts in
@@ -42,13 +36,4 @@ returns-2 c = tested-all (c .before .loop .inv) (omega arith)
 pub generator-acts-spec : {M : Type 1} → statement M
 generator-acts-spec =
     tie.close
-    (tie.spec
-    Inv-loop
-    μ-loop
-    loop-holds
-    column-acts-requires
-    returns
-    add-c
-    loop-less
-    loop-again
-    returns-2)
+    (tie.spec Inv-loop μ-loop loop-holds column-acts-requires returns (λ c. omega arith) (λ c. omega arith) loop-again returns-2)

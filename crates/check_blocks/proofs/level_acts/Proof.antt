@@ -26,14 +26,8 @@ abbrev μ-loop : tie.MeasureT-loop
 start-of-requires : tie.Need-start-of-requires Inv-loop μ-loop
 start-of-requires c κs = let p = c .before .pre in (p .0 .1 .whole, omega (arith, p .2))
 
-add-count-of : tie.Need-add-count-of Inv-loop μ-loop
-add-count-of c = omega arith
-
 count-of-requires : tie.Need-count-of-requires Inv-loop μ-loop
 count-of-requires c κs = let p = c .before .before .pre in (p .0 .1 .whole, omega (arith, p .2))
-
-add-found : tie.Need-add-found Inv-loop μ-loop
-add-found c = omega arith
 
 found-requires : tie.Need-found-requires Inv-loop μ-loop
 found-requires c κs =
@@ -111,19 +105,5 @@ loop-again c =
 pub level-acts-spec : {M : Type 1} → statement M
 level-acts-spec =
     tie.close
-    (tie.spec
-    Inv-loop
-    μ-loop
-    start-of-requires
-    add-count-of
-    count-of-requires
-    add-found
-    found-requires
-    loop-holds
-    blocks-act-requires
-    returns
-    add-r
-    returns-2
-    following-requires
-    loop-less
-    loop-again)
+    (tie.spec Inv-loop μ-loop start-of-requires (λ c. omega arith) count-of-requires (λ c. omega arith) found-requires loop-holds blocks-act-requires
+    returns add-r returns-2 following-requires loop-less loop-again)

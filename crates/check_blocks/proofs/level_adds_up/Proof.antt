@@ -28,17 +28,11 @@ found-requires c κs =
     let (W, l, h) = z .pre in
     (W, l, h, whole-some (z .args .s) (now (z .args .words)) W (z .args .i) l h)
 
-up-requires : tie.Need-up-requires Inv-loop μ-loop
-up-requires c κs = search needs
-
 loop-holds : tie.Need-loop-holds Inv-loop μ-loop
 loop-holds c =
     let f = c .before in
     let a = f .before .before .before .args in
     (f .found .ensures, left-none (a .s .gens) (now (a .words)) (a .i) (a .order) (c .up .result) (c .up .ensures))
-
-square-requires : tie.Need-square-requires Inv-loop μ-loop
-square-requires c κs = search needs
 
 returns : tie.Need-returns Inv-loop μ-loop
 returns c =
@@ -93,17 +87,5 @@ loop-again c =
 pub level-adds-up-spec : {M : Type 1} → statement M
 level-adds-up-spec =
     tie.close
-    (tie.spec
-    Inv-loop
-    μ-loop
-    count-of-requires
-    found-requires
-    up-requires
-    loop-holds
-    square-requires
-    returns
-    add-r
-    returns-2
-    following-requires
-    loop-less
-    loop-again)
+    (tie.spec Inv-loop μ-loop count-of-requires found-requires (λ c κs. search needs) loop-holds (λ c κs. search needs) returns add-r returns-2
+    following-requires loop-less loop-again)

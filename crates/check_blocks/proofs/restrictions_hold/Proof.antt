@@ -16,9 +16,6 @@ Inv-loop words s from gens first i₀ i = UpTo s words (HoldingBehind s words fr
 abbrev μ-loop : tie.MeasureT-loop
 μ-loop words s from gens first i₀ i = gens - i
 
-restricted-requires : tie.Need-restricted-requires Inv-loop μ-loop
-restricted-requires c κs = search needs
-
 loop-holds : tie.Need-loop-holds Inv-loop μ-loop
 loop-holds c =
     let (some, is) = c .restricted .ensures in
@@ -40,12 +37,6 @@ returns c =
           (not-true (t .result) (c .if1 .taken));
     }
 
-add-i : tie.Need-add-i Inv-loop μ-loop
-add-i c = omega arith
-
-loop-less : tie.Need-loop-less Inv-loop μ-loop
-loop-less c = omega arith
-
 loop-again : tie.Need-loop-again Inv-loop μ-loop
 loop-again c =
     let l = c .before .before .before in
@@ -60,4 +51,7 @@ returns-2 c =
     record { is = table-holds (a .s) T (HoldingBehind (a .s) T (a .from)) (asks (a .s) T) (a .s .m) (λ P p. p .formed .gens-are) (l .loop .inv .0) (omega arith) }
 
 pub restrictions-hold-spec : {M : Type 1} → statement M
-restrictions-hold-spec = tie.close (tie.spec Inv-loop μ-loop restricted-requires loop-holds level-acts-requires returns add-i loop-less loop-again returns-2)
+restrictions-hold-spec =
+    tie.close
+    (tie.spec Inv-loop μ-loop (λ c κs. search needs) loop-holds level-acts-requires returns (λ c. omega arith) (λ c. omega arith) loop-again
+    returns-2)

@@ -7,12 +7,6 @@ use borrow.Author.Needs.{needs}
 use Rattle.check_blocks.proofs.square.Statement.{statement}
 use Rattle.check_blocks.proofs.square.Tie as tie
 
-up-requires : tie.Need-up-requires
-up-requires c κs = search needs
-
-up-requires-2 : tie.Need-up-requires-2
-up-requires-2 c κs = search needs
-
 mul-result : tie.Need-mul-result
 mul-result c =
     let d = c .before .before .args .d in
@@ -23,4 +17,4 @@ returns : tie.Need-returns
 returns c = ap₂ (λ (a b : ℕ). a * b) (c .before .up .ensures) (c .up2 .ensures)
 
 pub square-spec : {M : Type 1} → statement M
-square-spec = tie.close (tie.spec up-requires up-requires-2 mul-result returns)
+square-spec = tie.close (tie.spec (λ c κs. search needs) (λ c κs. search needs) mul-result returns)

@@ -19,12 +19,6 @@ abbrev μ-loop : tie.MeasureT-loop
 loop-holds : tie.Need-loop-holds Inv-loop μ-loop
 loop-holds c = let a = c .before .args in adds-known (a .s) (now (a .orders)) (now (a .words))
 
-add-level-adds-up : tie.Need-add-level-adds-up Inv-loop μ-loop
-add-level-adds-up c = omega arith
-
-up-requires : tie.Need-up-requires Inv-loop μ-loop
-up-requires c κs = search needs
-
 add-level-adds-up-2 : tie.Need-add-level-adds-up-2 Inv-loop μ-loop
 add-level-adds-up-2 c = omega (arith, c .up .ensures)
 
@@ -46,12 +40,6 @@ returns c =
     adds-fails (a .s) (now (a .orders)) (now (a .words)) (omega arith) (u .up .result + 1) _ (ap (λ i. i + 1) (u .up .ensures)) refl (t .ensures)
     (l .loop .inv) (not-true (t .result) (c .if1 .taken))
 
-add-i : tie.Need-add-i Inv-loop μ-loop
-add-i c = omega arith
-
-loop-less : tie.Need-loop-less Inv-loop μ-loop
-loop-less c = omega arith
-
 loop-again : tie.Need-loop-again Inv-loop μ-loop
 loop-again c =
     let t = c .before .level-adds-up in
@@ -70,18 +58,5 @@ returns-2 c =
 pub squares-hold-spec : {M : Type 1} → statement M
 squares-hold-spec =
     tie.close
-    (tie.spec
-    Inv-loop
-    μ-loop
-    loop-holds
-    add-level-adds-up
-    up-requires
-    add-level-adds-up-2
-    mul-level-adds-up
-    element-copy-out-level-adds-up
-    level-adds-up-requires
-    returns
-    add-i
-    loop-less
-    loop-again
-    returns-2)
+    (tie.spec Inv-loop μ-loop loop-holds (λ c. omega arith) (λ c κs. search needs) add-level-adds-up-2 mul-level-adds-up
+    element-copy-out-level-adds-up level-adds-up-requires returns (λ c. omega arith) (λ c. omega arith) loop-again returns-2)

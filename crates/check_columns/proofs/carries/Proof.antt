@@ -49,15 +49,4 @@ returns-2 c = λ e.
     carrying-all (lo .loop .inv) (omega arith)
 
 pub carries-spec : {M : Type 1} → statement M
-carries-spec =
-    tie.close
-    (tie.spec
-    Inv-loop
-    μ-loop
-    loop-holds
-    intertwines-at-requires
-    returns
-    add-o
-    loop-less
-    loop-again
-    returns-2)
+carries-spec = tie.close (tie.spec Inv-loop μ-loop loop-holds intertwines-at-requires returns add-o loop-less loop-again returns-2)

@@ -40,9 +40,6 @@ target-requires c κs =
     let z = lo .before .before .before in
     (z .args .s .m, stored-fewer (suc (lo .loop .j)) (omega arith) (z .pre .0 .kept .stored))
 
-up-requires : tie.Need-up-requires Inv-loop μ-loop
-up-requires c κs = search needs
-
 add-rep-at : tie.Need-add-rep-at Inv-loop μ-loop
 add-rep-at c =
     let up = c .before in
@@ -62,12 +59,6 @@ rep-at-requires c κs =
     let L = z .pre .0 .leads (lo .loop .j) (lo .loop .inv .from) (omega arith) in
     subst (λ x. (a .g .high + x < length (now (a .firsts))) × (8 * getD (now (a .firsts)) (a .g .high + x) 0 + 8 ≤ length (now (a .words))))
     (sym (up .up .ensures ∙ ta .target .ensures)) (L .place)
-
-up-requires-2 : tie.Need-up-requires-2 Inv-loop μ-loop
-up-requires-2 c κs = search needs
-
-up-requires-3 : tie.Need-up-requires-3 Inv-loop μ-loop
-up-requires-3 c κs = search needs
 
 mul-if1 : tie.Need-mul-if1 Inv-loop μ-loop
 mul-if1 c =
@@ -115,12 +106,6 @@ pair-requires c κs =
     let z = lo .before .before .before in
     (omega (arith, up3 .up3 .ensures, up2 .up2 .ensures, lo .loop .inv .from), omega (arith, up2 .up2 .ensures, lt .loop-test .taken, z .pre .0 .kept .few))
 
-mul-carries : tie.Need-mul-carries Inv-loop μ-loop
-mul-carries c = search needs
-
-index-1-carries : tie.Need-index-1-carries Inv-loop μ-loop
-index-1-carries c = search needs
-
 carries-requires : tie.Need-carries-requires Inv-loop μ-loop
 carries-requires c κs =
     let ra = c .before .before .before .before .before .before in
@@ -144,12 +129,6 @@ carries-requires c κs =
 
 returns-2 : tie.Need-returns-2 Inv-loop μ-loop
 returns-2 c = λ e. absurd (false≢true e)
-
-add-j-2 : tie.Need-add-j-2 Inv-loop μ-loop
-add-j-2 c = search needs
-
-loop-less : tie.Need-loop-less Inv-loop μ-loop
-loop-less c = omega arith
 
 loop-again : tie.Need-loop-again Inv-loop μ-loop
 loop-again c =
@@ -184,27 +163,6 @@ returns-3 c = λ e.
 pub carries-all-spec : {M : Type 1} → statement M
 carries-all-spec =
     tie.close
-    (tie.spec
-    Inv-loop
-    μ-loop
-    add-j
-    loop-holds
-    target-requires
-    up-requires
-    add-rep-at
-    rep-at-requires
-    up-requires-2
-    up-requires-3
-    mul-if1
-    element-copy-out-if1
-    commutes-requires
-    returns
-    pair-requires
-    mul-carries
-    index-1-carries
-    carries-requires
-    returns-2
-    add-j-2
-    loop-less
-    loop-again
-    returns-3)
+    (tie.spec Inv-loop μ-loop add-j loop-holds target-requires (λ c κs. search needs) add-rep-at rep-at-requires (λ c κs. search needs)
+    (λ c κs. search needs) mul-if1 element-copy-out-if1 commutes-requires returns pair-requires (λ c. search needs) (λ c. search needs)
+    carries-requires returns-2 (λ c. search needs) (λ c. omega arith) loop-again returns-3)

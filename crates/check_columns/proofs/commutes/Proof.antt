@@ -50,15 +50,4 @@ returns-2 c = λ e.
     carrying-all (lo .loop .inv) (omega arith)
 
 pub commutes-spec : {M : Type 1} → statement M
-commutes-spec =
-    tie.close
-    (tie.spec
-    Inv-loop
-    μ-loop
-    loop-holds
-    commutes-at-requires
-    returns
-    add-o
-    loop-less
-    loop-again
-    returns-2)
+commutes-spec = tie.close (tie.spec Inv-loop μ-loop loop-holds commutes-at-requires returns add-o loop-less loop-again returns-2)

@@ -77,14 +77,4 @@ returns-3 c = λ P is.
     (mo4 .moved4 .ensures .0) (mo5 .moved5 .ensures .0) is
 
 pub commutes-at-spec : {M : Type 1} → statement M
-commutes-at-spec =
-    tie.close
-    (tie.spec
-    moved-requires
-    moved-requires-2
-    returns
-    moved-requires-3
-    moved-requires-4
-    moved-requires-5
-    returns-2
-    returns-3)
+commutes-at-spec = tie.close (tie.spec moved-requires moved-requires-2 returns moved-requires-3 moved-requires-4 moved-requires-5 returns-2 returns-3)

@@ -19,9 +19,6 @@ Inv-loop words rows s p part free₀ k₀ free k = SlotsTaken (length free₀) (
 abbrev μ-loop : tie.MeasureT-loop
 μ-loop words rows s p part free₀ k₀ free k = p - k
 
-clear-requires : tie.Need-clear-requires Inv-loop μ-loop
-clear-requires c κs = search needs
-
 mark-requires : tie.Need-mark-requires Inv-loop μ-loop
 mark-requires c κs =
     let at-clear = c .before .before .before in
@@ -41,17 +38,8 @@ character-requires c κs =
     let z = at-loop .before .before .before .before .before .before .before .before .before .before .before in
     (record { part = z .args .part; parted = z .pre .0; allowed = allowed-own (at-loop .loop .inv .0 .allowed) }, omega arith)
 
-same-length : tie.Need-same-length Inv-loop μ-loop
-same-length c = search needs
-
 returns : tie.Need-returns Inv-loop μ-loop
 returns c = λ x. absurd (false≢true x)
-
-add-k : tie.Need-add-k Inv-loop μ-loop
-add-k c = search needs
-
-loop-less : tie.Need-loop-less Inv-loop μ-loop
-loop-less c = omega arith
 
 loop-again : tie.Need-loop-again Inv-loop μ-loop
 loop-again c =
@@ -92,17 +80,5 @@ returns-2 c =
 pub all-characters-spec : {M : Type 1} → statement M
 all-characters-spec =
     tie.close
-    (tie.spec
-    Inv-loop
-    μ-loop
-    clear-requires
-    mark-requires
-    loop-holds
-    character-requires
-    same-length
-    returns
-    add-k
-    loop-less
-    loop-again
-    same-length-2
-    returns-2)
+    (tie.spec Inv-loop μ-loop (λ c κs. search needs) mark-requires loop-holds character-requires (λ c. search needs) returns (λ c. search needs)
+    (λ c. omega arith) loop-again same-length-2 returns-2)

@@ -12,9 +12,6 @@ use Rattle.check_first.proofs.Lines.{image-room, placed, head-is}
 use Rattle.check_first.proofs.character.Statement.{statement}
 use Rattle.check_first.proofs.character.Tie as tie
 
-up-requires : tie.Need-up-requires
-up-requires c κs = search needs
-
 mul-at : tie.Need-mul-at
 mul-at c =
     let z = c .before .before .before in
@@ -58,15 +55,6 @@ word-at-requires-2 c κs =
     let q = image-room (placed (z .pre .0 .parted) (z .pre .1)) 0 (z .pre .0 .parted .counted .some) in
     (omega (arith, ap (λ n. z .args .k * n) (at-up .up .ensures), q), omega arith)
 
-up-requires-2 : tie.Need-up-requires-2
-up-requires-2 c κs = search needs
-
-take-requires : tie.Need-take-requires
-take-requires c κs = search needs
-
-same-length : tie.Need-same-length
-same-length c = search needs
-
 returns-4 : tie.Need-returns-4
 returns-4 c = λ x. absurd (false≢true x)
 
@@ -87,9 +75,6 @@ images-ok-requires c κs =
       at-word-at2 .word-at2 .ensures ∙ ap (λ n. wordAt T (a .k * n) EXP) (at-up .up .ensures),
       omega (arith, at-up2 .up2 .ensures, e, multiple-small (a .p) (M .part) (a .s .m) k (M .parted .product) (M .parted .positive) l),
     )
-
-same-length-2 : tie.Need-same-length-2
-same-length-2 c = search needs
 
 returns-5 : tie.Need-returns-5
 returns-5 c =
@@ -120,20 +105,5 @@ returns-5 c =
 pub character-spec : {M : Type 1} → statement M
 character-spec =
     tie.close
-    (tie.spec
-    up-requires
-    mul-at
-    line-is-requires
-    returns
-    two-at-requires
-    returns-2
-    word-at-requires
-    returns-3
-    word-at-requires-2
-    up-requires-2
-    take-requires
-    same-length
-    returns-4
-    images-ok-requires
-    same-length-2
-    returns-5)
+    (tie.spec (λ c κs. search needs) mul-at line-is-requires returns two-at-requires returns-2 word-at-requires returns-3 word-at-requires-2
+    (λ c κs. search needs) (λ c κs. search needs) (λ c. search needs) returns-4 images-ok-requires (λ c. search needs) returns-5)

@@ -14,40 +14,19 @@ use Rattle.check_first.proofs.characters.Tie as tie
 returns : tie.Need-returns
 returns c = λ x. absurd (false≢true x)
 
-up-requires : tie.Need-up-requires
-up-requires c κs = search needs
-
 returns-2 : tie.Need-returns-2
 returns-2 c = λ x. absurd (false≢true x)
 
-up-requires-2 : tie.Need-up-requires-2
-up-requires-2 c κs = search needs
-
 returns-3 : tie.Need-returns-3
 returns-3 c = λ x. absurd (false≢true x)
-
-wide-requires : tie.Need-wide-requires
-wide-requires c κs = search needs
-
-div-wide : tie.Need-div-wide
-div-wide c = search needs
-
-wide-requires-2 : tie.Need-wide-requires-2
-wide-requires-2 c κs = search needs
 
 mul-if4 : tie.Need-mul-if4
 mul-if4 c =
     let at-wide = c .before .before in
     omega (arith, product-fits (at-wide .wide .result) (c .wide2 .result) (at-wide .wide .ensures .1) (c .wide2 .ensures .1))
 
-up-requires-3 : tie.Need-up-requires-3
-up-requires-3 c κs = search needs
-
 returns-4 : tie.Need-returns-4
 returns-4 c = λ x. absurd (false≢true x)
-
-wide-requires-3 : tie.Need-wide-requires-3
-wide-requires-3 c κs = search needs
 
 mul-if5 : tie.Need-mul-if5
 mul-if5 c =
@@ -92,9 +71,6 @@ all-characters-requires c κs =
     let at-if3 = e .before .before .before .before .before .before .before .before in
     (parted e, omega (arith, at-if3 .if3 .left, at-if3 .before .up2 .ensures))
 
-same-length : tie.Need-same-length
-same-length c = search needs
-
 returns-7 : tie.Need-returns-7
 returns-7 c =
     let at-wide = c .before .before .before .before .before .before .before .before .before .before .before .before .before in
@@ -103,23 +79,6 @@ returns-7 c =
 pub characters-spec : {M : Type 1} → statement M
 characters-spec =
     tie.close
-    (tie.spec
-    returns
-    up-requires
-    returns-2
-    up-requires-2
-    returns-3
-    wide-requires
-    div-wide
-    wide-requires-2
-    mul-if4
-    up-requires-3
-    returns-4
-    wide-requires-3
-    mul-if5
-    returns-5
-    small-characters-requires
-    returns-6
-    all-characters-requires
-    same-length
-    returns-7)
+    (tie.spec returns (λ c κs. search needs) returns-2 (λ c κs. search needs) returns-3 (λ c κs. search needs) (λ c. search needs)
+    (λ c κs. search needs) mul-if4 (λ c κs. search needs) returns-4 (λ c κs. search needs) mul-if5 returns-5 small-characters-requires returns-6
+    all-characters-requires (λ c. search needs) returns-7)

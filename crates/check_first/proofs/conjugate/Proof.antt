@@ -9,25 +9,10 @@ use Rattle.definitions.specs.Presentation.{pairNumber}
 use Rattle.check_first.proofs.conjugate.Statement.{statement}
 use Rattle.check_first.proofs.conjugate.Tie as tie
 
-up-requires : tie.Need-up-requires
-up-requires c κs = search needs
-
 pair-requires : tie.Need-pair-requires
 pair-requires c κs =
     let z = c .before in
     omega (arith, c .up .ensures, z .pre .1)
-
-mul-w : tie.Need-mul-w
-mul-w c = search needs
-
-index-1-w : tie.Need-index-1-w
-index-1-w c = search needs
-
-index-2-w : tie.Need-index-2-w
-index-2-w c = search needs
-
-up-requires-2 : tie.Need-up-requires-2
-up-requires-2 c κs = search needs
 
 returns : tie.Need-returns
 returns c = (omega arith, λ n. absurd (n refl))
@@ -51,13 +36,5 @@ returns-2 c =
 pub conjugate-spec : {M : Type 1} → statement M
 conjugate-spec =
     tie.close
-    (tie.spec
-    up-requires
-    pair-requires
-    mul-w
-    index-1-w
-    index-2-w
-    up-requires-2
-    returns
-    add-result
-    returns-2)
+    (tie.spec (λ c κs. search needs) pair-requires (λ c. search needs) (λ c. search needs) (λ c. search needs) (λ c κs. search needs) returns
+    add-result returns-2)

@@ -18,9 +18,6 @@ Inv-loop words rows s p k e gens n at j₀ j = LedUpTo s words rows p k j
 abbrev μ-loop : tie.MeasureT-loop
 μ-loop words rows s p k e gens n at j₀ j = gens - j
 
-up-requires : tie.Need-up-requires Inv-loop μ-loop
-up-requires c κs = search needs
-
 mul-at : tie.Need-mul-at Inv-loop μ-loop
 mul-at c =
     let z = c .before .before in
@@ -29,9 +26,6 @@ mul-at c =
 
 loop-holds : tie.Need-loop-holds Inv-loop μ-loop
 loop-holds c = reaching-none
-
-up-requires-2 : tie.Need-up-requires-2 Inv-loop μ-loop
-up-requires-2 c κs = search needs
 
 add-l : tie.Need-add-l Inv-loop μ-loop
 add-l c =
@@ -109,12 +103,6 @@ led-to-requires c κs =
 returns-5 : tie.Need-returns-5 Inv-loop μ-loop
 returns-5 c = λ x. absurd (false≢true x)
 
-add-j : tie.Need-add-j Inv-loop μ-loop
-add-j c = search needs
-
-loop-less : tie.Need-loop-less Inv-loop μ-loop
-loop-less c = omega arith
-
 loop-again : tie.Need-loop-again Inv-loop μ-loop
 loop-again c =
     let at-led-to = c .before in
@@ -148,25 +136,6 @@ returns-6 c =
 pub images-ok-spec : {M : Type 1} → statement M
 images-ok-spec =
     tie.close
-    (tie.spec
-    Inv-loop
-    μ-loop
-    up-requires
-    mul-at
-    loop-holds
-    up-requires-2
-    add-l
-    line-is-requires
-    returns
-    two-at-requires
-    returns-2
-    word-at-requires
-    returns-3
-    conjugate-requires
-    returns-4
-    led-to-requires
-    returns-5
-    add-j
-    loop-less
-    loop-again
+    (tie.spec Inv-loop μ-loop (λ c κs. search needs) mul-at loop-holds (λ c κs. search needs) add-l line-is-requires returns two-at-requires
+    returns-2 word-at-requires returns-3 conjugate-requires returns-4 led-to-requires returns-5 (λ c. search needs) (λ c. omega arith) loop-again
     returns-6)

@@ -17,9 +17,6 @@ word-at-requires c κs =
     let z = c .before in
     (z .pre .0, omega arith)
 
-up-requires : tie.Need-up-requires
-up-requires c κs = search needs
-
 returns : tie.Need-returns
 returns c = λ e. absurd (false≢true e)
 
@@ -84,13 +81,4 @@ returns-3 c =
 pub led-to-spec : {M : Type 1} → statement M
 led-to-spec =
     tie.close
-    (tie.spec
-    word-at-requires
-    up-requires
-    returns
-    mul-word-at
-    word-at-requires-2
-    returns-2
-    mul-result
-    rem-result
-    returns-3)
+    (tie.spec word-at-requires (λ c κs. search needs) returns mul-word-at word-at-requires-2 returns-2 mul-result rem-result returns-3)

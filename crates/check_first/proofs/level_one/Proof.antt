@@ -11,9 +11,6 @@ use Rattle.check_first.proofs.First.{character-opened}
 use Rattle.check_first.proofs.level_one.Statement.{statement}
 use Rattle.check_first.proofs.level_one.Tie as tie
 
-element-copy-out-if1 : tie.Need-element-copy-out-if1
-element-copy-out-if1 c = search needs
-
 returns : tie.Need-returns
 returns c = λ x. absurd (false≢true x)
 
@@ -22,14 +19,8 @@ characters-requires c κs =
     let z = c .before .before .before .before .before in
     z .pre
 
-same-length : tie.Need-same-length
-same-length c = search needs
-
 returns-2 : tie.Need-returns-2
 returns-2 c = λ x. absurd (false≢true x)
-
-up-requires : tie.Need-up-requires
-up-requires c κs = search needs
 
 heads-behind-requires : tie.Need-heads-behind-requires
 heads-behind-requires c κs =
@@ -43,9 +34,6 @@ heads-behind-requires c κs =
       subst (Opened (a .s) (ordersIn (now (a .orders))) (now (a .words))) (sym (c .up .ensures))
           (character-opened C (λ l. omega (arith, at-if1 .if1 .left))),
     )
-
-same-length-2 : tie.Need-same-length-2
-same-length-2 c = search needs
 
 returns-3 : tie.Need-returns-3
 returns-3 c = λ x. absurd (false≢true x)
@@ -65,12 +53,6 @@ count-of-requires c κs =
       },
       C .some,
     )
-
-up-requires-2 : tie.Need-up-requires-2
-up-requires-2 c κs = search needs
-
-same-length-3 : tie.Need-same-length-3
-same-length-3 c = search needs
 
 returns-4 : tie.Need-returns-4
 returns-4 c =
@@ -98,17 +80,5 @@ returns-4 c =
 pub level-one-spec : {M : Type 1} → statement M
 level-one-spec =
     tie.close
-    (tie.spec
-    element-copy-out-if1
-    returns
-    characters-requires
-    same-length
-    returns-2
-    up-requires
-    heads-behind-requires
-    same-length-2
-    returns-3
-    count-of-requires
-    up-requires-2
-    same-length-3
-    returns-4)
+    (tie.spec (λ c. search needs) returns characters-requires (λ c. search needs) returns-2 (λ c κs. search needs) heads-behind-requires
+    (λ c. search needs) returns-3 count-of-requires (λ c κs. search needs) (λ c. search needs) returns-4)

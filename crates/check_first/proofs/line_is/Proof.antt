@@ -30,12 +30,6 @@ two-at-requires-2 c κs =
     let z = c .before .before .before in
     (z .pre .0, omega arith)
 
-add-wide : tie.Need-add-wide
-add-wide c = search needs
-
-wide-requires : tie.Need-wide-requires
-wide-requires c κs = search needs
-
 mul-result : tie.Need-mul-result
 mul-result c = omega (arith, c .wide .ensures .1)
 
@@ -65,14 +59,4 @@ returns-2 c =
 pub line-is-spec : {M : Type 1} → statement M
 line-is-spec =
     tie.close
-    (tie.spec
-    two-at-requires
-    mul-if1
-    add-if1
-    returns
-    two-at-requires-2
-    add-wide
-    wide-requires
-    mul-result
-    add-result
-    returns-2)
+    (tie.spec two-at-requires mul-if1 add-if1 returns two-at-requires-2 (λ c. search needs) (λ c κs. search needs) mul-result add-result returns-2)

@@ -41,12 +41,4 @@ returns-2 c =
     at-set-free .set-free .ensures
 
 pub mark-spec : {M : Type 1} → statement M
-mark-spec =
-    tie.close
-    (tie.spec
-    set-first-requires
-    same-length
-    returns
-    set-free-requires
-    same-length-2
-    returns-2)
+mark-spec = tie.close (tie.spec set-first-requires same-length returns set-free-requires same-length-2 returns-2)

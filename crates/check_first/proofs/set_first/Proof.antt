@@ -26,12 +26,6 @@ slice-write-free c =
     let l = at-loop .loop in
     omega (arith, l .inv .0 .size, z .pre .1)
 
-add-e : tie.Need-add-e Inv-loop μ-loop
-add-e c = search needs
-
-loop-less : tie.Need-loop-less Inv-loop μ-loop
-loop-less c = omega arith
-
 loop-again : tie.Need-loop-again Inv-loop μ-loop
 loop-again c =
     let at-loop = c .before in
@@ -55,13 +49,4 @@ returns c =
 pub set-first-spec : {M : Type 1} → statement M
 set-first-spec =
     tie.close
-    (tie.spec
-    Inv-loop
-    μ-loop
-    loop-holds
-    slice-write-free
-    add-e
-    loop-less
-    loop-again
-    same-length
-    returns)
+    (tie.spec Inv-loop μ-loop loop-holds slice-write-free (λ c. search needs) (λ c. omega arith) loop-again same-length returns)

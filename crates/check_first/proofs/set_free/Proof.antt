@@ -37,12 +37,6 @@ add-e c =
     let r : suc (l .k) * z .args .part ≤ z .args .p * z .args .part = mul-le-mul-right {m = suc (l .k)} {n = z .args .p} (z .args .part) (omega arith) in
     omega (arith, l .inv .1, z .pre .2, r)
 
-add-k : tie.Need-add-k Inv-loop μ-loop
-add-k c = search needs
-
-loop-less : tie.Need-loop-less Inv-loop μ-loop
-loop-less c = omega arith
-
 loop-again : tie.Need-loop-again Inv-loop μ-loop
 loop-again c =
     let at-loop = c .before in
@@ -66,14 +60,4 @@ returns c =
 pub set-free-spec : {M : Type 1} → statement M
 set-free-spec =
     tie.close
-    (tie.spec
-    Inv-loop
-    μ-loop
-    loop-holds
-    slice-write-free
-    add-e
-    add-k
-    loop-less
-    loop-again
-    same-length
-    returns)
+    (tie.spec Inv-loop μ-loop loop-holds slice-write-free add-e (λ c. search needs) (λ c. omega arith) loop-again same-length returns)

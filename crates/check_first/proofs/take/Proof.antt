@@ -10,17 +10,8 @@ use Rattle.check_first.proofs.take.Tie as tie
 returns : tie.Need-returns
 returns c = λ e. absurd (false≢true e)
 
-slice-read-if2 : tie.Need-slice-read-if2
-slice-read-if2 c = search needs
-
 returns-2 : tie.Need-returns-2
 returns-2 c = λ e. absurd (false≢true e)
-
-slice-write-free : tie.Need-slice-write-free
-slice-write-free c = search needs
-
-same-length : tie.Need-same-length
-same-length c = search needs
 
 returns-3 : tie.Need-returns-3
 returns-3 c =
@@ -28,12 +19,4 @@ returns-3 c =
     λ e. takes-free (now (z .args .free)) (z .args .e) (omega arith) (c .if2 .left)
 
 pub take-spec : {M : Type 1} → statement M
-take-spec =
-    tie.close
-    (tie.spec
-    returns
-    slice-read-if2
-    returns-2
-    slice-write-free
-    same-length
-    returns-3)
+take-spec = tie.close (tie.spec returns (λ c. search needs) returns-2 (λ c. search needs) (λ c. search needs) returns-3)

@@ -38,12 +38,6 @@ add-l c =
     let q : suc r * z .args .n ≤ z .args .many * z .args .n = mul-le-mul-right {m = suc r} {n = z .args .many} (z .args .n) (omega arith) in
     omega (arith, q, z .pre .1, at-loop .loop .inv .1)
 
-add-r : tie.Need-add-r Inv-loop μ-loop
-add-r c = search needs
-
-loop-less : tie.Need-loop-less Inv-loop μ-loop
-loop-less c = omega arith
-
 loop-again : tie.Need-loop-again Inv-loop μ-loop
 loop-again c =
     let at-loop = c .before in
@@ -71,15 +65,4 @@ returns c =
 pub character-lines-spec : {M : Type 1} → statement M
 character-lines-spec =
     tie.close
-    (tie.spec
-    Inv-loop
-    μ-loop
-    loop-holds
-    mul-firsts
-    slice-write-firsts
-    add-l
-    add-r
-    loop-less
-    loop-again
-    same-length
-    returns)
+    (tie.spec Inv-loop μ-loop loop-holds mul-firsts slice-write-firsts add-l (λ c. search needs) (λ c. omega arith) loop-again same-length returns)

@@ -12,9 +12,6 @@ use Rattle.check_fit.proofs.Yes.{counted-pass, none-counted}
 use Rattle.check_fit.proofs.lent_levels.Statement.{statement}
 use Rattle.check_fit.proofs.lent_levels.Tie as tie
 
-up-requires : tie.Need-up-requires
-up-requires c κs = search needs
-
 mul-if1 : tie.Need-mul-if1
 mul-if1 c =
     let z = c .before .before .before .before .before in
@@ -31,16 +28,10 @@ returns c = none-counted
 returns-2 : tie.Need-returns-2
 returns-2 c = none-counted
 
-element-copy-out-level-one : tie.Need-element-copy-out-level-one
-element-copy-out-level-one c = search needs
-
 level-one-requires : tie.Need-level-one-requires
 level-one-requires c κs =
     let z = c .before .before .before .before .before .before .before .before .before .before .before .before in
     (z .pre .0, z .pre .1)
-
-same-length : tie.Need-same-length
-same-length c = search needs
 
 returns-3 : tie.Need-returns-3
 returns-3 c = none-counted
@@ -67,23 +58,11 @@ passes e h =
     let F = at-level-one .level-one .ensures (not-false (at-level-one .level-one .result) (e .if3 .left)) in
     counted-pass (F .heads) (F .whole) (ap (λ k. getD (now (z .args .orders)) k 0) (sym (at-up .up .ensures)) ∙ at-if1 .if1 .left) h
 
-same-length-2 : tie.Need-same-length-2
-same-length-2 c = search needs
-
 returns-4 : tie.Need-returns-4
 returns-4 c = let e = c .before .before in passes e (up-to-one (starts e))
 
 levels-fit-requires : tie.Need-levels-fit-requires
 levels-fit-requires c κs = starts (c .before .before .before .before .before)
-
-same-length-3 : tie.Need-same-length-3
-same-length-3 c = search needs
-
-same-length-4 : tie.Need-same-length-4
-same-length-4 c = search needs
-
-same-length-5 : tie.Need-same-length-5
-same-length-5 c = search needs
 
 returns-5 : tie.Need-returns-5
 returns-5 c =
@@ -93,20 +72,5 @@ returns-5 c =
 pub lent-levels-spec : {M : Type 1} → statement M
 lent-levels-spec =
     tie.close
-    (tie.spec
-    up-requires
-    mul-if1
-    element-copy-out-if1
-    returns
-    returns-2
-    element-copy-out-level-one
-    level-one-requires
-    same-length
-    returns-3
-    same-length-2
-    returns-4
-    levels-fit-requires
-    same-length-3
-    same-length-4
-    same-length-5
-    returns-5)
+    (tie.spec (λ c κs. search needs) mul-if1 element-copy-out-if1 returns returns-2 (λ c. search needs) level-one-requires (λ c. search needs)
+    returns-3 (λ c. search needs) returns-4 levels-fit-requires (λ c. search needs) (λ c. search needs) (λ c. search needs) returns-5)

@@ -8,12 +8,6 @@ use Rattle.check_fit.proofs.Levels.{level-one}
 use Rattle.check_fit.proofs.levels_fit.Statement.{statement}
 use Rattle.check_fit.proofs.levels_fit.Tie as tie
 
-element-copy-out-up : tie.Need-element-copy-out-up
-element-copy-out-up c = search needs
-
-up-requires : tie.Need-up-requires
-up-requires c κs = search needs
-
 returns : tie.Need-returns
 returns c = up-to-one (c .before .before .before .before .before .before .before .pre)
 
@@ -39,12 +33,6 @@ same-length c =
     let at-character-lines = at-upper-levels-fit .before .before .before .before .before .before in
     at-upper-levels-fit .upper-levels-fit .ensures .1 ∙ at-character-lines .character-lines .ensures .1
 
-same-length-2 : tie.Need-same-length-2
-same-length-2 c = search needs
-
-same-length-3 : tie.Need-same-length-3
-same-length-3 c = search needs
-
 returns-2 : tie.Need-returns-2
 returns-2 c =
     let at-upper-levels-fit = c .before .before .before .before .before .before in
@@ -53,13 +41,5 @@ returns-2 c =
 pub levels-fit-spec : {M : Type 1} → statement M
 levels-fit-spec =
     tie.close
-    (tie.spec
-    element-copy-out-up
-    up-requires
-    returns
-    character-lines-requires
-    upper-levels-fit-requires
-    same-length
-    same-length-2
-    same-length-3
-    returns-2)
+    (tie.spec (λ c. search needs) (λ c κs. search needs) returns character-lines-requires upper-levels-fit-requires same-length (λ c. search needs)
+    (λ c. search needs) returns-2)

@@ -19,19 +19,10 @@ Inv-loop words rows primes orders s firsts₀ marks₀ slots₀ gens reach low�
 abbrev μ-loop : tie.MeasureT-loop
 μ-loop words rows primes orders s firsts₀ marks₀ slots₀ gens reach low₀ below₀ i₀ firsts marks slots low below i = gens - i
 
-up-requires : tie.Need-up-requires Inv-loop μ-loop
-up-requires c κs = search needs
-
 reaches-requires : tie.Need-reaches-requires Inv-loop μ-loop
 reaches-requires c κs =
     let z = c .before .before .before .before .before in
     omega (arith, c .up .ensures, z .pre .whole .few)
-
-element-copy-out-up : tie.Need-element-copy-out-up Inv-loop μ-loop
-element-copy-out-up c = search needs
-
-up-requires-2 : tie.Need-up-requires-2 Inv-loop μ-loop
-up-requires-2 c κs = search needs
 
 loop-holds : tie.Need-loop-holds Inv-loop μ-loop
 loop-holds c =
@@ -43,9 +34,6 @@ add-high c =
     let at-loop = c .before in
     let z = at-loop .before .before .before .before .before .before .before .before .before in
     omega (arith, at-loop .loop .inv .0 .listed .room, at-loop .loop .inv .0 .size, z .good)
-
-up-requires-3 : tie.Need-up-requires-3 Inv-loop μ-loop
-up-requires-3 c κs = search needs
 
 add-first-lines : tie.Need-add-first-lines Inv-loop μ-loop
 add-first-lines c =
@@ -128,12 +116,6 @@ same-length-4 c =
     let at-loop = at-first-lines .before .before .before .before .before in
     at-first-lines .first-lines .ensures .size ∙ at-loop .loop .inv .0 .size
 
-same-length-5 : tie.Need-same-length-5 Inv-loop μ-loop
-same-length-5 c = search needs
-
-same-length-6 : tie.Need-same-length-6 Inv-loop μ-loop
-same-length-6 c = search needs
-
 returns-2 : tie.Need-returns-2 Inv-loop μ-loop
 returns-2 c =
     let at-first-lines = c .before .before .before .before .before .before .before .before .before .before .before .before .before .before in
@@ -147,9 +129,6 @@ add-i c =
     let at-loop = at-first-lines .before .before .before .before .before in
     let z = at-loop .before .before .before .before .before .before .before .before .before in
     omega (arith, z .pre .whole .few)
-
-loop-less : tie.Need-loop-less Inv-loop μ-loop
-loop-less c = omega arith
 
 loop-again : tie.Need-loop-again Inv-loop μ-loop
 loop-again c =
@@ -193,36 +172,7 @@ returns-3 c =
 pub upper-levels-fit-spec : {M : Type 1} → statement M
 upper-levels-fit-spec =
     tie.close
-    (tie.spec
-    Inv-loop
-    μ-loop
-    up-requires
-    reaches-requires
-    element-copy-out-up
-    up-requires-2
-    loop-holds
-    add-high
-    up-requires-3
-    add-first-lines
-    add-first-lines-2
-    mul-first-lines
-    element-copy-out-first-lines
-    first-lines-requires
-    same-length
-    same-length-2
-    same-length-3
-    returns
-    mul-t25
-    element-copy-out-t29
-    level-fits-requires
-    same-length-4
-    same-length-5
-    same-length-6
-    returns-2
-    add-i
-    loop-less
-    loop-again
-    same-length-7
-    same-length-8
-    same-length-9
-    returns-3)
+    (tie.spec Inv-loop μ-loop (λ c κs. search needs) reaches-requires (λ c. search needs) (λ c κs. search needs) loop-holds add-high
+    (λ c κs. search needs) add-first-lines add-first-lines-2 mul-first-lines element-copy-out-first-lines first-lines-requires same-length
+    same-length-2 same-length-3 returns mul-t25 element-copy-out-t29 level-fits-requires same-length-4 (λ c. search needs) (λ c. search needs)
+    returns-2 add-i (λ c. omega arith) loop-again same-length-7 same-length-8 same-length-9 returns-3)

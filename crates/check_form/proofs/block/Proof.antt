@@ -16,9 +16,6 @@ matrix-line-requires c κs =
     let a = c .before in
     omega (arith, a .pre .1, a .good)
 
-up-requires : tie.Need-up-requires
-up-requires c κs = search needs
-
 add-at : tie.Need-add-at
 add-at c =
     let a = c .before .before .before in
@@ -28,9 +25,6 @@ word-at-requires : tie.Need-word-at-requires
 word-at-requires c κs =
     let a = c .before .before .before in
     (omega (arith, c .up .ensures, c .before .matrix-line .ensures, a .pre .1, a .pre .2), omega arith)
-
-up-requires-2 : tie.Need-up-requires-2
-up-requires-2 c κs = search needs
 
 returns : tie.Need-returns
 returns c =
@@ -47,9 +41,6 @@ degree-of-requires : tie.Need-degree-of-requires
 degree-of-requires c κs =
     let a = c .before .before .before .before .before .before in
     (a .pre .0 .whole, a .pre .0 .level, omega (arith, a .pre .0 .counts, c .if1 .left))
-
-sub-if2 : tie.Need-sub-if2
-sub-if2 c = search needs
 
 returns-2 : tie.Need-returns-2
 returns-2 c =
@@ -113,16 +104,5 @@ returns-4 c =
 pub block-spec : {M : Type 1} → statement M
 block-spec =
     tie.close
-    (tie.spec
-    matrix-line-requires
-    up-requires
-    add-at
-    word-at-requires
-    up-requires-2
-    returns
-    degree-of-requires
-    sub-if2
-    returns-2
-    refs-are-requires
-    returns-3
-    returns-4)
+    (tie.spec matrix-line-requires (λ c κs. search needs) add-at word-at-requires (λ c κs. search needs) returns degree-of-requires
+    (λ c. search needs) returns-2 refs-are-requires returns-3 returns-4)

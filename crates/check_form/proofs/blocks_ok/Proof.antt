@@ -76,15 +76,4 @@ returns-2 c =
     sym (cutting-all L R (wholeBlock L R) (loop .o) (loop .inv) (omega (arith, c .if1 .left)))
 
 pub blocks-ok-spec : {M : Type 1} → statement M
-blocks-ok-spec =
-    tie.close
-    (tie.spec
-    Inv-loop
-    μ-loop
-    loop-holds
-    block-requires
-    returns
-    add-o
-    loop-less
-    loop-again
-    returns-2)
+blocks-ok-spec = tie.close (tie.spec Inv-loop μ-loop loop-holds block-requires returns add-o loop-less loop-again returns-2)

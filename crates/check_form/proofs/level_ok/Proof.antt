@@ -61,12 +61,6 @@ following-requires c κs =
     let T = now (a .args .words) in
     (a .pre .0 .whole, reading-follows (a .args .s) T (a .args .i) (k .loop .inv .1) (omega (arith, a .pre .1 .counts, c .before .before .loop-test .taken)))
 
-add-r : tie.Need-add-r Inv-loop μ-loop
-add-r c = omega arith
-
-loop-less : tie.Need-loop-less Inv-loop μ-loop
-loop-less c = omega arith
-
 loop-again : tie.Need-loop-again Inv-loop μ-loop
 loop-again c =
     let k = c .before .before .before in
@@ -98,19 +92,5 @@ returns-2 c =
 pub level-ok-spec : {M : Type 1} → statement M
 level-ok-spec =
     tie.close
-    (tie.spec
-    Inv-loop
-    μ-loop
-    sub-last
-    start-of-requires
-    add-found
-    found-requires
-    loop-holds
-    rep-ok-requires
-    returns
-    following-requires
-    add-r
-    loop-less
-    loop-again
-    rep-ok-requires-2
-    returns-2)
+    (tie.spec Inv-loop μ-loop sub-last start-of-requires add-found found-requires loop-holds rep-ok-requires returns following-requires
+    (λ c. omega arith) (λ c. omega arith) loop-again rep-ok-requires-2 returns-2)

@@ -49,12 +49,6 @@ returns c =
     let level-ok = c .before .level-ok in
     tested-fails (k .before .before .loop .inv .1) (k .if1 .taken) (sym (level-ok .ensures) ∙ not-true (level-ok .result) (c .if2 .taken))
 
-add-i : tie.Need-add-i Inv-loop μ-loop
-add-i c = omega arith
-
-loop-less : tie.Need-loop-less Inv-loop μ-loop
-loop-less c = omega arith
-
 loop-again : tie.Need-loop-again Inv-loop μ-loop
 loop-again c =
     let k = c .before .before .before in
@@ -73,16 +67,5 @@ returns-2 c = tested-all (c .before .before .loop .inv .1) (omega (arith, c .if1
 pub levels-ok-spec : {M : Type 1} → statement M
 levels-ok-spec =
     tie.close
-    (tie.spec
-    Inv-loop
-    μ-loop
-    count-of-requires
-    loop-holds
-    add-count-of
-    count-of-requires-2
-    level-ok-requires
-    returns
-    add-i
-    loop-less
-    loop-again
-    returns-2)
+    (tie.spec Inv-loop μ-loop count-of-requires loop-holds add-count-of count-of-requires-2 level-ok-requires returns (λ c. omega arith)
+    (λ c. omega arith) loop-again returns-2)

@@ -86,14 +86,5 @@ returns-4 c =
 pub rep-ok-spec : {M : Type 1} → statement M
 rep-ok-spec =
     tie.close
-    (tie.spec
-    matrices-ok-requires
-    returns
-    blocks-ok-requires
-    returns-2
-    add-refs-equal
-    refs-equal-requires
-    returns-3
-    add-targets-ok
-    targets-ok-requires
-    returns-4)
+    (tie.spec matrices-ok-requires returns blocks-ok-requires returns-2 add-refs-equal refs-equal-requires returns-3 add-targets-ok
+    targets-ok-requires returns-4)

@@ -6,12 +6,6 @@ use Rattle.check_heads.proofs.Places.{other-begins, first-begins}
 use Rattle.check_heads.proofs.begins.Statement.{statement}
 use Rattle.check_heads.proofs.begins.Tie as tie
 
-word-at-requires : tie.Need-word-at-requires
-word-at-requires c κs = search needs
-
-add-if1 : tie.Need-add-if1
-add-if1 c = search needs
-
 returns : tie.Need-returns
 returns c =
     let at-word = c .before .before in
@@ -26,4 +20,4 @@ returns-2 c =
     first-begins (now (a .words)) (a .p) (sym (at-word .word-at .ensures) ∙ at-if1 .if1 .left)
 
 pub begins-spec : {M : Type 1} → statement M
-begins-spec = tie.close (tie.spec word-at-requires add-if1 returns returns-2)
+begins-spec = tie.close (tie.spec (λ c κs. search needs) (λ c. search needs) returns returns-2)

@@ -14,9 +14,6 @@ Inv-loop words first d c n place deg end kind₀ at₀ kind at = Columned words 
 abbrev μ-loop : tie.MeasureT-loop
 μ-loop words first d c n place deg end kind₀ at₀ kind at = end - kind
 
-wide-requires : tie.Need-wide-requires Inv-loop μ-loop
-wide-requires c κs = search needs
-
 mul-place : tie.Need-mul-place Inv-loop μ-loop
 mul-place c = let z = c .before .before .before in omega (arith, z .pre .0)
 
@@ -25,12 +22,6 @@ add-place c =
     let at-wide = c .before in
     let z = at-wide .before .before in
     omega (arith, z .pre .0, at-wide .wide .ensures .1)
-
-wide-requires-2 : tie.Need-wide-requires-2 Inv-loop μ-loop
-wide-requires-2 c κs = search needs
-
-wide-requires-3 : tie.Need-wide-requires-3 Inv-loop μ-loop
-wide-requires-3 c κs = search needs
 
 mul-end : tie.Need-mul-end Inv-loop μ-loop
 mul-end c = omega (arith, c .wide3 .ensures .1)
@@ -104,21 +95,5 @@ returns-2 c =
 pub column-heads-spec : {M : Type 1} → statement M
 column-heads-spec =
     tie.close
-    (tie.spec
-    Inv-loop
-    μ-loop
-    wide-requires
-    mul-place
-    add-place
-    wide-requires-2
-    wide-requires-3
-    mul-end
-    add-end
-    loop-holds
-    add-kind
-    head-is-requires
-    returns
-    add-at
-    loop-less
-    loop-again
-    returns-2)
+    (tie.spec Inv-loop μ-loop (λ c κs. search needs) mul-place add-place (λ c κs. search needs) (λ c κs. search needs) mul-end add-end loop-holds
+    add-kind head-is-requires returns add-at loop-less loop-again returns-2)

@@ -5,26 +5,17 @@ use Rattle.check_heads.proofs.Places.{head-other, head-kind, head-last}
 use Rattle.check_heads.proofs.head_is.Statement.{statement}
 use Rattle.check_heads.proofs.head_is.Tie as tie
 
-two-at-requires : tie.Need-two-at-requires
-two-at-requires c κs = search needs
-
 returns : tie.Need-returns
 returns c =
     let at-two = c .before in
     let a = at-two .before .before .args in
     head-other (now (a .words)) (a .at) (a .place) (a .kind) (a .c) (at-two .two-at .ensures) (c .if1 .taken)
 
-two-at-requires-2 : tie.Need-two-at-requires-2
-two-at-requires-2 c κs = search needs
-
 returns-2 : tie.Need-returns-2
 returns-2 c =
     let at-two = c .before in
     let a = at-two .before .before .before .before .args in
     head-kind (now (a .words)) (a .at) (a .place) (a .kind) (a .c) (at-two .two-at2 .ensures) (c .if2 .taken)
-
-word-at-requires : tie.Need-word-at-requires
-word-at-requires c κs = search needs
 
 returns-3 : tie.Need-returns-3
 returns-3 c =
@@ -37,4 +28,4 @@ returns-3 c =
     (at-two2 .two-at2 .ensures) (at-if2 .if2 .left) (c .word-at .ensures)
 
 pub head-is-spec : {M : Type 1} → statement M
-head-is-spec = tie.close (tie.spec two-at-requires returns two-at-requires-2 returns-2 word-at-requires returns-3)
+head-is-spec = tie.close (tie.spec (λ c κs. search needs) returns (λ c κs. search needs) returns-2 (λ c κs. search needs) returns-3)

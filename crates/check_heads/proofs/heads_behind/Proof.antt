@@ -26,9 +26,6 @@ returns c =
     let a = z in
     uneven (a .args .s .gens) (now (a .args .words)) (ordersIn (now (a .args .orders))) (c .if1 .taken)
 
-up-requires : tie.Need-up-requires Inv-loop μ-loop
-up-requires c κs = search needs
-
 mul-t8 : tie.Need-mul-t8 Inv-loop μ-loop
 mul-t8 c =
     let z = c .before .before .before in
@@ -148,18 +145,5 @@ returns-4 c =
 pub heads-behind-spec : {M : Type 1} → statement M
 heads-behind-spec =
     tie.close
-    (tie.spec
-    Inv-loop
-    μ-loop
-    returns
-    up-requires
-    mul-t8
-    loop-holds
-    turned-requires
-    place-ok-requires
-    returns-2
-    onward-requires
-    loop-less
-    loop-again
-    returns-3
-    returns-4)
+    (tie.spec Inv-loop μ-loop returns (λ c κs. search needs) mul-t8 loop-holds turned-requires place-ok-requires returns-2 onward-requires loop-less
+    loop-again returns-3 returns-4)

@@ -56,6 +56,4 @@ returns-2 c =
     (sym (size-ok .ensures) ∙ not-false (size-ok .result) (c .before .if1 .left))
 
 pub place-ok-spec : {M : Type 1} → statement M
-place-ok-spec =
-    tie.close
-    (tie.spec representation-requires size-ok-requires returns rep-heads-requires returns-2)
+place-ok-spec = tie.close (tie.spec representation-requires size-ok-requires returns rep-heads-requires returns-2)

@@ -23,9 +23,6 @@ word-at-requires c κs =
     let z = c .before in
     (omega (arith, z .pre .0, mul-pos (z .pre .1) (z .pre .2)), omega arith)
 
-wide-requires : tie.Need-wide-requires Inv-loop μ-loop
-wide-requires c κs = search needs
-
 returns : tie.Need-returns Inv-loop μ-loop
 returns c =
     let at-wide = c .before .before in
@@ -65,12 +62,6 @@ add-at c =
     let z = at-loop .before .before .before .before .before .before in
     omega (arith, at-loop .loop .inv .0, z .pre .0, z .good, mul-pos (z .pre .1) (z .pre .2))
 
-add-c : tie.Need-add-c Inv-loop μ-loop
-add-c c = search needs
-
-loop-less : tie.Need-loop-less Inv-loop μ-loop
-loop-less c = search needs
-
 loop-again : tie.Need-loop-again Inv-loop μ-loop
 loop-again c =
     let at-column = c .before in
@@ -87,17 +78,5 @@ returns-3 c =
 pub rep-heads-spec : {M : Type 1} → statement M
 rep-heads-spec =
     tie.close
-    (tie.spec
-    Inv-loop
-    μ-loop
-    word-at-requires
-    wide-requires
-    returns
-    loop-holds
-    column-heads-requires
-    returns-2
-    add-at
-    add-c
-    loop-less
-    loop-again
-    returns-3)
+    (tie.spec Inv-loop μ-loop word-at-requires (λ c κs. search needs) returns loop-holds column-heads-requires returns-2 add-at (λ c. search needs)
+    (λ c. search needs) loop-again returns-3)

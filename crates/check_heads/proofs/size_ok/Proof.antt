@@ -20,21 +20,6 @@ returns-2 c =
     let a = c .before .before .before .before in
     refuted _ (λ h. omega (arith, size-told (a .args .s) (ordersIn (now (a .args .orders))) (a .args .p) (a .args .d) h .positive))
 
-up-requires : tie.Need-up-requires
-up-requires c κs = search needs
-
-mul-up : tie.Need-mul-up
-mul-up c = search needs
-
-element-copy-out-up : tie.Need-element-copy-out-up
-element-copy-out-up c = search needs
-
-up-requires-2 : tie.Need-up-requires-2
-up-requires-2 c κs = search needs
-
-times-requires : tie.Need-times-requires
-times-requires c κs = search needs
-
 returns-3 : tie.Need-returns-3
 returns-3 c =
     let k = c .before .before .before .before in
@@ -43,9 +28,6 @@ returns-3 c =
     let ord = ordersIn (now (a .args .orders)) in
     let e = ap ord (k .up .ensures) in
     refuted _ (λ h. omega (arith, e, up2 .ensures, c .before .times .ensures, size-told (a .args .s) ord (a .args .p) (a .args .d) h .square))
-
-times-requires-2 : tie.Need-times-requires-2
-times-requires-2 c κs = search needs
 
 add-result : tie.Need-add-result
 add-result c =
@@ -71,15 +53,5 @@ returns-4 c =
 pub size-ok-spec : {M : Type 1} → statement M
 size-ok-spec =
     tie.close
-    (tie.spec
-    returns
-    returns-2
-    up-requires
-    mul-up
-    element-copy-out-up
-    up-requires-2
-    times-requires
-    returns-3
-    times-requires-2
-    add-result
-    returns-4)
+    (tie.spec returns returns-2 (λ c κs. search needs) (λ c. search needs) (λ c. search needs) (λ c κs. search needs) (λ c κs. search needs)
+    returns-3 (λ c κs. search needs) add-result returns-4)

@@ -7,12 +7,6 @@ use borrow.Author.Needs.{needs}
 use Rattle.check_heads.proofs.times.Statement.{statement}
 use Rattle.check_heads.proofs.times.Tie as tie
 
-up-requires : tie.Need-up-requires
-up-requires c κs = search needs
-
-up-requires-2 : tie.Need-up-requires-2
-up-requires-2 c κs = search needs
-
 mul-result : tie.Need-mul-result
 mul-result c =
     let a = c .before .before in
@@ -24,4 +18,4 @@ returns : tie.Need-returns
 returns c = ap₂ (λ x y. x * y) (c .before .up .ensures) (c .up2 .ensures)
 
 pub times-spec : {M : Type 1} → statement M
-times-spec = tie.close (tie.spec up-requires up-requires-2 mul-result returns)
+times-spec = tie.close (tie.spec (λ c κs. search needs) (λ c κs. search needs) mul-result returns)

@@ -6,12 +6,6 @@ use Rattle.check_heads.proofs.Places.{place-stays, place-turns}
 use Rattle.check_heads.proofs.turned.Statement.{statement}
 use Rattle.check_heads.proofs.turned.Tie as tie
 
-begins-requires : tie.Need-begins-requires
-begins-requires c κs = search needs
-
-add-t4 : tie.Need-add-t4
-add-t4 c = search needs
-
 returns : tie.Need-returns
 returns c =
     let at-if1 = c .before in
@@ -26,4 +20,4 @@ returns-2 c =
     place-stays (now (a .words)) (a .p) (sym (at-begins .begins .ensures) ∙ c .if1 .left)
 
 pub turned-spec : {M : Type 1} → statement M
-turned-spec = tie.close (tie.spec begins-requires add-t4 returns returns-2)
+turned-spec = tie.close (tie.spec (λ c κs. search needs) (λ c. search needs) returns returns-2)

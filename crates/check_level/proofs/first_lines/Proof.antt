@@ -41,9 +41,6 @@ found-requires c κs =
     let a = z .args in
     (z .pre .0, z .pre .2, z .pre .3, whole-some (a .s) (now (a .words)) (z .pre .0) (a .i) (z .pre .2) (z .pre .3))
 
-up-requires : tie.Need-up-requires Inv-loop μ-loop
-up-requires c κs = search needs
-
 loop-holds : tie.Need-loop-holds Inv-loop μ-loop
 loop-holds c =
     let at-found = c .before in
@@ -64,9 +61,6 @@ run-lines-requires c κs =
       counts = at-count-of .count-of .ensures;
       room = omega (arith, at-if1 .if1 .left, z .pre .4, at-loop .loop .inv .0 .size);
     }
-
-square-requires : tie.Need-square-requires Inv-loop μ-loop
-square-requires c κs = search needs
 
 sub-k : tie.Need-sub-k Inv-loop μ-loop
 sub-k c =
@@ -182,27 +176,6 @@ loop-again c =
 pub first-lines-spec : {M : Type 1} → statement M
 first-lines-spec =
     tie.close
-    (tie.spec
-    Inv-loop
-    μ-loop
-    count-of-requires
-    sub-if1
-    returns
-    found-requires
-    up-requires
-    loop-holds
-    run-lines-requires
-    square-requires
-    sub-k
-    div-if2
-    same-length
-    returns-2
-    mul-left
-    sub-left
-    same-length-2
-    returns-3
-    same-length-3
-    returns-4
-    representation-requires
-    loop-less
-    loop-again)
+    (tie.spec Inv-loop μ-loop count-of-requires sub-if1 returns found-requires (λ c κs. search needs) loop-holds run-lines-requires
+    (λ c κs. search needs) sub-k div-if2 same-length returns-2 mul-left sub-left same-length-2 returns-3 same-length-3 returns-4
+    representation-requires loop-less loop-again)

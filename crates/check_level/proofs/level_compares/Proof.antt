@@ -31,9 +31,6 @@ abbrev μ-loop : tie.MeasureT-loop
 returns : tie.Need-returns Inv-loop μ-loop
 returns c = λ e. absurd (false≢true e)
 
-div-part : tie.Need-div-part Inv-loop μ-loop
-div-part c = search needs
-
 returns-2 : tie.Need-returns-2 Inv-loop μ-loop
 returns-2 c = λ e. absurd (false≢true e)
 
@@ -90,20 +87,8 @@ claim-requires c κs =
       omega (arith, at-if2 .if2 .left),
     )
 
-same-length-3 : tie.Need-same-length-3 Inv-loop μ-loop
-same-length-3 c = search needs
-
-same-length-4 : tie.Need-same-length-4 Inv-loop μ-loop
-same-length-4 c = search needs
-
 returns-4 : tie.Need-returns-4 Inv-loop μ-loop
 returns-4 c = λ e. absurd (false≢true e)
-
-add-r : tie.Need-add-r Inv-loop μ-loop
-add-r c = search needs
-
-loop-less : tie.Need-loop-less Inv-loop μ-loop
-loop-less c = omega arith
 
 loop-again : tie.Need-loop-again Inv-loop μ-loop
 loop-again c = (
@@ -169,26 +154,6 @@ returns-5 c =
 pub level-compares-spec : {M : Type 1} → statement M
 level-compares-spec =
     tie.close
-    (tie.spec
-    Inv-loop
-    μ-loop
-    returns
-    div-part
-    returns-2
-    loop-holds
-    add-rep-at
-    rep-at-requires
-    rep-passes-requires
-    same-length
-    same-length-2
-    returns-3
-    claim-requires
-    same-length-3
-    same-length-4
-    returns-4
-    add-r
-    loop-less
-    loop-again
-    same-length-5
-    same-length-6
-    returns-5)
+    (tie.spec Inv-loop μ-loop returns (λ c. search needs) returns-2 loop-holds add-rep-at rep-at-requires rep-passes-requires same-length
+    same-length-2 returns-3 claim-requires (λ c. search needs) (λ c. search needs) returns-4 (λ c. search needs) (λ c. omega arith) loop-again
+    same-length-5 same-length-6 returns-5)

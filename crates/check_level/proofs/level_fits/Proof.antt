@@ -11,12 +11,6 @@ compares-requires c κs =
     let z = c .before .before .before .before .before .before in
     z .pre .0
 
-same-length : tie.Need-same-length
-same-length c = search needs
-
-same-length-2 : tie.Need-same-length-2
-same-length-2 c = search needs
-
 returns : tie.Need-returns
 returns c = λ e. absurd (false≢true e)
 
@@ -25,12 +19,6 @@ level-relates-requires c κs =
     let at-compares = c .before .before .before .before .before in
     let z = at-compares .before .before .before .before .before .before .before in
     (z .pre .0, at-compares .compares .ensures (not-false (at-compares .compares .result) (c .if1 .left)), z .pre .1)
-
-same-length-3 : tie.Need-same-length-3
-same-length-3 c = search needs
-
-same-length-4 : tie.Need-same-length-4
-same-length-4 c = search needs
 
 returns-2 : tie.Need-returns-2
 returns-2 c =
@@ -43,12 +31,5 @@ returns-2 c =
 pub level-fits-spec : {M : Type 1} → statement M
 level-fits-spec =
     tie.close
-    (tie.spec
-    compares-requires
-    same-length
-    same-length-2
-    returns
-    level-relates-requires
-    same-length-3
-    same-length-4
+    (tie.spec compares-requires (λ c. search needs) (λ c. search needs) returns level-relates-requires (λ c. search needs) (λ c. search needs)
     returns-2)

@@ -56,9 +56,6 @@ word-at-requires c κs =
     let I = listed-inside S (z .pre .1) (at-loop .loop .r) (omega arith) (c .rep-at .ensures) in
     (omega (arith, inside-matrix I 0 (S .whole .some), I .positive), omega arith)
 
-up-requires : tie.Need-up-requires Inv-loop μ-loop
-up-requires c κs = search needs
-
 add-rep-at-2 : tie.Need-add-rep-at-2 Inv-loop μ-loop
 add-rep-at-2 c =
     let at-up = c .before in
@@ -100,12 +97,6 @@ carries-all-requires c κs =
 returns-2 : tie.Need-returns-2 Inv-loop μ-loop
 returns-2 c = λ e. absurd (false≢true e)
 
-add-r : tie.Need-add-r Inv-loop μ-loop
-add-r c = search needs
-
-loop-less : tie.Need-loop-less Inv-loop μ-loop
-loop-less c = omega arith
-
 loop-again : tie.Need-loop-again Inv-loop μ-loop
 loop-again c =
     let at-carries-all = c .before in
@@ -134,21 +125,5 @@ returns-3 c =
 pub level-relates-spec : {M : Type 1} → statement M
 level-relates-spec =
     tie.close
-    (tie.spec
-    Inv-loop
-    μ-loop
-    add-if1
-    returns
-    loop-holds
-    add-rep-at
-    rep-at-requires
-    word-at-requires
-    up-requires
-    add-rep-at-2
-    rep-at-requires-2
-    carries-all-requires
-    returns-2
-    add-r
-    loop-less
-    loop-again
-    returns-3)
+    (tie.spec Inv-loop μ-loop add-if1 returns loop-holds add-rep-at rep-at-requires word-at-requires (λ c κs. search needs) add-rep-at-2
+    rep-at-requires-2 carries-all-requires returns-2 (λ c. search needs) (λ c. omega arith) loop-again returns-3)

@@ -143,22 +143,5 @@ returns-2 c =
 pub run-lines-spec : {M : Type 1} → statement M
 run-lines-spec =
     tie.close
-    (tie.spec
-    Inv-loop
-    μ-loop
-    matrix-line-requires
-    sub-step
-    loop-holds
-    word-at-requires
-    same-length
-    returns
-    cast-firsts
-    add-firsts
-    mul-firsts
-    slice-write-firsts
-    add-line
-    add-q
-    loop-less
-    loop-again
-    same-length-2
-    returns-2)
+    (tie.spec Inv-loop μ-loop matrix-line-requires sub-step loop-holds word-at-requires same-length returns cast-firsts add-firsts mul-firsts
+    slice-write-firsts add-line add-q loop-less loop-again same-length-2 returns-2)

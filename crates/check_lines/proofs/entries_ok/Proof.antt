@@ -18,9 +18,6 @@ abbrev μ-loop : tie.MeasureT-loop
 loop-holds : tie.Need-loop-holds Inv-loop μ-loop
 loop-holds c = tested-none
 
-up-requires : tie.Need-up-requires Inv-loop μ-loop
-up-requires c κs = omega arith
-
 add-entry-ok : tie.Need-add-entry-ok Inv-loop μ-loop
 add-entry-ok c =
     let a = c .before .before .before .before in
@@ -38,12 +35,6 @@ returns c =
     let e = rw (c .before .before .up .ensures) at (entry-ok .ensures) in
     tested-fails (k .loop .inv) (omega arith) (sym e ∙ not-true (entry-ok .result) (c .if1 .taken))
 
-add-c : tie.Need-add-c Inv-loop μ-loop
-add-c c = omega arith
-
-loop-less : tie.Need-loop-less Inv-loop μ-loop
-loop-less c = omega arith
-
 loop-again : tie.Need-loop-again Inv-loop μ-loop
 loop-again c =
     let k = c .before .before .before .before in
@@ -57,15 +48,5 @@ returns-2 c = tested-all (c .before .loop .inv) (omega arith)
 pub entries-ok-spec : {M : Type 1} → statement M
 entries-ok-spec =
     tie.close
-    (tie.spec
-    Inv-loop
-    μ-loop
-    loop-holds
-    up-requires
-    add-entry-ok
-    entry-ok-requires
-    returns
-    add-c
-    loop-less
-    loop-again
-    returns-2)
+    (tie.spec Inv-loop μ-loop loop-holds (λ c κs. omega arith) add-entry-ok entry-ok-requires returns (λ c. omega arith) (λ c. omega arith)
+    loop-again returns-2)

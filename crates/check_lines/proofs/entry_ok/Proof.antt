@@ -7,9 +7,6 @@ use borrow.Author.Needs.{needs}
 use Rattle.check_lines.proofs.entry_ok.Statement.{statement}
 use Rattle.check_lines.proofs.entry_ok.Tie as tie
 
-entry-at-requires : tie.Need-entry-at-requires
-entry-at-requires c κs = search needs
-
 returns : tie.Need-returns
 returns c =
     let a = c .before .before .before .before in
@@ -25,4 +22,4 @@ returns-2 c =
     ∙ ap (entryOk (a .args .m) (a .args .d)) (entry-at .ensures)
 
 pub entry-ok-spec : {M : Type 1} → statement M
-entry-ok-spec = tie.close (tie.spec entry-at-requires returns returns-2)
+entry-ok-spec = tie.close (tie.spec (λ c κs. search needs) returns returns-2)

@@ -37,12 +37,6 @@ returns c =
     let e = rw (matrix-line .ensures) at (matrix-ok .ensures) in
     tested-fails (k .loop .inv) (omega arith) (sym e ∙ not-true (matrix-ok .result) (c .if1 .taken))
 
-add-g : tie.Need-add-g Inv-loop μ-loop
-add-g c = omega arith
-
-loop-less : tie.Need-loop-less Inv-loop μ-loop
-loop-less c = omega arith
-
 loop-again : tie.Need-loop-again Inv-loop μ-loop
 loop-again c =
     let k = c .before .before .before .before in
@@ -56,14 +50,4 @@ returns-2 c = tested-all (c .before .loop .inv) (omega arith)
 pub matrices-ok-spec : {M : Type 1} → statement M
 matrices-ok-spec =
     tie.close
-    (tie.spec
-    Inv-loop
-    μ-loop
-    loop-holds
-    matrix-line-requires
-    matrix-ok-requires
-    returns
-    add-g
-    loop-less
-    loop-again
-    returns-2)
+    (tie.spec Inv-loop μ-loop loop-holds matrix-line-requires matrix-ok-requires returns (λ c. omega arith) (λ c. omega arith) loop-again returns-2)

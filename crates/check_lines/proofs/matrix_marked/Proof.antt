@@ -21,17 +21,8 @@ Inv-loop words at d m deg seen₀ c₀ seen c = SeenRows words at seen c × Test
 abbrev μ-loop : tie.MeasureT-loop
 μ-loop words at d m deg seen₀ c₀ seen c = deg - c
 
-up-requires : tie.Need-up-requires Inv-loop μ-loop
-up-requires c κs = search needs
-
 loop-holds : tie.Need-loop-holds Inv-loop μ-loop
 loop-holds c = let z = c .before .before in (seen-none (now (z .args .words)) (z .args .at), tested-none)
-
-add-entry-ok : tie.Need-add-entry-ok Inv-loop μ-loop
-add-entry-ok c = search needs
-
-entry-ok-requires : tie.Need-entry-ok-requires Inv-loop μ-loop
-entry-ok-requires c κs = search needs
 
 returns : tie.Need-returns Inv-loop μ-loop
 returns c =
@@ -44,15 +35,6 @@ returns c =
     tested-fails (l .loop .inv .1) (omega (arith, l .before .up .ensures))
     (sym (at-entry .entry-ok .ensures) ∙ not-true (at-entry .entry-ok .result) (c .if1 .taken)) in
     matrix-apart (a .m) T (a .at) (a .d) (sym fails)
-
-add-word-at : tie.Need-add-word-at Inv-loop μ-loop
-add-word-at c = search needs
-
-word-at-requires : tie.Need-word-at-requires Inv-loop μ-loop
-word-at-requires c κs = search needs
-
-up-requires-2 : tie.Need-up-requires-2 Inv-loop μ-loop
-up-requires-2 c κs = search needs
 
 array-read-if2 : tie.Need-array-read-if2 Inv-loop μ-loop
 array-read-if2 c =
@@ -80,12 +62,6 @@ array-write-seen c =
     let z = at-entry .before .before .before .before .before in
     let low = entry-low (z .args .m) (z .args .d) _ (sym (at-entry .entry-ok .ensures) ∙ not-false (at-entry .entry-ok .result) (at-word .before .if1 .left)) in
     omega (arith, low, z .pre .1, c .before .up2 .ensures, at-word .word-at .ensures)
-
-add-c : tie.Need-add-c Inv-loop μ-loop
-add-c c = search needs
-
-loop-less : tie.Need-loop-less Inv-loop μ-loop
-loop-less c = search needs
 
 loop-again : tie.Need-loop-again Inv-loop μ-loop
 loop-again c =
@@ -116,21 +92,6 @@ returns-3 c =
 pub matrix-marked-spec : {M : Type 1} → statement M
 matrix-marked-spec =
     tie.close
-    (tie.spec
-    Inv-loop
-    μ-loop
-    up-requires
-    loop-holds
-    add-entry-ok
-    entry-ok-requires
-    returns
-    add-word-at
-    word-at-requires
-    up-requires-2
-    array-read-if2
-    returns-2
-    array-write-seen
-    add-c
-    loop-less
-    loop-again
+    (tie.spec Inv-loop μ-loop (λ c κs. search needs) loop-holds (λ c. search needs) (λ c κs. search needs) returns (λ c. search needs)
+    (λ c κs. search needs) (λ c κs. search needs) array-read-if2 returns-2 array-write-seen (λ c. search needs) (λ c. search needs) loop-again
     returns-3)

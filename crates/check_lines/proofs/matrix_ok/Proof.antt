@@ -8,35 +8,17 @@ use borrow.Author.Needs.{needs}
 use Rattle.check_lines.proofs.matrix_ok.Statement.{statement}
 use Rattle.check_lines.proofs.matrix_ok.Tie as tie
 
-entry-ok-requires : tie.Need-entry-ok-requires
-entry-ok-requires c κs = search needs
-
 returns : tie.Need-returns
 returns c =
     let at-if1 = c .before in
     let a = at-if1 .before .before .args in
     c .entry-ok .ensures ∙ single-matrix (now (a .words)) (a .at) (a .m) (a .d) (at-if1 .if1 .taken)
 
-up-requires : tie.Need-up-requires
-up-requires c κs = search needs
-
-matrix-marked-requires : tie.Need-matrix-marked-requires
-matrix-marked-requires c κs = search needs
-
-returns-2 : tie.Need-returns-2
-returns-2 c = search needs
-
-entries-ok-requires : tie.Need-entries-ok-requires
-entries-ok-requires c κs = search needs
-
 returns-3 : tie.Need-returns-3
 returns-3 c =
     let at-entries = c .before in
     let a = at-entries .before .before .before .before .before .args in
     matrix-apart (a .m) (now (a .words)) (a .at) (a .d) (sym (at-entries .entries-ok .ensures) ∙ not-true (at-entries .entries-ok .result) (c .if3 .taken))
-
-rows-found-requires : tie.Need-rows-found-requires
-rows-found-requires c κs = search needs
 
 returns-4 : tie.Need-returns-4
 returns-4 c =
@@ -49,13 +31,5 @@ returns-4 c =
 pub matrix-ok-spec : {M : Type 1} → statement M
 matrix-ok-spec =
     tie.close
-    (tie.spec
-    entry-ok-requires
-    returns
-    up-requires
-    matrix-marked-requires
-    returns-2
-    entries-ok-requires
-    returns-3
-    rows-found-requires
-    returns-4)
+    (tie.spec (λ c κs. search needs) returns (λ c κs. search needs) (λ c κs. search needs) (λ c. search needs) (λ c κs. search needs) returns-3
+    (λ c κs. search needs) returns-4)

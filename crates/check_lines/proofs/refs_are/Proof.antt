@@ -18,9 +18,6 @@ abbrev μ-loop : tie.MeasureT-loop
 loop-holds : tie.Need-loop-holds Inv-loop μ-loop
 loop-holds c = tested-none
 
-up-requires : tie.Need-up-requires Inv-loop μ-loop
-up-requires c κs = omega arith
-
 add-word-at : tie.Need-add-word-at Inv-loop μ-loop
 add-word-at c =
     let a = c .before .before .before .before in
@@ -37,12 +34,6 @@ returns c =
     let e = rw (c .before .before .up .ensures) at (c .before .word-at .ensures) in
     tested-fails (k .loop .inv) (omega arith) (ne-eqb _ _ (λ h. c .if1 .taken (e ∙ h)))
 
-add-c : tie.Need-add-c Inv-loop μ-loop
-add-c c = omega arith
-
-loop-less : tie.Need-loop-less Inv-loop μ-loop
-loop-less c = omega arith
-
 loop-again : tie.Need-loop-again Inv-loop μ-loop
 loop-again c =
     let k = c .before .before .before .before in
@@ -55,15 +46,5 @@ returns-2 c = tested-all (c .before .loop .inv) (omega arith)
 pub refs-are-spec : {M : Type 1} → statement M
 refs-are-spec =
     tie.close
-    (tie.spec
-    Inv-loop
-    μ-loop
-    loop-holds
-    up-requires
-    add-word-at
-    word-at-requires
-    returns
-    add-c
-    loop-less
-    loop-again
+    (tie.spec Inv-loop μ-loop loop-holds (λ c κs. omega arith) add-word-at word-at-requires returns (λ c. omega arith) (λ c. omega arith) loop-again
     returns-2)

@@ -30,9 +30,6 @@ matrix-line-requires-2 c κs =
 loop-holds : tie.Need-loop-holds Inv-loop μ-loop
 loop-holds c = tested-none
 
-up-requires : tie.Need-up-requires Inv-loop μ-loop
-up-requires c κs = omega arith
-
 add-word-at : tie.Need-add-word-at Inv-loop μ-loop
 add-word-at c =
     let k = c .before .before .before .before .before in
@@ -68,12 +65,6 @@ returns c =
     let y = ref-read (now (a .args .words)) (a .args .d) 0 (k2 .before .matrix-line2 .ensures) (up .ensures) (c .before .word-at2 .ensures) in
     tested-fails (k2 .loop .inv) (omega arith) (ne-eqb _ _ (λ h. c .if2 .taken (x ∙ h ∙ sym y)))
 
-add-c : tie.Need-add-c Inv-loop μ-loop
-add-c c = omega arith
-
-loop-less : tie.Need-loop-less Inv-loop μ-loop
-loop-less c = omega arith
-
 loop-again : tie.Need-loop-again Inv-loop μ-loop
 loop-again c =
     let k1 = c .before .before .before in
@@ -92,19 +83,5 @@ returns-2 c = tested-all (c .before .before .loop .inv) (omega arith)
 pub refs-as-spec : {M : Type 1} → statement M
 refs-as-spec =
     tie.close
-    (tie.spec
-    Inv-loop
-    μ-loop
-    matrix-line-requires
-    matrix-line-requires-2
-    loop-holds
-    up-requires
-    add-word-at
-    word-at-requires
-    add-word-at-2
-    word-at-requires-2
-    returns
-    add-c
-    loop-less
-    loop-again
-    returns-2)
+    (tie.spec Inv-loop μ-loop matrix-line-requires matrix-line-requires-2 loop-holds (λ c κs. omega arith) add-word-at word-at-requires add-word-at-2
+    word-at-requires-2 returns (λ c. omega arith) (λ c. omega arith) loop-again returns-2)

@@ -29,12 +29,6 @@ returns c =
     let refs-as = c .before .refs-as in
     tested-fails (k .loop .inv) (omega arith) (sym (refs-as .ensures) ∙ not-true (refs-as .result) (c .if1 .taken))
 
-add-g : tie.Need-add-g Inv-loop μ-loop
-add-g c = omega arith
-
-loop-less : tie.Need-loop-less Inv-loop μ-loop
-loop-less c = omega arith
-
 loop-again : tie.Need-loop-again Inv-loop μ-loop
 loop-again c =
     let k = c .before .before .before in
@@ -45,15 +39,4 @@ returns-2 : tie.Need-returns-2 Inv-loop μ-loop
 returns-2 c = tested-all (c .before .loop .inv) (omega arith)
 
 pub refs-equal-spec : {M : Type 1} → statement M
-refs-equal-spec =
-    tie.close
-    (tie.spec
-    Inv-loop
-    μ-loop
-    loop-holds
-    refs-as-requires
-    returns
-    add-g
-    loop-less
-    loop-again
-    returns-2)
+refs-equal-spec = tie.close (tie.spec Inv-loop μ-loop loop-holds refs-as-requires returns (λ c. omega arith) (λ c. omega arith) loop-again returns-2)

@@ -28,12 +28,6 @@ returns c =
     let has-row = c .before .has-row in
     tested-fails (k .loop .inv) (omega arith) (sym (has-row .ensures) ∙ not-true (has-row .result) (c .if1 .taken))
 
-add-r : tie.Need-add-r Inv-loop μ-loop
-add-r c = omega arith
-
-loop-less : tie.Need-loop-less Inv-loop μ-loop
-loop-less c = omega arith
-
 loop-again : tie.Need-loop-again Inv-loop μ-loop
 loop-again c =
     let k = c .before .before .before in
@@ -44,15 +38,4 @@ returns-2 : tie.Need-returns-2 Inv-loop μ-loop
 returns-2 c = tested-all (c .before .loop .inv) (omega arith)
 
 pub rows-found-spec : {M : Type 1} → statement M
-rows-found-spec =
-    tie.close
-    (tie.spec
-    Inv-loop
-    μ-loop
-    loop-holds
-    has-row-requires
-    returns
-    add-r
-    loop-less
-    loop-again
-    returns-2)
+rows-found-spec = tie.close (tie.spec Inv-loop μ-loop loop-holds has-row-requires returns (λ c. omega arith) (λ c. omega arith) loop-again returns-2)

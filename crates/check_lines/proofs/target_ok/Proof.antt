@@ -17,9 +17,6 @@ word-at-requires c κs =
     let a = c .before .before in
     (omega (arith, c .matrix-line .ensures, a .pre .0, a .pre .1), omega arith)
 
-up-requires : tie.Need-up-requires
-up-requires c κs = search needs
-
 returns : tie.Need-returns
 returns c =
     let k = c .before .before .before in
@@ -46,12 +43,4 @@ returns-2 c =
     (word-at .ensures) (omega (arith, up .ensures, c .before .if1 .left))
 
 pub target-ok-spec : {M : Type 1} → statement M
-target-ok-spec =
-    tie.close
-    (tie.spec
-    matrix-line-requires
-    word-at-requires
-    up-requires
-    returns
-    refs-are-requires
-    returns-2)
+target-ok-spec = tie.close (tie.spec matrix-line-requires word-at-requires (λ c κs. search needs) returns refs-are-requires returns-2)

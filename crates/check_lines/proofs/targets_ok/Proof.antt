@@ -38,12 +38,6 @@ returns c =
     let e = above-is (targetOk (now (a .args .words)) (a .args .d) (a .args .many)) (a .args .i) (loop .j) (loop .inv .0) in
     tested-fails (loop .inv .1) (omega arith) (e ∙ sym (target-ok .ensures) ∙ not-true (target-ok .result) (c .if1 .taken))
 
-add-j : tie.Need-add-j Inv-loop μ-loop
-add-j c = omega arith
-
-loop-less : tie.Need-loop-less Inv-loop μ-loop
-loop-less c = omega arith
-
 loop-again : tie.Need-loop-again Inv-loop μ-loop
 loop-again c =
     let k = c .before .before .before in
@@ -59,13 +53,4 @@ returns-2 c = tested-all (c .before .loop .inv .1) (omega arith)
 pub targets-ok-spec : {M : Type 1} → statement M
 targets-ok-spec =
     tie.close
-    (tie.spec
-    Inv-loop
-    μ-loop
-    loop-holds
-    target-ok-requires
-    returns
-    add-j
-    loop-less
-    loop-again
-    returns-2)
+    (tie.spec Inv-loop μ-loop loop-holds target-ok-requires returns (λ c. omega arith) (λ c. omega arith) loop-again returns-2)

@@ -6,21 +6,6 @@ use native.Mathlib.Omega.{arith}
 use Rattle.check_lines.proofs.two_at.Statement.{statement}
 use Rattle.check_lines.proofs.two_at.Tie as tie
 
-word-at-requires : tie.Need-word-at-requires
-word-at-requires c κs = search needs
-
-wide-requires : tie.Need-wide-requires
-wide-requires c κs = search needs
-
-add-word-at : tie.Need-add-word-at
-add-word-at c = search needs
-
-word-at-requires-2 : tie.Need-word-at-requires-2
-word-at-requires-2 c κs = search needs
-
-wide-requires-2 : tie.Need-wide-requires-2
-wide-requires-2 c κs = search needs
-
 mul-result : tie.Need-mul-result
 mul-result c = omega (arith, c .wide2 .ensures .1)
 
@@ -42,12 +27,5 @@ returns c =
 pub two-at-spec : {M : Type 1} → statement M
 two-at-spec =
     tie.close
-    (tie.spec
-    word-at-requires
-    wide-requires
-    add-word-at
-    word-at-requires-2
-    wide-requires-2
-    mul-result
-    add-result
+    (tie.spec (λ c κs. search needs) (λ c κs. search needs) (λ c. search needs) (λ c κs. search needs) (λ c κs. search needs) mul-result add-result
     returns)

@@ -15,12 +15,6 @@ returns-2 c =
     let a = o .before .before .args in
     like-degrees (now (a .words)) (a .one) (a .d) (a .e) (c .if2 .taken)
 
-word-at-requires : tie.Need-word-at-requires
-word-at-requires c κs = search needs
-
-word-at-requires-2 : tie.Need-word-at-requires-2
-word-at-requires-2 c κs = search needs
-
 returns-3 : tie.Need-returns-3
 returns-3 c =
     let l = c .before .before in
@@ -29,4 +23,4 @@ returns-3 c =
     like-refs (now (a .words)) (a .one) (a .d) (a .e) (not-false (a .one) (o .if1 .left)) (l .if2 .left) (c .before .word-at .ensures) (c .word-at2 .ensures)
 
 pub alike-spec : {M : Type 1} → statement M
-alike-spec = tie.close (tie.spec returns returns-2 word-at-requires word-at-requires-2 returns-3)
+alike-spec = tie.close (tie.spec returns returns-2 (λ c κs. search needs) (λ c κs. search needs) returns-3)

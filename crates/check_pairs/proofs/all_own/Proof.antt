@@ -98,19 +98,5 @@ loop-again c =
 pub all-own-spec : {M : Type 1} → statement M
 all-own-spec =
     tie.close
-    (tie.spec
-    Inv-loop
-    μ-loop
-    start-of-requires
-    add-count-of
-    count-of-requires
-    add-found
-    found-requires
-    loop-holds
-    own-requires
-    returns
-    add-r
-    returns-2
-    following-requires
-    loop-less
-    loop-again)
+    (tie.spec Inv-loop μ-loop start-of-requires add-count-of count-of-requires add-found found-requires loop-holds own-requires returns add-r
+    returns-2 following-requires loop-less loop-again)

@@ -55,12 +55,4 @@ returns-2 c =
 pub apart-spec : {M : Type 1} → statement M
 apart-spec =
     tie.close
-    (tie.spec
-    alike-requires
-    common-free-requires
-    returns
-    matrix-line-requires
-    word-at-requires
-    matrix-line-requires-2
-    word-at-requires-2
-    returns-2)
+    (tie.spec alike-requires common-free-requires returns matrix-line-requires word-at-requires matrix-line-requires-2 word-at-requires-2 returns-2)

@@ -52,4 +52,5 @@ returns-2 c = let l = c .before in line-all (l .before .before .pre .1) (l .befo
 
 pub blocks-differ-spec : {M : Type 1} → statement M
 blocks-differ-spec =
-    tie.close (tie.spec Inv-loop μ-loop loop-holds fresh-at-requires returns width-requires add-o add-count loop-less loop-again returns-2)
+    tie.close
+    (tie.spec Inv-loop μ-loop loop-holds fresh-at-requires returns width-requires add-o add-count loop-less loop-again returns-2)

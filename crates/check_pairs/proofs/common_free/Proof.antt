@@ -18,20 +18,8 @@ Inv-loop words e line deg c₀ c =
 abbrev μ-loop : tie.MeasureT-loop
 μ-loop words e line deg c₀ c = deg - c
 
-up-requires : tie.Need-up-requires Inv-loop μ-loop
-up-requires c κs = search needs
-
 loop-holds : tie.Need-loop-holds Inv-loop μ-loop
 loop-holds c = let z = c .before .before in (omega arith, omega (arith, c .up .ensures, z .pre .0), z .pre .1, tested-none)
-
-add-word-at : tie.Need-add-word-at Inv-loop μ-loop
-add-word-at c = search needs
-
-word-at-requires : tie.Need-word-at-requires Inv-loop μ-loop
-word-at-requires c κs = search needs
-
-free-of-requires : tie.Need-free-of-requires Inv-loop μ-loop
-free-of-requires c κs = search needs
 
 returns : tie.Need-returns Inv-loop μ-loop
 returns c =
@@ -43,12 +31,6 @@ returns c =
     tested-fails {q = freeAt (now (a .words)) (a .e .line) (a .e .deg) (a .d .line)} (l .loop .inv .3) (omega (arith, l .before .up .ensures))
     (is ∙ sym (t .ensures) ∙ not-true (t .result) (c .if1 .taken))
     ∙ sym (free-is (now (a .words)) (a .d .line) (a .d .deg) (a .e .line) (a .e .deg))
-
-add-c : tie.Need-add-c Inv-loop μ-loop
-add-c c = search needs
-
-loop-less : tie.Need-loop-less Inv-loop μ-loop
-loop-less c = search needs
 
 loop-again : tie.Need-loop-again Inv-loop μ-loop
 loop-again c =
@@ -69,16 +51,5 @@ returns-2 c =
 pub common-free-spec : {M : Type 1} → statement M
 common-free-spec =
     tie.close
-    (tie.spec
-    Inv-loop
-    μ-loop
-    up-requires
-    loop-holds
-    add-word-at
-    word-at-requires
-    free-of-requires
-    returns
-    add-c
-    loop-less
-    loop-again
-    returns-2)
+    (tie.spec Inv-loop μ-loop (λ c κs. search needs) loop-holds (λ c. search needs) (λ c κs. search needs) (λ c κs. search needs) returns
+    (λ c. search needs) (λ c. search needs) loop-again returns-2)

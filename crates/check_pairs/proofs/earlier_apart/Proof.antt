@@ -53,12 +53,6 @@ following-requires c κs =
     let more = one-behind (z .args .s) (now (z .args .words)) (z .args .i) (z .args .last) (z .pre) (l .loop .r) (omega arith) in
     (z .pre .placed .formed .whole, record { i = z .args .i + 1; r = l .loop .r; here = l .loop .inv .0; more = more })
 
-add-r : tie.Need-add-r Inv-loop μ-loop
-add-r c = omega arith
-
-loop-less : tie.Need-loop-less Inv-loop μ-loop
-loop-less c = omega arith
-
 loop-again : tie.Need-loop-again Inv-loop μ-loop
 loop-again c =
     let l = c .before .before .before .before in
@@ -79,16 +73,5 @@ returns-2 c = record { is = passed-all (c .before .loop .inv .1) (omega arith) }
 pub earlier-apart-spec : {M : Type 1} → statement M
 earlier-apart-spec =
     tie.close
-    (tie.spec
-    Inv-loop
-    μ-loop
-    add-found
-    found-requires
-    loop-holds
-    apart-requires
-    returns
-    following-requires
-    add-r
-    loop-less
-    loop-again
-    returns-2)
+    (tie.spec Inv-loop μ-loop add-found found-requires loop-holds apart-requires returns following-requires (λ c. omega arith) (λ c. omega arith)
+    loop-again returns-2)

@@ -18,19 +18,10 @@ Inv-loop words x line deg c₀ c = (c ≤ deg) × (8 * (line + deg) ≤ length w
 abbrev μ-loop : tie.MeasureT-loop
 μ-loop words x line deg c₀ c = deg - c
 
-up-requires : tie.Need-up-requires Inv-loop μ-loop
-up-requires c κs = search needs
-
 loop-holds : tie.Need-loop-holds Inv-loop μ-loop
 loop-holds c =
     let z = c .before .before in
     (omega arith, omega (arith, c .up .ensures, z .pre), tested-none)
-
-add-word-at : tie.Need-add-word-at Inv-loop μ-loop
-add-word-at c = search needs
-
-word-at-requires : tie.Need-word-at-requires Inv-loop μ-loop
-word-at-requires c κs = search needs
 
 returns : tie.Need-returns Inv-loop μ-loop
 returns c =
@@ -39,12 +30,6 @@ returns c =
     let e = l .before .up .ensures in
     tested-fails {q = otherRef (now (a .words)) (a .e .line) (a .x)} (l .loop .inv .2) (omega (arith, e))
     (ap not (eq-eqb _ _ (sym (c .if1 .taken) ∙ c .before .word-at .ensures)))
-
-add-c : tie.Need-add-c Inv-loop μ-loop
-add-c c = search needs
-
-loop-less : tie.Need-loop-less Inv-loop μ-loop
-loop-less c = search needs
 
 loop-again : tie.Need-loop-again Inv-loop μ-loop
 loop-again c =
@@ -60,15 +45,5 @@ returns-2 c =
 pub free-of-spec : {M : Type 1} → statement M
 free-of-spec =
     tie.close
-    (tie.spec
-    Inv-loop
-    μ-loop
-    up-requires
-    loop-holds
-    add-word-at
-    word-at-requires
-    returns
-    add-c
-    loop-less
-    loop-again
-    returns-2)
+    (tie.spec Inv-loop μ-loop (λ c κs. search needs) loop-holds (λ c. search needs) (λ c κs. search needs) returns (λ c. search needs)
+    (λ c. search needs) loop-again returns-2)

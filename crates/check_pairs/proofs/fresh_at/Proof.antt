@@ -9,9 +9,6 @@ use Rattle.check_pairs.proofs.Columns.{fresh-is}
 use Rattle.check_pairs.proofs.fresh_at.Statement.{statement}
 use Rattle.check_pairs.proofs.fresh_at.Tie as tie
 
-up-requires : tie.Need-up-requires
-up-requires c κs = search needs
-
 add-word-at : tie.Need-add-word-at
 add-word-at c = let z = c .before .before .before in omega (arith, z .pre, z .good, c .before .up .ensures)
 
@@ -30,4 +27,4 @@ returns c =
     c .free-of .ensures ∙ fresh-is T (z .args .d) (z .args .o) x
 
 pub fresh-at-spec : {M : Type 1} → statement M
-fresh-at-spec = tie.close (tie.spec up-requires add-word-at word-at-requires free-of-requires returns)
+fresh-at-spec = tie.close (tie.spec (λ c κs. search needs) add-word-at word-at-requires free-of-requires returns)

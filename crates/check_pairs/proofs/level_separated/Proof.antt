@@ -43,4 +43,6 @@ returns-2 : tie.Need-returns-2
 returns-2 c = c .suspect-apart .ensures
 
 pub level-separated-spec : {M : Type 1} → statement M
-level-separated-spec = tie.close (tie.spec add-count-of count-of-requires first-clash-requires all-own-requires returns suspect-apart-requires returns-2)
+level-separated-spec =
+    tie.close
+    (tie.spec add-count-of count-of-requires first-clash-requires all-own-requires returns suspect-apart-requires returns-2)

@@ -41,12 +41,6 @@ returns c =
     let n = l .before .count-of .ensures in
     level-fails (a .s) (now (a .words)) (a .i) (a .p) (l .loop .inv) (omega (arith, n)) (t .ensures) (not-true (t .result) (c .if1 .taken))
 
-add-r : tie.Need-add-r Inv-loop μ-loop
-add-r c = omega arith
-
-loop-less : tie.Need-loop-less Inv-loop μ-loop
-loop-less c = omega arith
-
 loop-again : tie.Need-loop-again Inv-loop μ-loop
 loop-again c =
     let l = c .before .before .before in
@@ -63,16 +57,5 @@ returns-2 c =
 pub pairs-apart-spec : {M : Type 1} → statement M
 pairs-apart-spec =
     tie.close
-    (tie.spec
-    Inv-loop
-    μ-loop
-    start-of-requires
-    add-count-of
-    count-of-requires
-    loop-holds
-    stands-apart-requires
-    returns
-    add-r
-    loop-less
-    loop-again
-    returns-2)
+    (tie.spec Inv-loop μ-loop start-of-requires add-count-of count-of-requires loop-holds stands-apart-requires returns (λ c. omega arith)
+    (λ c. omega arith) loop-again returns-2)

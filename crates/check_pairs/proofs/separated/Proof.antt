@@ -19,12 +19,6 @@ abbrev μ-loop : tie.MeasureT-loop
 loop-holds : tie.Need-loop-holds Inv-loop μ-loop
 loop-holds c = let a = c .before .args in table-known (a .s) (now (a .primes)) (now (a .words))
 
-up-requires : tie.Need-up-requires Inv-loop μ-loop
-up-requires c κs = search needs
-
-mul-level-separated : tie.Need-mul-level-separated Inv-loop μ-loop
-mul-level-separated c = search needs
-
 element-copy-out-level-separated : tie.Need-element-copy-out-level-separated Inv-loop μ-loop
 element-copy-out-level-separated c = let z = c .before .before .before .before in omega (arith, c .up .ensures, z .pre .1 .whole .few)
 
@@ -39,12 +33,6 @@ returns c =
     let t = c .before .level-separated in
     let is = ap (λ k. getD (now (a .primes)) k 0) (u .up .ensures) in
     table-fails (a .s) (now (a .primes)) (now (a .words)) (omega arith) is (t .ensures) (l .loop .inv) (not-true (t .result) (c .if1 .taken))
-
-add-i : tie.Need-add-i Inv-loop μ-loop
-add-i c = omega arith
-
-loop-less : tie.Need-loop-less Inv-loop μ-loop
-loop-less c = omega arith
 
 loop-again : tie.Need-loop-again Inv-loop μ-loop
 loop-again c =
@@ -64,16 +52,5 @@ returns-2 c =
 pub separated-spec : {M : Type 1} → statement M
 separated-spec =
     tie.close
-    (tie.spec
-    Inv-loop
-    μ-loop
-    loop-holds
-    up-requires
-    mul-level-separated
-    element-copy-out-level-separated
-    level-separated-requires
-    returns
-    add-i
-    loop-less
-    loop-again
-    returns-2)
+    (tie.spec Inv-loop μ-loop loop-holds (λ c κs. search needs) (λ c. search needs) element-copy-out-level-separated level-separated-requires returns
+    (λ c. omega arith) (λ c. omega arith) loop-again returns-2)

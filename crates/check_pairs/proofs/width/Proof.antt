@@ -11,17 +11,11 @@ use Rattle.seek.proofs.Columns.{ref-read}
 use Rattle.check_pairs.proofs.width.Statement.{statement}
 use Rattle.check_pairs.proofs.width.Tie as tie
 
-up-requires : tie.Need-up-requires
-up-requires c κs = search needs
-
 add-word-at : tie.Need-add-word-at
 add-word-at c = let z = c .before .before .before in omega (arith, z .pre .there, z .good, c .before .up .ensures)
 
 word-at-requires : tie.Need-word-at-requires
 word-at-requires c κs = let z = c .before .before .before in (omega (arith, z .pre .there, c .before .up .ensures), omega arith)
-
-up-requires-2 : tie.Need-up-requires-2
-up-requires-2 c κs = search needs
 
 degree-of-requires : tie.Need-degree-of-requires
 degree-of-requires c κs =
@@ -41,4 +35,4 @@ returns c =
     (is ∙ ap (λ x. repOf (levelAt (z .args .s .gens) T (z .args .i)) x .deg) x, pos)
 
 pub width-spec : {M : Type 1} → statement M
-width-spec = tie.close (tie.spec up-requires add-word-at word-at-requires up-requires-2 degree-of-requires returns)
+width-spec = tie.close (tie.spec (λ c κs. search needs) add-word-at word-at-requires (λ c κs. search needs) degree-of-requires returns)

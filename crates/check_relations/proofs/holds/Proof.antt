@@ -7,26 +7,11 @@ use Rattle.check_relations.proofs.Asked.{top-asked, every-asked, intert
 use Rattle.check_relations.proofs.holds.Statement.{statement}
 use Rattle.check_relations.proofs.holds.Tie as tie
 
-enum-told : tie.Need-enum-told
-enum-told c = search needs
-
-sub-top-relations : tie.Need-sub-top-relations
-sub-top-relations c = search needs
-
 top-relations-requires : tie.Need-top-relations-requires
 top-relations-requires c κs = let A = c .before .before .before .pre in (among-kept A, omega (arith, A .found .level))
 
-enum-told-2 : tie.Need-enum-told-2
-enum-told-2 c = search needs
-
 all-relations-requires : tie.Need-all-relations-requires
 all-relations-requires c κs = let A = c .before .before .before .pre in (among-kept A, A .found .level .1)
-
-enum-told-3 : tie.Need-enum-told-3
-enum-told-3 c = search needs
-
-all-intertwiners-requires : tie.Need-all-intertwiners-requires
-all-intertwiners-requires c κs = search needs
 
 returns : tie.Need-returns
 returns c =
@@ -52,14 +37,5 @@ returns-3 c =
 pub holds-spec : {M : Type 1} → statement M
 holds-spec =
     tie.close
-    (tie.spec
-    enum-told
-    sub-top-relations
-    top-relations-requires
-    enum-told-2
-    all-relations-requires
-    enum-told-3
-    all-intertwiners-requires
-    returns
-    returns-2
-    returns-3)
+    (tie.spec (λ c. search needs) (λ c. search needs) top-relations-requires (λ c. search needs) all-relations-requires (λ c. search needs)
+    (λ c κs. search needs) returns returns-2 returns-3)

@@ -23,9 +23,6 @@ loop-holds c =
     let A = Behind (asked (a .q)) (a .s) (now (a .rows)) (now (a .primes)) T (a .from) in
     up-to-known (a .s) T A (asks (asked (a .q)) (a .s) T) (λ P p. p .known)
 
-add-holds-on : tie.Need-add-holds-on Inv-loop μ-loop
-add-holds-on c = omega arith
-
 holds-on-requires : tie.Need-holds-on-requires Inv-loop μ-loop
 holds-on-requires c κs = let z = c .before .before .before in (z .pre, omega arith, omega arith)
 
@@ -42,12 +39,6 @@ returns c =
       is = table-fails (a .s) T A (asks (asked (a .q)) (a .s) T) (a .s .m) (λ P p. p .posed .formed .gens-are) (l .loop .inv) (omega arith)
           (λ P p. told P (p .posed)) no;
     }
-
-add-i : tie.Need-add-i Inv-loop μ-loop
-add-i c = omega arith
-
-loop-less : tie.Need-loop-less Inv-loop μ-loop
-loop-less c = omega arith
 
 loop-again : tie.Need-loop-again Inv-loop μ-loop
 loop-again c =
@@ -67,4 +58,5 @@ returns-2 c =
 
 pub holds-everywhere-spec : {M : Type 1} → statement M
 holds-everywhere-spec =
-    tie.close (tie.spec Inv-loop μ-loop loop-holds add-holds-on holds-on-requires returns add-i loop-less loop-again returns-2)
+    tie.close
+    (tie.spec Inv-loop μ-loop loop-holds (λ c. omega arith) holds-on-requires returns (λ c. omega arith) (λ c. omega arith) loop-again returns-2)

@@ -101,16 +101,5 @@ loop-again c =
 pub holds-on-spec : {M : Type 1} → statement M
 holds-on-spec =
     tie.close
-    (tie.spec
-    Inv-loop
-    μ-loop
-    count-of-requires
-    found-requires
-    loop-holds
-    holds-requires
-    returns
-    add-r
-    returns-2
-    following-requires
-    loop-less
+    (tie.spec Inv-loop μ-loop count-of-requires found-requires loop-holds holds-requires returns add-r returns-2 following-requires loop-less
     loop-again)

@@ -4,12 +4,9 @@ use Rattle.check_relations.specs.Asked.{asked}
 use Rattle.check_relations.proofs.intertwiners_hold.Statement.{statement}
 use Rattle.check_relations.proofs.intertwiners_hold.Tie as tie
 
-holds-everywhere-requires : tie.Need-holds-everywhere-requires
-holds-everywhere-requires c κs = search needs
-
 returns : tie.Need-returns
 unfolding asked
 returns c = c .holds-everywhere .ensures
 
 pub intertwiners-hold-spec : {M : Type 1} → statement M
-intertwiners-hold-spec = tie.close (tie.spec holds-everywhere-requires returns)
+intertwiners-hold-spec = tie.close (tie.spec (λ c κs. search needs) returns)

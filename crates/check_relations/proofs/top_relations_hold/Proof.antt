@@ -4,12 +4,9 @@ use Rattle.check_relations.specs.Asked.{asked}
 use Rattle.check_relations.proofs.top_relations_hold.Statement.{statement}
 use Rattle.check_relations.proofs.top_relations_hold.Tie as tie
 
-holds-everywhere-requires : tie.Need-holds-everywhere-requires
-holds-everywhere-requires c κs = search needs
-
 returns : tie.Need-returns
 unfolding asked
 returns c = c .holds-everywhere .ensures
 
 pub top-relations-hold-spec : {M : Type 1} → statement M
-top-relations-hold-spec = tie.close (tie.spec holds-everywhere-requires returns)
+top-relations-hold-spec = tie.close (tie.spec (λ c κs. search needs) returns)

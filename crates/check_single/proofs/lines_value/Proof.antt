@@ -21,9 +21,6 @@ abbrev μ-loop : tie.MeasureT-loop
 loop-holds : tie.Need-loop-holds Inv-loop μ-loop
 loop-holds c = (summed-none, omega arith)
 
-up-requires : tie.Need-up-requires Inv-loop μ-loop
-up-requires c κs = search needs
-
 mul-a : tie.Need-mul-a Inv-loop μ-loop
 mul-a c =
     let z = c .before .before .before .before in
@@ -58,9 +55,6 @@ line-same-requires c κs =
 returns-2 : tie.Need-returns-2 Inv-loop μ-loop
 returns-2 c = λ e. absurd (omega (arith, e))
 
-up-requires-2 : tie.Need-up-requires-2 Inv-loop μ-loop
-up-requires-2 c κs = search needs
-
 add-word-at : tie.Need-add-word-at Inv-loop μ-loop
 add-word-at c =
     let at-up = c .before .before .before .before .before in
@@ -72,9 +66,6 @@ word-at-requires c κs =
     let at-up = c .before .before .before .before .before in
     let z = at-up .before .before .before .before in
     (omega (arith, z .pre .0, at-up .up .ensures), omega arith)
-
-up-requires-3 : tie.Need-up-requires-3 Inv-loop μ-loop
-up-requires-3 c κs = search needs
 
 mul-y : tie.Need-mul-y Inv-loop μ-loop
 mul-y c =
@@ -91,12 +82,6 @@ add-y c =
     let z = at-loop .before .before in
     let q = product-small {a = at-up2 .up2 .result} {b = c .up3 .result} (omega (arith, at-up2 .up2 .ensures, at-else1 .if1 .left)) (omega (arith, c .up3 .ensures)) in
     omega (arith, q, at-loop .loop .inv .0 .small, at-loop .loop .inv .1, z .pre .2)
-
-add-k : tie.Need-add-k Inv-loop μ-loop
-add-k c = search needs
-
-loop-less : tie.Need-loop-less Inv-loop μ-loop
-loop-less c = omega arith
 
 loop-again : tie.Need-loop-again Inv-loop μ-loop
 loop-again c =
@@ -126,25 +111,6 @@ returns-3 c = λ e.
 pub lines-value-spec : {M : Type 1} → statement M
 lines-value-spec =
     tie.close
-    (tie.spec
-    Inv-loop
-    μ-loop
-    loop-holds
-    up-requires
-    mul-a
-    element-copy-out-a
-    returns
-    add-line-same
-    add-line-same-2
-    line-same-requires
-    returns-2
-    up-requires-2
-    add-word-at
-    word-at-requires
-    up-requires-3
-    mul-y
-    add-y
-    add-k
-    loop-less
-    loop-again
-    returns-3)
+    (tie.spec Inv-loop μ-loop loop-holds (λ c κs. search needs) mul-a element-copy-out-a returns add-line-same add-line-same-2 line-same-requires
+    returns-2 (λ c κs. search needs) add-word-at word-at-requires (λ c κs. search needs) mul-y add-y (λ c. search needs) (λ c. omega arith)
+    loop-again returns-3)

@@ -14,20 +14,11 @@ use Rattle.check_single.proofs.Power as power
 use Rattle.check_single.proofs.rep_passes.Statement.{statement}
 use Rattle.check_single.proofs.rep_passes.Tie as tie
 
-up-requires : tie.Need-up-requires
-up-requires c κs = search needs
-
 pair-requires : tie.Need-pair-requires
 pair-requires c κs =
     let z = c .before .before .before in
     let S = z .pre .0 in
     (omega arith, omega (arith, c .up .ensures, S .level .1, S .whole .few))
-
-mul-single-value : tie.Need-mul-single-value
-mul-single-value c = search needs
-
-index-1-single-value : tie.Need-index-1-single-value
-index-1-single-value c = search needs
 
 single-value-requires : tie.Need-single-value-requires
 single-value-requires c κs =
@@ -81,12 +72,6 @@ rep-fits-requires c κs =
 returns-3 : tie.Need-returns-3
 returns-3 c = λ e. absurd (false≢true e)
 
-mul-power-at : tie.Need-mul-power-at
-mul-power-at c = search needs
-
-index-1-power-at : tie.Need-index-1-power-at
-index-1-power-at c = search needs
-
 power-at-requires : tie.Need-power-at-requires
 power-at-requires c κs =
     let at-if3 = c .before in
@@ -116,18 +101,5 @@ returns-4 c =
 pub rep-passes-spec : {M : Type 1} → statement M
 rep-passes-spec =
     tie.close
-    (tie.spec
-    up-requires
-    pair-requires
-    mul-single-value
-    index-1-single-value
-    single-value-requires
-    returns
-    single-power-requires
-    returns-2
-    rep-fits-requires
-    returns-3
-    mul-power-at
-    index-1-power-at
-    power-at-requires
-    returns-4)
+    (tie.spec (λ c κs. search needs) pair-requires (λ c. search needs) (λ c. search needs) single-value-requires returns single-power-requires
+    returns-2 rep-fits-requires returns-3 (λ c. search needs) (λ c. search needs) power-at-requires returns-4)

@@ -14,9 +14,6 @@ use Rattle.check_single.proofs.Single.{single-line, single-room, width-
 use Rattle.check_single.proofs.single_led.Statement.{statement}
 use Rattle.check_single.proofs.single_led.Tie as tie
 
-up-requires : tie.Need-up-requires
-up-requires c κs = search needs
-
 add-word-at : tie.Need-add-word-at
 add-word-at c =
     let at-up = c .before in
@@ -30,9 +27,6 @@ word-at-requires c κs =
     let z = at-up .before .before .before in
     let (S, O, one, l) = z .pre in
     (omega (arith, single-room O one (z .args .j) l .0, at-up .up .ensures), omega arith)
-
-up-requires-2 : tie.Need-up-requires-2
-up-requires-2 c κs = search needs
 
 returns : tie.Need-returns
 returns c = λ e. absurd (false≢true e)
@@ -64,9 +58,6 @@ word-at-requires-2 c κs =
     let E = high-at S (at-up2 .up2 .result) (omega (arith, at-if1 .if1 .left)) (at-rep-at .rep-at .ensures) (at-up2 .up2 .ensures) in
     let I = found-inside (S .whole) (S .short) E in
     (omega (arith, inside-matrix I 0 (S .whole .some), I .positive), omega arith)
-
-up-requires-3 : tie.Need-up-requires-3
-up-requires-3 c κs = search needs
 
 returns-3 : tie.Need-returns-3
 returns-3 c = λ e. absurd (false≢true e)
@@ -137,20 +128,5 @@ returns-5 c =
 pub single-led-spec : {M : Type 1} → statement M
 single-led-spec =
     tie.close
-    (tie.spec
-    up-requires
-    add-word-at
-    word-at-requires
-    up-requires-2
-    returns
-    add-rep-at
-    rep-at-requires
-    returns-2
-    word-at-requires-2
-    up-requires-3
-    returns-3
-    add-rep-at-2
-    rep-at-requires-2
-    returns-4
-    single-takes-requires
-    returns-5)
+    (tie.spec (λ c κs. search needs) add-word-at word-at-requires (λ c κs. search needs) returns add-rep-at rep-at-requires returns-2
+    word-at-requires-2 (λ c κs. search needs) returns-3 add-rep-at-2 rep-at-requires-2 returns-4 single-takes-requires returns-5)

@@ -9,9 +9,6 @@ use Rattle.definitions.specs.Table.{EXP, wordAt}
 use Rattle.check_single.proofs.single_power.Statement.{statement}
 use Rattle.check_single.proofs.single_power.Tie as tie
 
-up-requires : tie.Need-up-requires
-up-requires c κs = search needs
-
 add-word-at : tie.Need-add-word-at
 add-word-at c =
     let at-up = c .before in
@@ -30,12 +27,6 @@ times-requires c κs =
     let z = at-up .before .before in
     let a = z .args in
     (omega (arith, z .pre .1, c .word-at .ensures, ap (λ k. wordAt (now (a .words)) (a .d .line + k) EXP) (at-up .up .ensures)), z .pre .3)
-
-up-requires-2 : tie.Need-up-requires-2
-up-requires-2 c κs = search needs
-
-up-requires-3 : tie.Need-up-requires-3
-up-requires-3 c κs = search needs
 
 rem-result : tie.Need-rem-result
 rem-result c =
@@ -56,4 +47,6 @@ returns c =
     ∙ eqb-true (at-up2 .up2 .result) (a .y % c .up3 .result) e ∙ ap (λ m. a .y % m) (c .up3 .ensures)
 
 pub single-power-spec : {M : Type 1} → statement M
-single-power-spec = tie.close (tie.spec up-requires add-word-at word-at-requires times-requires up-requires-2 up-requires-3 rem-result returns)
+single-power-spec =
+    tie.close
+    (tie.spec (λ c κs. search needs) add-word-at word-at-requires times-requires (λ c κs. search needs) (λ c κs. search needs) rem-result returns)

@@ -12,9 +12,6 @@ use Rattle.check_single.proofs.Single as single
 use Rattle.check_single.proofs.single_takes.Statement.{statement}
 use Rattle.check_single.proofs.single_takes.Tie as tie
 
-up-requires : tie.Need-up-requires
-up-requires c κs = search needs
-
 add-at : tie.Need-add-at
 add-at c =
     let at-up = c .before in
@@ -103,16 +100,5 @@ returns-4 c =
 pub single-takes-spec : {M : Type 1} → statement M
 single-takes-spec =
     tie.close
-    (tie.spec
-    up-requires
-    add-at
-    word-at-requires
-    returns
-    word-at-requires-2
-    returns-2
-    word-at-requires-3
-    returns-3
-    word-at-requires-4
-    add-word-at
-    word-at-requires-5
-    returns-4)
+    (tie.spec (λ c κs. search needs) add-at word-at-requires returns word-at-requires-2 returns-2 word-at-requires-3 returns-3 word-at-requires-4
+    add-word-at word-at-requires-5 returns-4)

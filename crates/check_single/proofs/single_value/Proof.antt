@@ -18,9 +18,6 @@ word-at-requires c κs =
     let (S, I, one) = z .pre in
     (omega (arith, inside-matrix I 0 (S .whole .some), I .positive), omega arith)
 
-up-requires : tie.Need-up-requires
-up-requires c κs = search needs
-
 returns : tie.Need-returns
 returns c = λ e. absurd (omega (arith, e))
 
@@ -112,16 +109,5 @@ returns-5 c =
 pub single-value-spec : {M : Type 1} → statement M
 single-value-spec =
     tie.close
-    (tie.spec
-    word-at-requires
-    up-requires
-    returns
-    add-rep-at
-    rep-at-requires
-    returns-2
-    single-takes-requires
-    returns-3
-    singles-led-requires
-    returns-4
-    lines-value-requires
-    returns-5)
+    (tie.spec word-at-requires (λ c κs. search needs) returns add-rep-at rep-at-requires returns-2 single-takes-requires returns-3
+    singles-led-requires returns-4 lines-value-requires returns-5)

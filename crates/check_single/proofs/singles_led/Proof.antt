@@ -36,12 +36,6 @@ single-led-requires c κs =
 returns : tie.Need-returns Inv-loop μ-loop
 returns c = λ e. absurd (false≢true e)
 
-add-j-2 : tie.Need-add-j-2 Inv-loop μ-loop
-add-j-2 c = search needs
-
-loop-less : tie.Need-loop-less Inv-loop μ-loop
-loop-less c = omega arith
-
 loop-again : tie.Need-loop-again Inv-loop μ-loop
 loop-again c =
     let at-single-led = c .before in
@@ -56,14 +50,4 @@ returns-2 c =
 pub singles-led-spec : {M : Type 1} → statement M
 singles-led-spec =
     tie.close
-    (tie.spec
-    Inv-loop
-    μ-loop
-    add-j
-    loop-holds
-    single-led-requires
-    returns
-    add-j-2
-    loop-less
-    loop-again
-    returns-2)
+    (tie.spec Inv-loop μ-loop add-j loop-holds single-led-requires returns (λ c. search needs) (λ c. omega arith) loop-again returns-2)

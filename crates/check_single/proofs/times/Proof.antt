@@ -29,10 +29,4 @@ returns-2 c =
     c .add-times .ensures .0 ∙ ap (λ x. x % z .args .m) x
 
 pub times-spec : {M : Type 1} → statement M
-times-spec =
-    tie.close
-    (tie.spec
-    add-mod-requires
-    returns
-    add-times-requires
-    returns-2)
+times-spec = tie.close (tie.spec add-mod-requires returns add-times-requires returns-2)

@@ -13,9 +13,6 @@ use Rattle.checker.proofs.Phases.{counted-of, known-form, found-fitting
 use Rattle.checker.proofs.judge.Statement.{statement}
 use Rattle.checker.proofs.judge.Tie as tie
 
-up-requires : tie.Need-up-requires
-up-requires c κs = search needs
-
 level-orders-requires : tie.Need-level-orders-requires
 level-orders-requires c κs =
     let z = c .before .before in
@@ -101,12 +98,5 @@ returns-3 c =
 pub judge-spec : {M : Type 1} → statement M
 judge-spec =
     tie.close
-    (tie.spec
-    up-requires
-    level-orders-requires
-    fitting-levels-requires
-    returns
-    well-formed-requires
-    returns-2
-    judge-formed-requires
+    (tie.spec (λ c κs. search needs) level-orders-requires fitting-levels-requires returns well-formed-requires returns-2 judge-formed-requires
     returns-3)

@@ -105,17 +105,5 @@ returns-7 c =
 pub judge-formed-spec : {M : Type 1} → statement M
 judge-formed-spec =
     tie.close
-    (tie.spec
-    restrictions-hold-requires
-    relations-hold-requires
-    returns
-    returns-2
-    top-relations-hold-requires
-    returns-3
-    intertwiners-hold-requires
-    returns-4
-    separated-requires
-    returns-5
-    squares-hold-requires
-    returns-6
-    returns-7)
+    (tie.spec restrictions-hold-requires relations-hold-requires returns returns-2 top-relations-hold-requires returns-3 intertwiners-hold-requires
+    returns-4 separated-requires returns-5 squares-hold-requires returns-6 returns-7)

@@ -11,15 +11,6 @@ use Rattle.claims.proofs.Claims.{claimed-many, claimed-one}
 use Rattle.claims.proofs.claim.Statement.{statement}
 use Rattle.claims.proofs.claim.Tie as tie
 
-one-reference-requires : tie.Need-one-reference-requires
-one-reference-requires c κs = search needs
-
-take-all-requires : tie.Need-take-all-requires
-take-all-requires c κs = search needs
-
-same-length : tie.Need-same-length
-same-length c = search needs
-
 returns : tie.Need-returns
 returns c =
     let t = c .before .before in
@@ -28,30 +19,6 @@ returns c =
     let D = repIn (now (a .words)) (a .d) in
     λ h. claimed-many (a .i) (a .p) (a .part) D _ _ _ _ (o .one-reference .ensures) (not-true (o .one-reference .result) (t .before .before .if1 .taken))
     (t .take-all .ensures h)
-
-word-at-requires : tie.Need-word-at-requires
-word-at-requires c κs = search needs
-
-matrix-line-requires : tie.Need-matrix-line-requires
-matrix-line-requires c κs = search needs
-
-word-at-requires-2 : tie.Need-word-at-requires-2
-word-at-requires-2 c κs = search needs
-
-up-requires : tie.Need-up-requires
-up-requires c κs = search needs
-
-slot-requires : tie.Need-slot-requires
-slot-requires c κs = search needs
-
-share-requires : tie.Need-share-requires
-share-requires c κs = search needs
-
-same-length-2 : tie.Need-same-length-2
-same-length-2 c = search needs
-
-same-length-3 : tie.Need-same-length-3
-same-length-3 c = search needs
 
 returns-2 : tie.Need-returns-2
 returns-2 c =
@@ -72,17 +39,5 @@ returns-2 c =
 pub claim-spec : {M : Type 1} → statement M
 claim-spec =
     tie.close
-    (tie.spec
-    one-reference-requires
-    take-all-requires
-    same-length
-    returns
-    word-at-requires
-    matrix-line-requires
-    word-at-requires-2
-    up-requires
-    slot-requires
-    share-requires
-    same-length-2
-    same-length-3
-    returns-2)
+    (tie.spec (λ c κs. search needs) (λ c κs. search needs) (λ c. search needs) returns (λ c κs. search needs) (λ c κs. search needs)
+    (λ c κs. search needs) (λ c κs. search needs) (λ c κs. search needs) (λ c κs. search needs) (λ c. search needs) (λ c. search needs) returns-2)

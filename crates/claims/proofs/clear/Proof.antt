@@ -20,12 +20,6 @@ loop-holds c = (search needs, search needs, clearing-none _)
 slice-write-marks : tie.Need-slice-write-marks Inv-loop μ-loop
 slice-write-marks c = let l = c .before .loop in omega (arith, l .inv .1, l .inv .2 .size)
 
-add-k : tie.Need-add-k Inv-loop μ-loop
-add-k c = search needs
-
-loop-less : tie.Need-loop-less Inv-loop μ-loop
-loop-less c = omega arith
-
 loop-again : tie.Need-loop-again Inv-loop μ-loop
 loop-again c = let l = c .before .loop in (omega arith, l .inv .1, clearing-more (omega (arith, l .inv .1)) (l .inv .2))
 
@@ -36,4 +30,4 @@ returns : tie.Need-returns Inv-loop μ-loop
 returns c = let l = c .before .loop in (clearing-all (omega (arith, l .inv .1)) (l .inv .2), l .inv .2 .size)
 
 pub clear-spec : {M : Type 1} → statement M
-clear-spec = tie.close (tie.spec Inv-loop μ-loop loop-holds slice-write-marks add-k loop-less loop-again same-length returns)
+clear-spec = tie.close (tie.spec Inv-loop μ-loop loop-holds slice-write-marks (λ c. search needs) (λ c. omega arith) loop-again same-length returns)

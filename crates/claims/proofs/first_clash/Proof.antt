@@ -26,9 +26,6 @@ abbrev μ-loop : tie.MeasureT-loop
 returns : tie.Need-returns Inv-loop μ-loop
 returns c = let z = c .before .before in clash-first (z .args .s) (now (z .args .words)) (z .pre .0) (z .pre .1)
 
-div-part : tie.Need-div-part Inv-loop μ-loop
-div-part c = search needs
-
 returns-2 : tie.Need-returns-2 Inv-loop μ-loop
 returns-2 c = let z = c .before .before .before .before in clash-first (z .args .s) (now (z .args .words)) (z .pre .0) (z .pre .1)
 
@@ -58,12 +55,6 @@ loop-holds c =
       search needs,
       search needs,
     )
-
-slice-aggregate-claim : tie.Need-slice-aggregate-claim Inv-loop μ-loop
-slice-aggregate-claim c = search needs
-
-slice-aggregate-claim-2 : tie.Need-slice-aggregate-claim-2 Inv-loop μ-loop
-slice-aggregate-claim-2 c = search needs
 
 claim-requires : tie.Need-claim-requires Inv-loop μ-loop
 claim-requires c κs =
@@ -116,23 +107,5 @@ loop-again c =
 pub first-clash-spec : {M : Type 1} → statement M
 first-clash-spec =
     tie.close
-    (tie.spec
-    Inv-loop
-    μ-loop
-    returns
-    div-part
-    returns-2
-    add-count-of
-    count-of-requires
-    add-found
-    found-requires
-    loop-holds
-    slice-aggregate-claim
-    slice-aggregate-claim-2
-    claim-requires
-    returns-3
-    add-r
-    returns-4
-    following-requires
-    loop-less
-    loop-again)
+    (tie.spec Inv-loop μ-loop returns (λ c. search needs) returns-2 add-count-of count-of-requires add-found found-requires loop-holds
+    (λ c. search needs) (λ c. search needs) claim-requires returns-3 add-r returns-4 following-requires loop-less loop-again)

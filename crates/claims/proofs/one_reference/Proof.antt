@@ -20,20 +20,8 @@ Inv-loop words line deg first c₀ c =
 abbrev μ-loop : tie.MeasureT-loop
 μ-loop words line deg first c₀ c = deg - c
 
-up-requires : tie.Need-up-requires Inv-loop μ-loop
-up-requires c κs = search needs
-
-word-at-requires : tie.Need-word-at-requires Inv-loop μ-loop
-word-at-requires c κs = search needs
-
 loop-holds : tie.Need-loop-holds Inv-loop μ-loop
 loop-holds c = (omega arith, omega (arith, c .before .up .ensures), c .word-at .ensures, tested-none)
-
-add-word-at : tie.Need-add-word-at Inv-loop μ-loop
-add-word-at c = search needs
-
-word-at-requires-2 : tie.Need-word-at-requires-2 Inv-loop μ-loop
-word-at-requires-2 c κs = search needs
 
 returns : tie.Need-returns Inv-loop μ-loop
 returns c =
@@ -45,12 +33,6 @@ returns c =
     let T = now (a .words) in
     let other = other-reference T (a .d .line) (l .before .before .up .result) (l .loop .c) _ _ (w .word-at2 .ensures) first (c .if1 .taken) in
     subst (λ deg. false ≡ oneReference (repAt T (a .d .line) deg)) e (tested-fails tested (unfold repAt in (omega arith)) other)
-
-add-c : tie.Need-add-c Inv-loop μ-loop
-add-c c = search needs
-
-loop-less : tie.Need-loop-less Inv-loop μ-loop
-loop-less c = search needs
 
 loop-again : tie.Need-loop-again Inv-loop μ-loop
 loop-again c =
@@ -73,16 +55,5 @@ returns-2 c =
 pub one-reference-spec : {M : Type 1} → statement M
 one-reference-spec =
     tie.close
-    (tie.spec
-    Inv-loop
-    μ-loop
-    up-requires
-    word-at-requires
-    loop-holds
-    add-word-at
-    word-at-requires-2
-    returns
-    add-c
-    loop-less
-    loop-again
-    returns-2)
+    (tie.spec Inv-loop μ-loop (λ c κs. search needs) (λ c κs. search needs) loop-holds (λ c. search needs) (λ c κs. search needs) returns
+    (λ c. search needs) (λ c. search needs) loop-again returns-2)

@@ -7,12 +7,6 @@ use borrow.Author.Needs.{needs}
 use Rattle.claims.proofs.slot.Statement.{statement}
 use Rattle.claims.proofs.slot.Tie as tie
 
-up-requires : tie.Need-up-requires
-up-requires c κs = search needs
-
-up-requires-2 : tie.Need-up-requires-2
-up-requires-2 c κs = search needs
-
 -- the product as it is formed, and how large it is
 product : (x y f p : ℕ) → x ≡ f → y ≡ p → f < 4294967296 → p < 4294967296 → (x * y ≡ f * p) × (f * p ≤ 18446744065119617025)
 product x y f p a b l k =
@@ -25,12 +19,6 @@ mul-result c =
     let z = c .before .before in
     let (e, h) = product _ _ (z .args .f) (z .args .p) (c .before .up .ensures) (c .up2 .ensures) (omega (arith, z .good)) (omega (arith, z .good)) in
     omega (arith, e, h)
-
-div-up : tie.Need-div-up
-div-up c = search needs
-
-up-requires-3 : tie.Need-up-requires-3
-up-requires-3 c κs = search needs
 
 add-result : tie.Need-add-result
 add-result c =
@@ -47,4 +35,6 @@ returns c =
     ap₂ (λ x y. x + y) e (c .up3 .ensures)
 
 pub slot-spec : {M : Type 1} → statement M
-slot-spec = tie.close (tie.spec up-requires up-requires-2 mul-result div-up up-requires-3 add-result returns)
+slot-spec =
+    tie.close
+    (tie.spec (λ c κs. search needs) (λ c κs. search needs) mul-result (λ c. search needs) (λ c κs. search needs) add-result returns)

@@ -13,17 +13,8 @@ returns c = λ h. absurd (false≢true h)
 returns-2 : tie.Need-returns-2
 returns-2 c = λ h. let z = c .before .before in took-again (now (z .args .marks)) (z .args .f) (z .args .last) (omega arith) (c .if2 .taken)
 
-slice-read-if3 : tie.Need-slice-read-if3
-slice-read-if3 c = search needs
-
 returns-3 : tie.Need-returns-3
 returns-3 c = λ h. absurd (false≢true h)
-
-slice-write-marks : tie.Need-slice-write-marks
-slice-write-marks c = search needs
-
-same-length : tie.Need-same-length
-same-length c = search needs
 
 returns-4 : tie.Need-returns-4
 returns-4 c =
@@ -31,4 +22,4 @@ returns-4 c =
     λ h. took-free (now (z .args .marks)) (z .args .f) (z .args .last) (omega arith) (c .before .before .if2 .left) (omega (arith, c .if3 .left))
 
 pub take-spec : {M : Type 1} → statement M
-take-spec = tie.close (tie.spec returns returns-2 slice-read-if3 returns-3 slice-write-marks same-length returns-4)
+take-spec = tie.close (tie.spec returns returns-2 (λ c. search needs) returns-3 (λ c. search needs) (λ c. search needs) returns-4)

@@ -12,29 +12,8 @@ use Rattle.collector.proofs.alone.Tie as tie
 returns : tie.Need-returns
 returns c = record { is = λ e. absurd (false≢true e) }
 
-sub-top : tie.Need-sub-top
-sub-top c = search needs
-
-top-requires : tie.Need-top-requires
-top-requires c κs = search needs
-
 returns-2 : tie.Need-returns-2
 returns-2 c = record { is = λ e. absurd (false≢true e) }
-
-sub-word : tie.Need-sub-word
-sub-word c = search needs
-
-sub-word-2 : tie.Need-sub-word-2
-sub-word-2 c = search needs
-
-word-requires : tie.Need-word-requires
-word-requires c κs = search needs
-
-sub-top-2 : tie.Need-sub-top-2
-sub-top-2 c = search needs
-
-top-requires-2 : tie.Need-top-requires-2
-top-requires-2 c κs = search needs
 
 returns-3 : tie.Need-returns-3
 returns-3 c =
@@ -53,14 +32,5 @@ returns-3 c =
 pub alone-spec : {M : Type 1} → statement M
 alone-spec =
     tie.close
-    (tie.spec
-    returns
-    sub-top
-    top-requires
-    returns-2
-    sub-word
-    sub-word-2
-    word-requires
-    sub-top-2
-    top-requires-2
-    returns-3)
+    (tie.spec returns (λ c. search needs) (λ c κs. search needs) returns-2 (λ c. search needs) (λ c. search needs) (λ c κs. search needs)
+    (λ c. search needs) (λ c κs. search needs) returns-3)

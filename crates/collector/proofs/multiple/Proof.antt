@@ -8,27 +8,6 @@ use borrow.Author.Needs.{needs}
 use Rattle.collector.proofs.multiple.Statement.{statement}
 use Rattle.collector.proofs.multiple.Tie as tie
 
-mul-remainder : tie.Need-mul-remainder
-mul-remainder c = search needs
-
-array-read-remainder : tie.Need-array-read-remainder
-array-read-remainder c = search needs
-
-mul-remainder-2 : tie.Need-mul-remainder-2
-mul-remainder-2 c = search needs
-
-element-copy-out-remainder : tie.Need-element-copy-out-remainder
-element-copy-out-remainder c = search needs
-
-remainder-requires : tie.Need-remainder-requires
-remainder-requires c κs = search needs
-
-mul-r : tie.Need-mul-r
-mul-r c = search needs
-
-array-write-r : tie.Need-array-write-r
-array-write-r c = search needs
-
 returns : tie.Need-returns
 returns c =
     let k = c .before .before .args .k in
@@ -38,12 +17,5 @@ returns c =
 pub multiple-spec : {M : Type 1} → statement M
 multiple-spec =
     tie.close
-    (tie.spec
-    mul-remainder
-    array-read-remainder
-    mul-remainder-2
-    element-copy-out-remainder
-    remainder-requires
-    mul-r
-    array-write-r
-    returns)
+    (tie.spec (λ c. search needs) (λ c. search needs) (λ c. search needs) (λ c. search needs) (λ c κs. search needs) (λ c. search needs)
+    (λ c. search needs) returns)

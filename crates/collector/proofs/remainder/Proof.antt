@@ -7,12 +7,6 @@ use borrow.Author.Needs.{needs}
 use Rattle.collector.proofs.remainder.Statement.{statement}
 use Rattle.collector.proofs.remainder.Tie as tie
 
-wide-requires : tie.Need-wide-requires
-wide-requires c κs = search needs
-
-wide-requires-2 : tie.Need-wide-requires-2
-wide-requires-2 c κs = search needs
-
 mul-result : tie.Need-mul-result
 mul-result c =
     let a = c .before .wide in
@@ -20,12 +14,6 @@ mul-result c =
     let l : a .result ≤ 4294967295 = omega (arith, a .ensures .1) in
     let m : b .result ≤ 4294967295 = omega (arith, b .ensures .1) in
     omega (arith, mul-le-mul l m)
-
-wide-requires-3 : tie.Need-wide-requires-3
-wide-requires-3 c κs = search needs
-
-rem-result : tie.Need-rem-result
-rem-result c = search needs
 
 cast-result : tie.Need-cast-result
 cast-result c =
@@ -38,11 +26,4 @@ returns c = ap₂ (_%_) (ap₂ (_*_) (c .before .before .wide .ensures .0) (c .b
 pub remainder-spec : {M : Type 1} → statement M
 remainder-spec =
     tie.close
-    (tie.spec
-    wide-requires
-    wide-requires-2
-    mul-result
-    wide-requires-3
-    rem-result
-    cast-result
-    returns)
+    (tie.spec (λ c κs. search needs) (λ c κs. search needs) mul-result (λ c κs. search needs) (λ c. search needs) cast-result returns)

@@ -5,9 +5,6 @@ use Rattle.commutativity.proofs.Ones.{commutative-refused, commutative-
 use Rattle.commutativity.proofs.commutative.Statement.{statement}
 use Rattle.commutativity.proofs.commutative.Tie as tie
 
-accepted-requires : tie.Need-accepted-requires
-accepted-requires c κs = refl
-
 returns : tie.Need-returns
 returns c = commutative-refused (c .before .accepted .ensures) (omega arith)
 
@@ -17,13 +14,10 @@ words-empty-requires c κs =
     let S = a .ensures .sound (omega arith) .2 in
     omega (arith, S .passed .held .count, S .passed .held .few)
 
-cast-yes : tie.Need-cast-yes
-cast-yes c = tt
-
 returns-2 : tie.Need-returns-2
 returns-2 c =
     let a = c .before .before .before .accepted in
     commutative-told (a .ensures) (omega arith) (c .words-empty .ensures)
 
 pub commutative-spec : {M : Type 1} → statement M
-commutative-spec = tie.close (tie.spec accepted-requires returns words-empty-requires cast-yes returns-2)
+commutative-spec = tie.close (tie.spec (λ c κs. refl) returns words-empty-requires (λ c. tt) returns-2)

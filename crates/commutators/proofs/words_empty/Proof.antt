@@ -33,56 +33,20 @@ scan-holds c = (refl, scanned-none)
 loop-holds : tie.Need-loop-holds Inv-loop2 μ-loop2 Inv-loop μ-loop Inv-scan μ-scan
 loop-holds c = (omega arith, omega arith, c .before .scan .inv .0, c .before .scan .inv .1)
 
-pair-requires : tie.Need-pair-requires Inv-loop2 μ-loop2 Inv-loop μ-loop Inv-scan μ-scan
-pair-requires c κs = omega arith
-
-add-k-end : tie.Need-add-k-end Inv-loop2 μ-loop2 Inv-loop μ-loop Inv-scan μ-scan
-add-k-end c = omega arith
-
 loop2-holds : tie.Need-loop2-holds Inv-loop2 μ-loop2 Inv-loop μ-loop Inv-scan μ-scan
 loop2-holds c =
     let l = c .before .before .loop in
     (l .inv .0, omega arith, omega arith, c .pair .ensures .0, c .pair .ensures .1, l .inv .2, l .inv .3)
-
-mul-if1 : tie.Need-mul-if1 Inv-loop2 μ-loop2 Inv-loop μ-loop Inv-scan μ-scan
-mul-if1 c = omega arith
-
-mul-if1-2 : tie.Need-mul-if1-2 Inv-loop2 μ-loop2 Inv-loop μ-loop Inv-scan μ-scan
-mul-if1-2 c = omega arith
-
-index-1-if1 : tie.Need-index-1-if1 Inv-loop2 μ-loop2 Inv-loop μ-loop Inv-scan μ-scan
-index-1-if1 c = omega arith
-
-index-2-if1 : tie.Need-index-2-if1 Inv-loop2 μ-loop2 Inv-loop μ-loop Inv-scan μ-scan
-index-2-if1 c = omega arith
-
-add-k : tie.Need-add-k Inv-loop2 μ-loop2 Inv-loop μ-loop Inv-scan μ-scan
-add-k c = omega arith
-
-loop2-less : tie.Need-loop2-less Inv-loop2 μ-loop2 Inv-loop μ-loop Inv-scan μ-scan
-loop2-less c = omega arith
 
 loop2-again : tie.Need-loop2-again Inv-loop2 μ-loop2 Inv-loop μ-loop Inv-scan μ-scan
 loop2-again c =
     let inv = c .before .before .before .loop2 .inv in
     (inv .0, inv .1, omega arith, inv .3, inv .4, inv .5, scanned-exponent (inv .6) (inv .3) (c .if1 .left))
 
-add-i : tie.Need-add-i Inv-loop2 μ-loop2 Inv-loop μ-loop Inv-scan μ-scan
-add-i c = omega arith
-
-loop-less : tie.Need-loop-less Inv-loop2 μ-loop2 Inv-loop μ-loop Inv-scan μ-scan
-loop-less c = omega arith
-
 loop-again : tie.Need-loop-again Inv-loop2 μ-loop2 Inv-loop μ-loop Inv-scan μ-scan
 loop-again c =
     let inv = c .before .loop2 .inv in
     (inv .0, omega arith, inv .5, scanned-word (inv .6) (omega arith))
-
-add-j : tie.Need-add-j Inv-loop2 μ-loop2 Inv-loop μ-loop Inv-scan μ-scan
-add-j c = omega arith
-
-scan-less : tie.Need-scan-less Inv-loop2 μ-loop2 Inv-loop μ-loop Inv-scan μ-scan
-scan-less c = omega arith
 
 scan-again : tie.Need-scan-again Inv-loop2 μ-loop2 Inv-loop μ-loop Inv-scan μ-scan
 scan-again c =
@@ -104,30 +68,6 @@ returns-2 c =
 pub words-empty-spec : {M : Type 1} → statement M
 words-empty-spec =
     tie.close
-    (tie.spec
-    Inv-loop2
-    μ-loop2
-    Inv-loop
-    μ-loop
-    Inv-scan
-    μ-scan
-    scan-holds
-    loop-holds
-    pair-requires
-    add-k-end
-    loop2-holds
-    mul-if1
-    mul-if1-2
-    index-1-if1
-    index-2-if1
-    add-k
-    loop2-less
-    loop2-again
-    add-i
-    loop-less
-    loop-again
-    add-j
-    scan-less
-    scan-again
-    returns
-    returns-2)
+    (tie.spec Inv-loop2 μ-loop2 Inv-loop μ-loop Inv-scan μ-scan scan-holds loop-holds (λ c κs. omega arith) (λ c. omega arith) loop2-holds
+    (λ c. omega arith) (λ c. omega arith) (λ c. omega arith) (λ c. omega arith) (λ c. omega arith) (λ c. omega arith) loop2-again (λ c. omega arith)
+    (λ c. omega arith) loop-again (λ c. omega arith) (λ c. omega arith) scan-again returns returns-2)

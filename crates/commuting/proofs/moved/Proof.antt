@@ -18,12 +18,6 @@ Inv-loop rows reach k j x first m₀ m = (k ≤ j) × (j < maxGenerators) × (m 
 abbrev μ-loop : tie.MeasureT-loop
 μ-loop rows reach k j x first m₀ m = m
 
-mul-first : tie.Need-mul-first Inv-loop μ-loop
-mul-first c = search needs
-
-element-copy-out-first : tie.Need-element-copy-out-first Inv-loop μ-loop
-element-copy-out-first c = search needs
-
 loop-holds : tie.Need-loop-holds Inv-loop μ-loop
 loop-holds c =
     let z = c .before .before in
@@ -33,30 +27,6 @@ loop-holds c =
       ⊎-elim (λ w. omega arith) (λ w. omega arith) (c .if1 .came),
       ⊎-elim (λ w. subst keeps-from (sym (w .1)) (moved-reach (search needs) (omega (arith, w .0 .taken)) (z .pre .2))) (λ w. subst keeps-from (sym (w .1)) moved-all) (c .if1 .came),
     )
-
-sub-stays : tie.Need-sub-stays Inv-loop μ-loop
-sub-stays c = search needs
-
-sub-stays-2 : tie.Need-sub-stays-2 Inv-loop μ-loop
-sub-stays-2 c = search needs
-
-mul-stays : tie.Need-mul-stays Inv-loop μ-loop
-mul-stays c = search needs
-
-element-copy-out-stays : tie.Need-element-copy-out-stays Inv-loop μ-loop
-element-copy-out-stays c = search needs
-
-stays-requires : tie.Need-stays-requires Inv-loop μ-loop
-stays-requires c κs = search needs
-
-returns : tie.Need-returns Inv-loop μ-loop
-returns c = search needs
-
-sub-m : tie.Need-sub-m Inv-loop μ-loop
-sub-m c = search needs
-
-loop-less : tie.Need-loop-less Inv-loop μ-loop
-loop-less c = search needs
 
 loop-again : tie.Need-loop-again Inv-loop μ-loop
 loop-again c =
@@ -72,19 +42,5 @@ returns-2 c =
 pub moved-spec : {M : Type 1} → statement M
 moved-spec =
     tie.close
-    (tie.spec
-    Inv-loop
-    μ-loop
-    mul-first
-    element-copy-out-first
-    loop-holds
-    sub-stays
-    sub-stays-2
-    mul-stays
-    element-copy-out-stays
-    stays-requires
-    returns
-    sub-m
-    loop-less
-    loop-again
-    returns-2)
+    (tie.spec Inv-loop μ-loop (λ c. search needs) (λ c. search needs) loop-holds (λ c. search needs) (λ c. search needs) (λ c. search needs)
+    (λ c. search needs) (λ c κs. search needs) (λ c. search needs) (λ c. search needs) (λ c. search needs) loop-again returns-2)

@@ -17,40 +17,16 @@ Inv-loop rows reach n c j₀ j = (n ≤ maxGenerators) × (c < j) × (j ≤ n) �
 abbrev μ-loop : tie.MeasureT-loop
 μ-loop rows reach n c j₀ j = n - j
 
-mul-if1 : tie.Need-mul-if1 Inv-loop μ-loop
-mul-if1 c = search needs
-
-element-copy-out-if1 : tie.Need-element-copy-out-if1 Inv-loop μ-loop
-element-copy-out-if1 c = search needs
-
 returns : tie.Need-returns Inv-loop μ-loop
 returns c = rise-none
-
-add-j : tie.Need-add-j Inv-loop μ-loop
-add-j c = search needs
 
 loop-holds : tie.Need-loop-holds Inv-loop μ-loop
 loop-holds c =
     let z = c .before .before in
     (search needs, search needs, search needs, rise-first (subst (Reach (now (z .args .rows)) (z .args .c)) (c .if1 .left) (z .pre .2)))
 
-word-requires : tie.Need-word-requires Inv-loop μ-loop
-word-requires c κs = search needs
-
-add-empty : tie.Need-add-empty Inv-loop μ-loop
-add-empty c = search needs
-
-empty-requires : tie.Need-empty-requires Inv-loop μ-loop
-empty-requires c κs = search needs
-
 returns-2 : tie.Need-returns-2 Inv-loop μ-loop
 returns-2 c = c .before .before .before .before .loop .inv .3
-
-add-j-2 : tie.Need-add-j-2 Inv-loop μ-loop
-add-j-2 c = search needs
-
-loop-less : tie.Need-loop-less Inv-loop μ-loop
-loop-less c = search needs
 
 loop-again : tie.Need-loop-again Inv-loop μ-loop
 loop-again c =
@@ -68,19 +44,5 @@ returns-3 c =
 pub risen-spec : {M : Type 1} → statement M
 risen-spec =
     tie.close
-    (tie.spec
-    Inv-loop
-    μ-loop
-    mul-if1
-    element-copy-out-if1
-    returns
-    add-j
-    loop-holds
-    word-requires
-    add-empty
-    empty-requires
-    returns-2
-    add-j-2
-    loop-less
-    loop-again
-    returns-3)
+    (tie.spec Inv-loop μ-loop (λ c. search needs) (λ c. search needs) returns (λ c. search needs) loop-holds (λ c κs. search needs)
+    (λ c. search needs) (λ c κs. search needs) returns-2 (λ c. search needs) (λ c. search needs) loop-again returns-3)

@@ -16,15 +16,6 @@ returns c =
     let z = c .before in
     stays-zero (z .args .l) (z .args .e) (getD (now (z .args .rows)) (pairNumber (z .args .j) (z .args .l)) []) (c .if1 .taken)
 
-word-requires : tie.Need-word-requires
-word-requires c κs = search needs
-
-add-empty : tie.Need-add-empty
-add-empty c = search needs
-
-empty-requires : tie.Need-empty-requires
-empty-requires c κs = search needs
-
 returns-2 : tie.Need-returns-2
 returns-2 c =
     let z = c .before .before .before in
@@ -33,4 +24,4 @@ returns-2 c =
     ∙ stays-word l (z .args .e) (getD (now (z .args .rows)) (pairNumber (z .args .j) l) []) (c .before .before .if1 .left)
 
 pub stays-spec : {M : Type 1} → statement M
-stays-spec = tie.close (tie.spec returns word-requires add-empty empty-requires returns-2)
+stays-spec = tie.close (tie.spec returns (λ c κs. search needs) (λ c. search needs) (λ c κs. search needs) returns-2)

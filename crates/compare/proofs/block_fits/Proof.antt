@@ -13,9 +13,6 @@ use Rattle.compare.proofs.Blocks.{inside-column, over, fitting-block}
 use Rattle.compare.proofs.block_fits.Statement.{statement}
 use Rattle.compare.proofs.block_fits.Tie as tie
 
-up-requires : tie.Need-up-requires
-up-requires c κs = search needs
-
 add-word-at : tie.Need-add-word-at
 add-word-at c =
     let up = c .before in
@@ -29,9 +26,6 @@ word-at-requires c κs =
     let z = up .before .before .before in
     let l = inside-column (z .pre .1) (z .args .o) (z .pre .0 .whole .some) (omega (arith, z .pre .2, z .pre .3)) in
     (omega (arith, l, up .up .ensures), omega arith)
-
-up-requires-2 : tie.Need-up-requires-2
-up-requires-2 c κs = search needs
 
 returns : tie.Need-returns
 returns c = never
@@ -114,18 +108,5 @@ returns-5 c = λ e.
 pub block-fits-spec : {M : Type 1} → statement M
 block-fits-spec =
     tie.close
-    (tie.spec
-    up-requires
-    add-word-at
-    word-at-requires
-    up-requires-2
-    returns
-    add-rep-at
-    rep-at-requires
-    returns-2
-    lower-fits-requires
-    returns-3
-    generator-fits-requires
-    returns-4
-    upper-fits-requires
-    returns-5)
+    (tie.spec (λ c κs. search needs) add-word-at word-at-requires (λ c κs. search needs) returns add-rep-at rep-at-requires returns-2
+    lower-fits-requires returns-3 generator-fits-requires returns-4 upper-fits-requires returns-5)

@@ -21,8 +21,5 @@ mul-result c =
     let z = c .before in
     omega (arith, div-mul-le-self (z .args .row) (z .args .w), z .fits, z .good)
 
-returns-2 : tie.Need-returns-2
-returns-2 c = search needs
-
 pub block-row-spec : {M : Type 1} → statement M
-block-row-spec = tie.close (tie.spec returns div-result mul-result returns-2)
+block-row-spec = tie.close (tie.spec returns div-result mul-result (λ c. search needs))

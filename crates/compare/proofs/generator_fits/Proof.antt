@@ -17,9 +17,6 @@ matrix-line-requires c κs =
     let z = c .before .before in
     omega (arith, inside-matrix (z .pre .0 .inside) (z .args .g) (z .pre .3), z .good)
 
-up-requires : tie.Need-up-requires
-up-requires c κs = search needs
-
 add-at : tie.Need-add-at
 add-at c =
     let ml = c .before in
@@ -49,9 +46,6 @@ block-row-requires c κs =
     let if1 = c .before .before .before in
     let z = if1 .before .before .before .before .before .before .before .before .before in
     (z .pre .0 .stored .positive, omega (arith, if1 .if1 .left))
-
-up-requires-2 : tie.Need-up-requires-2
-up-requires-2 c κs = search needs
 
 add-word-at : tie.Need-add-word-at
 add-word-at c =
@@ -156,21 +150,6 @@ returns-4 c = λ e.
 pub generator-fits-spec : {M : Type 1} → statement M
 generator-fits-spec =
     tie.close
-    (tie.spec
-    matrix-line-requires
-    up-requires
-    add-at
-    matrix-line-requires-2
-    entry-at-requires
-    returns
-    returns-2
-    block-row-requires
-    up-requires-2
-    add-word-at
-    word-at-requires
-    word-at-requires-2
-    returns-3
-    word-at-requires-3
-    sub-mod-requires
-    lines-shifted-requires
+    (tie.spec matrix-line-requires (λ c κs. search needs) add-at matrix-line-requires-2 entry-at-requires returns returns-2 block-row-requires
+    (λ c κs. search needs) add-word-at word-at-requires word-at-requires-2 returns-3 word-at-requires-3 sub-mod-requires lines-shifted-requires
     returns-4)

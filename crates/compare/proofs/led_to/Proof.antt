@@ -23,9 +23,6 @@ word-at-requires c κs =
     let I = z .pre .1 .inside in
     (omega (arith, inside-matrix I (z .args .j) (z .pre .2), I .positive, c .matrix-line .ensures), omega arith)
 
-up-requires : tie.Need-up-requires
-up-requires c κs = search needs
-
 returns : tie.Need-returns
 returns c = never
 
@@ -55,9 +52,6 @@ word-at-requires-2 c κs =
     let S = z .pre .0 in
     let I = found-inside (S .whole) (S .short) (high-at S (up .up .result) (omega (arith, if1 .if1 .left)) (ra .rep-at .ensures) (up .up .ensures)) in
     (omega (arith, inside-matrix I 0 (S .whole .some), I .positive), omega arith)
-
-up-requires-2 : tie.Need-up-requires-2
-up-requires-2 c κs = search needs
 
 returns-3 : tie.Need-returns-3
 returns-3 c = never
@@ -126,19 +120,5 @@ returns-5 c = λ e.
 pub led-to-spec : {M : Type 1} → statement M
 led-to-spec =
     tie.close
-    (tie.spec
-    matrix-line-requires
-    word-at-requires
-    up-requires
-    returns
-    add-rep-at
-    rep-at-requires
-    returns-2
-    word-at-requires-2
-    up-requires-2
-    returns-3
-    add-rep-at-2
-    rep-at-requires-2
-    returns-4
-    generator-fits-requires
-    returns-5)
+    (tie.spec matrix-line-requires word-at-requires (λ c κs. search needs) returns add-rep-at rep-at-requires returns-2 word-at-requires-2
+    (λ c κs. search needs) returns-3 add-rep-at-2 rep-at-requires-2 returns-4 generator-fits-requires returns-5)

@@ -8,9 +8,6 @@ use Rattle.compare.proofs.Shifted.{never, line-same}
 use Rattle.compare.proofs.line_same.Statement.{statement}
 use Rattle.compare.proofs.line_same.Tie as tie
 
-word-at-requires : tie.Need-word-at-requires
-word-at-requires c κs = search needs
-
 returns : tie.Need-returns
 returns c = never
 
@@ -37,11 +34,4 @@ returns-2 c =
     (eqb-true (at-two-at .two-at .result) (c .two-at2 .result) e)
 
 pub line-same-spec : {M : Type 1} → statement M
-line-same-spec =
-    tie.close
-    (tie.spec
-    word-at-requires
-    returns
-    two-at-requires
-    two-at-requires-2
-    returns-2)
+line-same-spec = tie.close (tie.spec (λ c κs. search needs) returns two-at-requires two-at-requires-2 returns-2)

@@ -9,17 +9,8 @@ use Rattle.compare.proofs.Shifted.{never, line-shifted}
 use Rattle.compare.proofs.line_shifted.Statement.{statement}
 use Rattle.compare.proofs.line_shifted.Tie as tie
 
-word-at-requires : tie.Need-word-at-requires
-word-at-requires c κs = search needs
-
 returns : tie.Need-returns
 returns c = never
-
-entry-at-requires : tie.Need-entry-at-requires
-entry-at-requires c κs = search needs
-
-entry-at-requires-2 : tie.Need-entry-at-requires-2
-entry-at-requires-2 c κs = search needs
 
 add-if2 : tie.Need-add-if2
 add-if2 c =
@@ -54,12 +45,4 @@ returns-3 c = λ e.
 pub line-shifted-spec : {M : Type 1} → statement M
 line-shifted-spec =
     tie.close
-    (tie.spec
-    word-at-requires
-    returns
-    entry-at-requires
-    entry-at-requires-2
-    add-if2
-    returns-2
-    add-mod-requires
-    returns-3)
+    (tie.spec (λ c κs. search needs) returns (λ c κs. search needs) (λ c κs. search needs) add-if2 returns-2 add-mod-requires returns-3)

@@ -19,9 +19,6 @@ abbrev μ-loop : tie.MeasureT-loop
 loop-holds : tie.Need-loop-holds Inv-loop μ-loop
 loop-holds c = same-none
 
-up-requires : tie.Need-up-requires Inv-loop μ-loop
-up-requires c κs = search needs
-
 add-line-same : tie.Need-add-line-same Inv-loop μ-loop
 add-line-same c =
     let z = c .before .before .before .before in
@@ -39,12 +36,6 @@ line-same-requires c κs =
 
 returns : tie.Need-returns Inv-loop μ-loop
 returns c = never
-
-add-k : tie.Need-add-k Inv-loop μ-loop
-add-k c = search needs
-
-loop-less : tie.Need-loop-less Inv-loop μ-loop
-loop-less c = omega arith
 
 loop-again : tie.Need-loop-again Inv-loop μ-loop
 loop-again c =
@@ -64,16 +55,5 @@ returns-2 c = λ e.
 pub lines-same-spec : {M : Type 1} → statement M
 lines-same-spec =
     tie.close
-    (tie.spec
-    Inv-loop
-    μ-loop
-    loop-holds
-    up-requires
-    add-line-same
-    add-line-same-2
-    line-same-requires
-    returns
-    add-k
-    loop-less
-    loop-again
-    returns-2)
+    (tie.spec Inv-loop μ-loop loop-holds (λ c κs. search needs) add-line-same add-line-same-2 line-same-requires returns (λ c. search needs)
+    (λ c. omega arith) loop-again returns-2)

@@ -19,9 +19,6 @@ abbrev μ-loop : tie.MeasureT-loop
 loop-holds : tie.Need-loop-holds Inv-loop μ-loop
 loop-holds c = shifting-none
 
-up-requires : tie.Need-up-requires Inv-loop μ-loop
-up-requires c κs = search needs
-
 add-line-shifted : tie.Need-add-line-shifted Inv-loop μ-loop
 add-line-shifted c =
     let z = c .before .before .before .before in
@@ -43,12 +40,6 @@ line-shifted-requires c κs =
 returns : tie.Need-returns Inv-loop μ-loop
 returns c = never
 
-add-c : tie.Need-add-c Inv-loop μ-loop
-add-c c = search needs
-
-loop-less : tie.Need-loop-less Inv-loop μ-loop
-loop-less c = omega arith
-
 loop-again : tie.Need-loop-again Inv-loop μ-loop
 loop-again c =
     let ls = c .before in
@@ -67,16 +58,5 @@ returns-2 c = λ e.
 pub lines-shifted-spec : {M : Type 1} → statement M
 lines-shifted-spec =
     tie.close
-    (tie.spec
-    Inv-loop
-    μ-loop
-    loop-holds
-    up-requires
-    add-line-shifted
-    add-line-shifted-2
-    line-shifted-requires
-    returns
-    add-c
-    loop-less
-    loop-again
-    returns-2)
+    (tie.spec Inv-loop μ-loop loop-holds (λ c κs. search needs) add-line-shifted add-line-shifted-2 line-shifted-requires returns (λ c. search needs)
+    (λ c. omega arith) loop-again returns-2)

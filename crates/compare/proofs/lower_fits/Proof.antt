@@ -39,9 +39,6 @@ matrix-line-requires c κs =
     let z = lo .before .before .before .before .before in
     omega (arith, inside-matrix (z .pre .0 .inside) (lo .loop .g) (omega (arith, z .pre .1)), z .good)
 
-up-requires : tie.Need-up-requires Inv-loop μ-loop
-up-requires c κs = search needs
-
 add-at : tie.Need-add-at Inv-loop μ-loop
 add-at c =
     let ml = c .before in
@@ -73,12 +70,6 @@ lines-shifted-requires c κs =
 returns-2 : tie.Need-returns-2 Inv-loop μ-loop
 returns-2 c = never
 
-add-g : tie.Need-add-g Inv-loop μ-loop
-add-g c = search needs
-
-loop-less : tie.Need-loop-less Inv-loop μ-loop
-loop-less c = omega arith
-
 loop-again : tie.Need-loop-again Inv-loop μ-loop
 loop-again c =
     let ls = c .before in
@@ -103,19 +94,5 @@ returns-3 c = λ e.
 pub lower-fits-spec : {M : Type 1} → statement M
 lower-fits-spec =
     tie.close
-    (tie.spec
-    Inv-loop
-    μ-loop
-    lines-same-requires
-    returns
-    loop-holds
-    matrix-line-requires
-    up-requires
-    add-at
-    matrix-line-requires-2
-    lines-shifted-requires
-    returns-2
-    add-g
-    loop-less
-    loop-again
-    returns-3)
+    (tie.spec Inv-loop μ-loop lines-same-requires returns loop-holds matrix-line-requires (λ c κs. search needs) add-at matrix-line-requires-2
+    lines-shifted-requires returns-2 (λ c. search needs) (λ c. omega arith) loop-again returns-3)

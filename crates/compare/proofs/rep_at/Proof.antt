@@ -7,15 +7,6 @@ use Rattle.level.specs.Stored.{listedIn}
 use Rattle.compare.proofs.rep_at.Statement.{statement}
 use Rattle.compare.proofs.rep_at.Tie as tie
 
-mul-up : tie.Need-mul-up
-mul-up c = search needs
-
-shared-slice-read-up : tie.Need-shared-slice-read-up
-shared-slice-read-up c = search needs
-
-up-requires : tie.Need-up-requires
-up-requires c κs = search needs
-
 representation-requires : tie.Need-representation-requires
 representation-requires c κs =
     let z = c .before .before .before .before in
@@ -28,4 +19,4 @@ returns c =
     c .representation .ensures ∙ ap (λ l. listedIn (now (z .args .words)) l) (up .up .ensures)
 
 pub rep-at-spec : {M : Type 1} → statement M
-rep-at-spec = tie.close (tie.spec mul-up shared-slice-read-up up-requires representation-requires returns)
+rep-at-spec = tie.close (tie.spec (λ c. search needs) (λ c. search needs) (λ c κs. search needs) representation-requires returns)

@@ -75,17 +75,5 @@ returns-4 c = λ e.
 pub rep-fits-spec : {M : Type 1} → statement M
 rep-fits-spec =
     tie.close
-    (tie.spec
-    Inv-loop
-    μ-loop
-    width-requires
-    returns
-    proper-requires
-    returns-2
-    loop-holds
-    block-fits-requires
-    returns-3
-    add-o
-    loop-less
-    loop-again
+    (tie.spec Inv-loop μ-loop width-requires returns proper-requires returns-2 loop-holds block-fits-requires returns-3 add-o loop-less loop-again
     returns-4)

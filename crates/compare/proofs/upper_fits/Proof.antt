@@ -33,12 +33,6 @@ led-to-requires c κs =
 returns : tie.Need-returns Inv-loop μ-loop
 returns c = never
 
-add-j-2 : tie.Need-add-j-2 Inv-loop μ-loop
-add-j-2 c = search needs
-
-loop-less : tie.Need-loop-less Inv-loop μ-loop
-loop-less c = omega arith
-
 loop-again : tie.Need-loop-again Inv-loop μ-loop
 loop-again c =
     let lt = c .before in
@@ -53,14 +47,4 @@ returns-2 c = λ e.
 pub upper-fits-spec : {M : Type 1} → statement M
 upper-fits-spec =
     tie.close
-    (tie.spec
-    Inv-loop
-    μ-loop
-    add-j
-    loop-holds
-    led-to-requires
-    returns
-    add-j-2
-    loop-less
-    loop-again
-    returns-2)
+    (tie.spec Inv-loop μ-loop add-j loop-holds led-to-requires returns (λ c. search needs) (λ c. omega arith) loop-again returns-2)

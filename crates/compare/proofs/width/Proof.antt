@@ -18,9 +18,6 @@ word-at-requires c κs =
     let I = z .pre .1 in
     (omega (arith, inside-matrix I 0 (z .pre .0 .whole .some), I .positive), omega arith)
 
-up-requires : tie.Need-up-requires
-up-requires c κs = search needs
-
 returns : tie.Need-returns
 returns c = λ n. absurd (n refl)
 
@@ -52,12 +49,6 @@ returns-2 c = λ n.
       split = inl (sym (c .if2 .taken));
     }
 
-up-requires-2 : tie.Need-up-requires-2
-up-requires-2 c κs = search needs
-
-up-requires-3 : tie.Need-up-requires-3
-up-requires-3 c κs = search needs
-
 mul-if3 : tie.Need-mul-if3
 mul-if3 c =
     let up2 = c .before in
@@ -71,9 +62,6 @@ mul-if3 c =
     let n : c .up3 .result ≤ 16777216 = omega (arith, c .up3 .ensures, found-inside (S .whole) (S .short) F .narrow) in
     let q : up2 .up2 .result * c .up3 .result ≤ up2 .up2 .result * 16777216 = mul-le-mul-left (up2 .up2 .result) n in
     omega (arith, q, up2 .up2 .ensures, sk .struct-known .given)
-
-up-requires-4 : tie.Need-up-requires-4
-up-requires-4 c κs = search needs
 
 returns-3 : tie.Need-returns-3
 returns-3 c = λ n. absurd (n refl)
@@ -129,19 +117,5 @@ returns-5 c = λ n.
 pub width-spec : {M : Type 1} → statement M
 width-spec =
     tie.close
-    (tie.spec
-    word-at-requires
-    up-requires
-    returns
-    add-rep-at
-    rep-at-requires
-    returns-2
-    up-requires-2
-    up-requires-3
-    mul-if3
-    up-requires-4
-    returns-3
-    matrix-line-requires
-    word-at-requires-2
-    returns-4
-    returns-5)
+    (tie.spec word-at-requires (λ c κs. search needs) returns add-rep-at rep-at-requires returns-2 (λ c κs. search needs) (λ c κs. search needs)
+    mul-if3 (λ c κs. search needs) returns-3 matrix-line-requires word-at-requires-2 returns-4 returns-5)

@@ -49,12 +49,6 @@ returns c =
     let l = c .before .before .before .before .before .before .loop in
     decides (answer-fails (search needs) (l .inv .1) (c .before .level-passes .ensures .0) (not-true _ (c .if1 .taken)))
 
-add-i : tie.Need-add-i Inv-loop μ-loop
-add-i c = search needs
-
-loop-less : tie.Need-loop-less Inv-loop μ-loop
-loop-less c = search needs
-
 loop-again : tie.Need-loop-again Inv-loop μ-loop
 loop-again c =
     let l = c .before .before .before .before .before .before .loop in
@@ -70,15 +64,5 @@ returns-2 c =
 pub consistent-spec : {M : Type 1} → statement M
 consistent-spec =
     tie.close
-    (tie.spec
-    Inv-loop
-    μ-loop
-    reaches-requires
-    rises-requires
-    loop-holds
-    level-passes-requires
-    returns
-    add-i
-    loop-less
-    loop-again
-    returns-2)
+    (tie.spec Inv-loop μ-loop reaches-requires rises-requires loop-holds level-passes-requires returns (λ c. search needs) (λ c. search needs)
+    loop-again returns-2)

@@ -6,17 +6,11 @@ use borrow.Author.Needs.{needs}
 use Rattle.consistency.proofs.fixes_power.Statement.{statement}
 use Rattle.consistency.proofs.fixes_power.Tie as tie
 
-word-requires : tie.Need-word-requires
-word-requires c κs = search needs
-
 conjugate-requires : tie.Need-conjugate-requires
 conjugate-requires c κs = let z = c .before in record { prepared = z .pre; level = omega arith; small = power-word-small (z .pre) (c .word .ensures) }
-
-same-requires : tie.Need-same-requires
-same-requires c κs = search needs
 
 returns : tie.Need-returns
 returns c = power-fixed (c .before .before .word .ensures) (c .before .conjugate .ensures) (c .same .ensures)
 
 pub fixes-power-spec : {M : Type 1} → statement M
-fixes-power-spec = tie.close (tie.spec word-requires conjugate-requires same-requires returns)
+fixes-power-spec = tie.close (tie.spec (λ c κs. search needs) conjugate-requires (λ c κs. search needs) returns)

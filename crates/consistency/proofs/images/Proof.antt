@@ -20,25 +20,10 @@ abbrev μ-loop : tie.MeasureT-loop
 loop-holds : tie.Need-loop-holds Inv-loop μ-loop
 loop-holds c = (search needs, c .pre .1, images-none)
 
-generator-requires : tie.Need-generator-requires Inv-loop μ-loop
-generator-requires c κs = search needs
-
 conjugate-requires : tie.Need-conjugate-requires Inv-loop μ-loop
 conjugate-requires c κs =
     let z = c .before .before .before in
     record { prepared = z .pre .0; level = omega arith; small = generator-small (z .pre .0) (c .generator .ensures) }
-
-mul-c : tie.Need-mul-c Inv-loop μ-loop
-mul-c c = search needs
-
-element-set-from-c : tie.Need-element-set-from-c Inv-loop μ-loop
-element-set-from-c c = search needs
-
-add-k : tie.Need-add-k Inv-loop μ-loop
-add-k c = search needs
-
-loop-less : tie.Need-loop-less Inv-loop μ-loop
-loop-less c = search needs
 
 loop-again : tie.Need-loop-again Inv-loop μ-loop
 loop-again c =
@@ -58,15 +43,5 @@ returns c =
 pub images-spec : {M : Type 1} → statement M
 images-spec =
     tie.close
-    (tie.spec
-    Inv-loop
-    μ-loop
-    loop-holds
-    generator-requires
-    conjugate-requires
-    mul-c
-    element-set-from-c
-    add-k
-    loop-less
-    loop-again
-    returns)
+    (tie.spec Inv-loop μ-loop loop-holds (λ c κs. search needs) conjugate-requires (λ c. search needs) (λ c. search needs) (λ c. search needs)
+    (λ c. search needs) loop-again returns)

@@ -5,18 +5,6 @@ use borrow.Author.Needs.{needs}
 use Rattle.consistency.proofs.is_inner_at.Statement.{statement}
 use Rattle.consistency.proofs.is_inner_at.Tie as tie
 
-word-requires : tie.Need-word-requires
-word-requires c κs = search needs
-
-generator-requires : tie.Need-generator-requires
-generator-requires c κs = search needs
-
-mul-p : tie.Need-mul-p
-mul-p c = search needs
-
-element-copy-out-p : tie.Need-element-copy-out-p
-element-copy-out-p c = search needs
-
 turned-requires : tie.Need-turned-requires
 turned-requires c κs = let z = c .before .before .before in (z .pre .0, generator-small (z .pre .0) (c .before .generator .ensures))
 
@@ -32,9 +20,6 @@ product-requires-2 c κs =
     let P = u .before .pre .0 in
     record { prepared = prepared-lower P; left = generator-small P (c .before .before .before .generator .ensures); right = power-word-small P (u .word .ensures) }
 
-same-requires : tie.Need-same-requires
-same-requires c κs = search needs
-
 returns : tie.Need-returns
 returns c =
     let t = c .before .before .before in
@@ -44,13 +29,5 @@ returns c =
 pub is-inner-at-spec : {M : Type 1} → statement M
 is-inner-at-spec =
     tie.close
-    (tie.spec
-    word-requires
-    generator-requires
-    mul-p
-    element-copy-out-p
-    turned-requires
-    product-requires
-    product-requires-2
-    same-requires
-    returns)
+    (tie.spec (λ c κs. search needs) (λ c κs. search needs) (λ c. search needs) (λ c. search needs) turned-requires product-requires
+    product-requires-2 (λ c κs. search needs) returns)

@@ -6,32 +6,11 @@ use borrow.Author.Needs.{needs}
 use Rattle.consistency.proofs.keeps_commutator.Statement.{statement}
 use Rattle.consistency.proofs.keeps_commutator.Tie as tie
 
-mul-a : tie.Need-mul-a
-mul-a c = search needs
-
-element-copy-out-a : tie.Need-element-copy-out-a
-element-copy-out-a c = search needs
-
-mul-b : tie.Need-mul-b
-mul-b c = search needs
-
-element-copy-out-b : tie.Need-element-copy-out-b
-element-copy-out-b c = search needs
-
 product-requires : tie.Need-product-requires
 product-requires c κs =
     let z = c .before .before in
     let h = z .pre .0 .images in
     record { prepared = prepared-lower (z .pre .0 .prepared); left = h .small (z .args .k) (omega (arith, z .pre .1, z .pre .2)); right = h .small (z .args .j) (z .pre .2) }
-
-word-requires : tie.Need-word-requires
-word-requires c κs = search needs
-
-add-value : tie.Need-add-value
-add-value c = search needs
-
-value-requires : tie.Need-value-requires
-value-requires c κs = search needs
 
 product-requires-2 : tie.Need-product-requires-2
 product-requires-2 c κs =
@@ -58,16 +37,5 @@ returns c =
 pub keeps-commutator-spec : {M : Type 1} → statement M
 keeps-commutator-spec =
     tie.close
-    (tie.spec
-    mul-a
-    element-copy-out-a
-    mul-b
-    element-copy-out-b
-    product-requires
-    word-requires
-    add-value
-    value-requires
-    product-requires-2
-    product-requires-3
-    same-requires
-    returns)
+    (tie.spec (λ c. search needs) (λ c. search needs) (λ c. search needs) (λ c. search needs) product-requires (λ c κs. search needs)
+    (λ c. search needs) (λ c κs. search needs) product-requires-2 product-requires-3 same-requires returns)

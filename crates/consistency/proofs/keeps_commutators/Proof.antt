@@ -19,19 +19,10 @@ abbrev μ-loop : tie.MeasureT-loop
 loop-holds : tie.Need-loop-holds Inv-loop μ-loop
 loop-holds c = (search needs, settled-none)
 
-keeps-commutators-of-requires : tie.Need-keeps-commutators-of-requires Inv-loop μ-loop
-keeps-commutators-of-requires c κs = search needs
-
 returns : tie.Need-returns Inv-loop μ-loop
 returns c =
     let l = c .before .before .before .loop in
     commutators-all (settled-fails (l .inv .1) (search needs) (c .before .keeps-commutators-of .ensures) (not-true _ (c .if1 .taken)))
-
-add-j : tie.Need-add-j Inv-loop μ-loop
-add-j c = search needs
-
-loop-less : tie.Need-loop-less Inv-loop μ-loop
-loop-less c = search needs
 
 loop-again : tie.Need-loop-again Inv-loop μ-loop
 loop-again c = (search needs, settled-more (c .before .before .before .loop .inv .1) (c .before .keeps-commutators-of .ensures) (not-false _ (c .if1 .left)))
@@ -45,13 +36,4 @@ returns-2 c =
 pub keeps-commutators-spec : {M : Type 1} → statement M
 keeps-commutators-spec =
     tie.close
-    (tie.spec
-    Inv-loop
-    μ-loop
-    loop-holds
-    keeps-commutators-of-requires
-    returns
-    add-j
-    loop-less
-    loop-again
-    returns-2)
+    (tie.spec Inv-loop μ-loop loop-holds (λ c κs. search needs) returns (λ c. search needs) (λ c. search needs) loop-again returns-2)

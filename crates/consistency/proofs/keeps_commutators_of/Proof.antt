@@ -18,19 +18,10 @@ abbrev μ-loop : tie.MeasureT-loop
 loop-holds : tie.Need-loop-holds Inv-loop μ-loop
 loop-holds c = (search needs, settled-none)
 
-keeps-pair-requires : tie.Need-keeps-pair-requires Inv-loop μ-loop
-keeps-pair-requires c κs = search needs
-
 returns : tie.Need-returns Inv-loop μ-loop
 returns c =
     let l = c .before .before .before .loop in
     settled-fails (l .inv .1) (search needs) (c .before .keeps-pair .ensures) (not-true _ (c .if1 .taken))
-
-add-k : tie.Need-add-k Inv-loop μ-loop
-add-k c = search needs
-
-loop-less : tie.Need-loop-less Inv-loop μ-loop
-loop-less c = search needs
 
 loop-again : tie.Need-loop-again Inv-loop μ-loop
 loop-again c = (search needs, settled-more (c .before .before .before .loop .inv .1) (c .before .keeps-pair .ensures) (not-false _ (c .if1 .left)))
@@ -44,13 +35,4 @@ returns-2 c =
 pub keeps-commutators-of-spec : {M : Type 1} → statement M
 keeps-commutators-of-spec =
     tie.close
-    (tie.spec
-    Inv-loop
-    μ-loop
-    loop-holds
-    keeps-pair-requires
-    returns
-    add-k
-    loop-less
-    loop-again
-    returns-2)
+    (tie.spec Inv-loop μ-loop loop-holds (λ c κs. search needs) returns (λ c. search needs) (λ c. search needs) loop-again returns-2)

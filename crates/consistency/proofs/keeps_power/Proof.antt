@@ -5,29 +5,8 @@ use borrow.Author.Needs.{needs}
 use Rattle.consistency.proofs.keeps_power.Statement.{statement}
 use Rattle.consistency.proofs.keeps_power.Tie as tie
 
-mul-g : tie.Need-mul-g
-mul-g c = search needs
-
-element-copy-out-g : tie.Need-element-copy-out-g
-element-copy-out-g c = search needs
-
-mul-p : tie.Need-mul-p
-mul-p c = search needs
-
-element-copy-out-p : tie.Need-element-copy-out-p
-element-copy-out-p c = search needs
-
 power-requires : tie.Need-power-requires
 power-requires c κs = let z = c .before .before in (prepared-lower (z .pre .0 .prepared), z .pre .0 .images .small (z .args .k) (z .pre .1))
-
-word-requires : tie.Need-word-requires
-word-requires c κs = search needs
-
-value-requires : tie.Need-value-requires
-value-requires c κs = search needs
-
-same-requires : tie.Need-same-requires
-same-requires c κs = search needs
 
 returns : tie.Need-returns
 returns c =
@@ -38,13 +17,5 @@ returns c =
 pub keeps-power-spec : {M : Type 1} → statement M
 keeps-power-spec =
     tie.close
-    (tie.spec
-    mul-g
-    element-copy-out-g
-    mul-p
-    element-copy-out-p
-    power-requires
-    word-requires
-    value-requires
-    same-requires
-    returns)
+    (tie.spec (λ c. search needs) (λ c. search needs) (λ c. search needs) (λ c. search needs) power-requires (λ c κs. search needs)
+    (λ c κs. search needs) (λ c κs. search needs) returns)

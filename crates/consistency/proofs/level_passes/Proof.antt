@@ -5,17 +5,8 @@ use borrow.Author.Needs.{needs}
 use Rattle.consistency.proofs.level_passes.Statement.{statement}
 use Rattle.consistency.proofs.level_passes.Tie as tie
 
-images-requires : tie.Need-images-requires
-images-requires c κs = search needs
-
-keeps-powers-requires : tie.Need-keeps-powers-requires
-keeps-powers-requires c κs = search needs
-
 returns : tie.Need-returns
 returns c = (level-first (c .before .keeps-powers .ensures) (not-true _ (c .if1 .taken)), c .before .before .before .images .ensures .1)
-
-keeps-commutators-requires : tie.Need-keeps-commutators-requires
-keeps-commutators-requires c κs = search needs
 
 returns-2 : tie.Need-returns-2
 returns-2 c =
@@ -23,9 +14,6 @@ returns-2 c =
       level-second (p .before .keeps-powers .ensures) (not-false _ (p .if1 .left)) (c .before .keeps-commutators .ensures) (not-true _ (c .if2 .taken)),
       c .before .before .before .before .before .before .images .ensures .1,
     )
-
-fixes-power-requires : tie.Need-fixes-power-requires
-fixes-power-requires c κs = search needs
 
 returns-3 : tie.Need-returns-3
 returns-3 c =
@@ -35,9 +23,6 @@ returns-3 c =
           (c .before .fixes-power .ensures) (not-true _ (c .if3 .taken)),
       c .before .before .before .before .before .before .before .before .images .ensures .1,
     )
-
-is-inner-requires : tie.Need-is-inner-requires
-is-inner-requires c κs = search needs
 
 returns-4 : tie.Need-returns-4
 returns-4 c =
@@ -52,13 +37,5 @@ returns-4 c =
 pub level-passes-spec : {M : Type 1} → statement M
 level-passes-spec =
     tie.close
-    (tie.spec
-    images-requires
-    keeps-powers-requires
-    returns
-    keeps-commutators-requires
-    returns-2
-    fixes-power-requires
-    returns-3
-    is-inner-requires
-    returns-4)
+    (tie.spec (λ c κs. search needs) (λ c κs. search needs) returns (λ c κs. search needs) returns-2 (λ c κs. search needs) returns-3
+    (λ c κs. search needs) returns-4)

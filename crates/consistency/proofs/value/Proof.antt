@@ -18,29 +18,11 @@ abbrev μ-loop : tie.MeasureT-loop
 loop-holds : tie.Need-loop-holds Inv-loop μ-loop
 loop-holds c = (search needs, value-none (c .pre .0 .prepared))
 
-mul-g : tie.Need-mul-g Inv-loop μ-loop
-mul-g c = search needs
-
-element-copy-out-g : tie.Need-element-copy-out-g Inv-loop μ-loop
-element-copy-out-g c = search needs
-
-mul-e : tie.Need-mul-e Inv-loop μ-loop
-mul-e c = search needs
-
-array-read-e : tie.Need-array-read-e Inv-loop μ-loop
-array-read-e c = search needs
-
 scaled-requires : tie.Need-scaled-requires Inv-loop μ-loop
 scaled-requires c κs =
     let z = c .before .before .before in
     let l = c .before .before .loop in
     record { prepared = prepared-lower (z .pre .0 .prepared); left = z .pre .0 .images .small (l .m) (omega (arith, z .pre .1)); right = l .inv .1 .small }
-
-add-m : tie.Need-add-m Inv-loop μ-loop
-add-m c = search needs
-
-loop-less : tie.Need-loop-less Inv-loop μ-loop
-loop-less c = search needs
 
 loop-again : tie.Need-loop-again Inv-loop μ-loop
 loop-again c =
@@ -58,16 +40,5 @@ returns c =
 pub value-spec : {M : Type 1} → statement M
 value-spec =
     tie.close
-    (tie.spec
-    Inv-loop
-    μ-loop
-    loop-holds
-    mul-g
-    element-copy-out-g
-    mul-e
-    array-read-e
-    scaled-requires
-    add-m
-    loop-less
-    loop-again
-    returns)
+    (tie.spec Inv-loop μ-loop loop-holds (λ c. search needs) (λ c. search needs) (λ c. search needs) (λ c. search needs) scaled-requires
+    (λ c. search needs) (λ c. search needs) loop-again returns)

@@ -7,9 +7,6 @@ use Rattle.construction.proofs.Built.{build-refused, build-sized}
 use Rattle.construction.proofs.build.Statement.{statement}
 use Rattle.construction.proofs.build.Tie as tie
 
-accepted-requires : tie.Need-accepted-requires
-accepted-requires c κs = refl
-
 returns : tie.Need-returns
 returns c = build-refused (now (c .before .before .before .before .before .args .words)) (c .before .accepted .ensures) (omega arith)
 
@@ -19,14 +16,10 @@ build-sound-requires c κs =
     let s = a .ensures .sound (omega arith) in
     (s .0, s .2)
 
-same-length : tie.Need-same-length
-same-length c = search needs
-
 returns-2 : tie.Need-returns-2
 returns-2 c =
     let a = c .before .before .before .before .before .before .accepted in
     build-sized (a .ensures) (omega arith) (c .before .before .build-sound .ensures)
 
 pub build-spec : {M : Type 1} → statement M
-build-spec =
-    tie.close (tie.spec accepted-requires returns build-sound-requires same-length returns-2)
+build-spec = tie.close (tie.spec (λ c κs. refl) returns build-sound-requires (λ c. search needs) returns-2)

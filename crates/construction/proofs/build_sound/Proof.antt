@@ -22,9 +22,6 @@ build-levels-requires c κs =
     let z = c .before .before .before .before .before .before .before in
     (_, given (z .pre .1) (c .before .before .before .measure .ensures) (length (now (z .args .words))) (omega arith))
 
-same-length : tie.Need-same-length
-same-length c = search needs
-
 returns-2 : tie.Need-returns-2
 returns-2 c =
     let m = c .before .before .before .before .before .before in
@@ -32,4 +29,4 @@ returns-2 c =
     sized-done (m .measure .ensures) (now (z .args .words)) (omega arith) (c .before .before .build-levels .ensures)
 
 pub build-sound-spec : {M : Type 1} → statement M
-build-sound-spec = tie.close (tie.spec measure-requires returns cast-build-levels build-levels-requires same-length returns-2)
+build-sound-spec = tie.close (tie.spec measure-requires returns cast-build-levels build-levels-requires (λ c. search needs) returns-2)

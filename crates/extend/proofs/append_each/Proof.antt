@@ -34,12 +34,6 @@ append-extension-requires c κs = let z = c .before .before .before .before .bef
       going-even (f .p) (8 * (f .gens * z .args .o .source .deg)) (extension-length E) G less (z .pre .1 .room),
     )
 
-add-k : tie.Need-add-k Inv-loop μ-loop
-add-k c = search needs
-
-loop-less : tie.Need-loop-less Inv-loop μ-loop
-loop-less c = search needs
-
 loop-again : tie.Need-loop-again Inv-loop μ-loop
 loop-again c = let G = c .before .before .before .before .before .loop .inv .2 in
     (search needs, search needs, going-more G (rw (G .below) at (c .before .before .append-extension .ensures)))
@@ -57,4 +51,6 @@ returns c = let z = c .before .before .before .before in
     wrote-as (l .inv .2 .wrote) (ap (λ n. blocks n (extensionWords f W (now (z .args .rows)) (z .args .o .rep))) e)
 
 pub append-each-spec : {M : Type 1} → statement M
-append-each-spec = tie.close (tie.spec Inv-loop μ-loop loop-holds append-extension-requires add-k loop-less loop-again same-length returns)
+append-each-spec =
+    tie.close
+    (tie.spec Inv-loop μ-loop loop-holds append-extension-requires (λ c. search needs) (λ c. search needs) loop-again same-length returns)

@@ -50,12 +50,6 @@ append-matrix-requires c κs = let l = c .before .before .before .loop in
       going-even (f .gens) (8 * o .source .deg) (matrix-length (L .0) (z .args .k)) G less (omega (arith, z .pre .1 .room)),
     )
 
-add-g : tie.Need-add-g Inv-loop μ-loop
-add-g c = search needs
-
-loop-less : tie.Need-loop-less Inv-loop μ-loop
-loop-less c = search needs
-
 loop-again : tie.Need-loop-again Inv-loop μ-loop
 loop-again c = let turn = c .before .before .before .before in
     let l = turn .before .before .loop in
@@ -86,5 +80,5 @@ returns c = let l = c .before .loop in
 pub append-extension-spec : {M : Type 1} → statement M
 append-extension-spec =
     tie.close
-    (tie.spec
-    Inv-loop μ-loop append-low-requires add-above loop-holds reference-requires append-matrix-requires add-g loop-less loop-again same-length returns)
+    (tie.spec Inv-loop μ-loop append-low-requires add-above loop-holds reference-requires append-matrix-requires (λ c. search needs)
+    (λ c. search needs) loop-again same-length returns)

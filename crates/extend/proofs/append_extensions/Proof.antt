@@ -24,9 +24,6 @@ slice-reshare-prefix-find-targets c = let z = c .before .before .before in omega
 slice-aggregate-find-targets : tie.Need-slice-aggregate-find-targets
 slice-aggregate-find-targets c = let z = c .before .before .before .before in sym (length-take-le _ (now (z .args .words)) (space-low (z .pre .1)))
 
-slice-aggregate-find-targets-2 : tie.Need-slice-aggregate-find-targets-2
-slice-aggregate-find-targets-2 c = search needs
-
 find-targets-requires : tie.Need-find-targets-requires
 find-targets-requires c κs = let z = c .before .before .before .before .before in
     (z .pre .0 .0, z .pre .0 .1, z .pre .0 .2, omega (arith, z .pre .0 .0 .sound .stands .gens))
@@ -43,9 +40,6 @@ find-origin-requires : tie.Need-find-origin-requires
 find-origin-requires c κs = let z = c .before .before .before .before .before .before .before .before in
     ((now (z .args .rows), z .pre .0 .0), z .pre .0 .1)
 
-slice-aggregate-append-each : tie.Need-slice-aggregate-append-each
-slice-aggregate-append-each c = search needs
-
 append-each-requires : tie.Need-append-each-requires
 append-each-requires c κs = let found = c .before .before .before .before .before in
     let z = found .before .before .before .before .before .before in
@@ -55,9 +49,6 @@ append-each-requires c κs = let found = c .before .before .before .before .befo
       origin-extends (z .pre .0 .0) (z .pre .0 .1) (z .pre .0 .2) R e,
       subst (λ (o : Origin). Space (f .end) (z .args .at) (f .p * (8 * (f .gens * o .source .deg))) (now (z .args .words))) (sym e) (z .pre .1),
     )
-
-same-length : tie.Need-same-length
-same-length c = search needs
 
 returns : tie.Need-returns
 returns c = let found = c .before .before .before .before .before .before .before .before in
@@ -70,7 +61,6 @@ returns c = let found = c .before .before .before .before .before .before .befor
 pub append-extensions-spec : {M : Type 1} → statement M
 append-extensions-spec =
     tie.close
-    (tie.spec
-    mul-n slice-reshare-prefix-find-targets slice-aggregate-find-targets slice-aggregate-find-targets-2 find-targets-requires
-    slice-reshare-prefix-find-origin slice-aggregate-find-origin find-origin-requires slice-aggregate-append-each append-each-requires same-length
+    (tie.spec mul-n slice-reshare-prefix-find-targets slice-aggregate-find-targets (λ c. search needs) find-targets-requires
+    slice-reshare-prefix-find-origin slice-aggregate-find-origin find-origin-requires (λ c. search needs) append-each-requires (λ c. search needs)
     returns)

@@ -33,12 +33,6 @@ append-matrix-requires c κs = let l = c .before .before .loop in
     let A = copy-asked (a .f) _ (a .o) (a .k) (z .pre .0 .0) (l .inv .2) (omega arith) (z .pre .1) in
     ((A .0, z .pre .0 .1, omega (arith, z .pre .0 .0 .located .stands .gens), λ e. omega (arith, e)), A .1)
 
-add-g : tie.Need-add-g Inv-loop μ-loop
-add-g c = search needs
-
-loop-less : tie.Need-loop-less Inv-loop μ-loop
-loop-less c = search needs
-
 loop-again : tie.Need-loop-again Inv-loop μ-loop
 loop-again c = let G = c .before .before .before .before .before .loop .inv .2 in
     (search needs, search needs, going-more G (rw (G .below) at (c .before .before .append-matrix .ensures)))
@@ -67,4 +61,5 @@ returns c = let t = c .before .before .before .before .before in
 pub append-low-spec : {M : Type 1} → statement M
 append-low-spec =
     tie.close
-    (tie.spec Inv-loop μ-loop loop-holds append-matrix-requires add-g loop-less loop-again append-top-requires same-length returns)
+    (tie.spec Inv-loop μ-loop loop-holds append-matrix-requires (λ c. search needs) (λ c. search needs) loop-again append-top-requires same-length
+    returns)

@@ -12,9 +12,6 @@ use borrow.Author.Needs.{needs}
 use Rattle.extend.proofs.append_matrix.Statement.{statement}
 use Rattle.extend.proofs.append_matrix.Tie as tie
 
-head-requires : tie.Need-head-requires
-head-requires c κs = search needs
-
 matrix-line-requires : tie.Need-matrix-line-requires
 matrix-line-requires c κs = let z = c .before .before .before in
     located-line (z .pre .0 .0 .located) (z .args .g) (omega (arith, z .pre .0 .2))
@@ -27,9 +24,6 @@ append-copy-requires c κs = let z = c .before .before .before .before in
       subst (λ d. Space (a .f .end) (a .at) (8 * d) (now (a .words))) (sym deg) (z .pre .1),
     )
 
-same-length : tie.Need-same-length
-same-length c = search needs
-
 returns : tie.Need-returns
 returns c = let z = c .before .before .before .before .before .before .before in
     let a = z .args in
@@ -38,4 +32,4 @@ returns c = let z = c .before .before .before .before .before .before .before in
     wrote-as (c .before .before .append-copy .ensures) (same-lines (z .pre .0 .0) (a .k) (a .g) (a .x) (z .pre .0 .2) (z .pre .0 .3) head src)
 
 pub append-matrix-spec : {M : Type 1} → statement M
-append-matrix-spec = tie.close (tie.spec head-requires matrix-line-requires append-copy-requires same-length returns)
+append-matrix-spec = tie.close (tie.spec (λ c κs. search needs) matrix-line-requires append-copy-requires (λ c. search needs) returns)

@@ -9,9 +9,6 @@ use borrow.Author.Needs.{needs}
 use Rattle.extend.proofs.append_top.Statement.{statement}
 use Rattle.extend.proofs.append_top.Tie as tie
 
-head-requires : tie.Need-head-requires
-head-requires c κs = search needs
-
 mul-c : tie.Need-mul-c
 mul-c c = let z = c .before .before .before in
     let C = z .pre .0 .0 in
@@ -33,9 +30,6 @@ append-block-requires c κs = let z = c .before .before .before .before .before 
     let below = C .factor-below (z .args .k) (z .pre .0 .1) in
     (piece-copied C (z .args .f .top) (omega (arith, C .located .stands .gens)) (c .before .matrix-line .ensures) below, z .pre .1)
 
-same-length : tie.Need-same-length
-same-length c = search needs
-
 returns : tie.Need-returns
 returns c = let z = c .before .before .before .before .before .before .before .before .before in
     let a = z .args in
@@ -45,4 +39,4 @@ returns c = let z = c .before .before .before .before .before .before .before .b
     (piece-lines (a .f) (lowOf (a .f) (now (a .words))) (a .o) (a .k) (a .f .top) (a .o .rep) head src (factor-top (a .f) (a .o) (a .k)))
 
 pub append-top-spec : {M : Type 1} → statement M
-append-top-spec = tie.close (tie.spec head-requires mul-c add-c matrix-line-requires append-block-requires same-length returns)
+append-top-spec = tie.close (tie.spec (λ c κs. search needs) mul-c add-c matrix-line-requires append-block-requires (λ c. search needs) returns)

@@ -5,27 +5,9 @@ use borrow.Author.Needs.{needs}
 use Rattle.extend.proofs.power.Statement.{statement}
 use Rattle.extend.proofs.power.Tie as tie
 
-up-requires : tie.Need-up-requires
-up-requires c κs = search needs
-
-up-requires-2 : tie.Need-up-requires-2
-up-requires-2 c κs = search needs
-
 pair-requires : tie.Need-pair-requires
 pair-requires c κs = let z = c .before .before in
     omega (arith, c .before .up .ensures, c .up2 .ensures, z .pre .0 .1 .stands .gens, z .pre .1, z .pre .2)
-
-mul-result : tie.Need-mul-result
-mul-result c = search needs
-
-mul-result-2 : tie.Need-mul-result-2
-mul-result-2 c = search needs
-
-index-1-result : tie.Need-index-1-result
-index-1-result c = search needs
-
-index-2-result : tie.Need-index-2-result
-index-2-result c = search needs
 
 add-result : tie.Need-add-result
 add-result c = let z = c .before .before .before .before in
@@ -40,4 +22,7 @@ returns c = let z = c .before .before .before .before in
     power-known (z .pre .0 .1) (z .args .g) (z .pre .1) (z .pre .2) at (c .before .before .up2 .ensures) (c .before .before .before .up .ensures)
 
 pub power-spec : {M : Type 1} → statement M
-power-spec = tie.close (tie.spec up-requires up-requires-2 pair-requires mul-result mul-result-2 index-1-result index-2-result add-result returns)
+power-spec =
+    tie.close
+    (tie.spec (λ c κs. search needs) (λ c κs. search needs) pair-requires (λ c. search needs) (λ c. search needs) (λ c. search needs)
+    (λ c. search needs) add-result returns)

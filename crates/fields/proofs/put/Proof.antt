@@ -18,11 +18,8 @@ mul-a-2 c = omega (arith, row-inside _ _ _ _ (c .pre))
 slice-write-a : tie.Need-slice-write-a
 slice-write-a c = omega (arith, row-inside _ _ _ _ (c .pre))
 
-same-length : tie.Need-same-length
-same-length c = search needs
-
 returns : tie.Need-returns
 returns c = let a = c .args in put-field (a .s) (a .k) (a .r) (a .x) (now (a .a)) (c .pre)
 
 pub put-spec : {M : Type 1} → statement M
-put-spec = tie.close (tie.spec mul-a add-a mul-a-2 slice-write-a same-length returns)
+put-spec = tie.close (tie.spec mul-a add-a mul-a-2 slice-write-a (λ c. search needs) returns)

@@ -22,26 +22,11 @@ abbrev μ-loop : tie.MeasureT-loop
 loop-holds : tie.Need-loop-holds Inv-loop μ-loop
 loop-holds c = (search needs, going-none (omega arith) (omega arith))
 
-reference-requires : tie.Need-reference-requires Inv-loop μ-loop
-reference-requires c κs = search needs
-
-exponent-requires : tie.Need-exponent-requires Inv-loop μ-loop
-exponent-requires c κs = search needs
-
-add-t14 : tie.Need-add-t14 Inv-loop μ-loop
-add-t14 c = search needs
-
 put-line-requires : tie.Need-put-line-requires Inv-loop μ-loop
 put-line-requires c κs = let t = c .before .before .before .before in
     let z = t .before .before in
     let long = rootLine-length (z .args .n) (z .args .p) (z .args .m) (now (z .args .rows)) (z .args .k) in
     going-line (z .args .n) long (t .loop .inv .1) (search needs) (z .pre .5)
-
-add-g : tie.Need-add-g Inv-loop μ-loop
-add-g c = search needs
-
-loop-less : tie.Need-loop-less Inv-loop μ-loop
-loop-less c = search needs
 
 loop-again : tie.Need-loop-again Inv-loop μ-loop
 unfolding headLine
@@ -64,5 +49,5 @@ returns c = let z = c .before .before .before in
 pub append-root-spec : {M : Type 1} → statement M
 append-root-spec =
     tie.close
-    (tie.spec
-    Inv-loop μ-loop loop-holds reference-requires exponent-requires add-t14 put-line-requires add-g loop-less loop-again same-length returns)
+    (tie.spec Inv-loop μ-loop loop-holds (λ c κs. search needs) (λ c κs. search needs) (λ c. search needs) put-line-requires (λ c. search needs)
+    (λ c. search needs) loop-again same-length returns)

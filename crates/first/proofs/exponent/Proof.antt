@@ -11,9 +11,6 @@ use Rattle.first.proofs.exponent.Statement.{statement}
 use Rattle.first.proofs.exponent.Tie as tie
 use Rattle.definitions.specs.Presentation.{maxModulus}
 
-div-result : tie.Need-div-result
-div-result c = search needs
-
 mul-result : tie.Need-mul-result
 mul-result c = let z = c .before in
     let q : z .args .m / z .args .p ≤ maxModulus = omega (arith, div-le-self (z .args .m) (z .args .p), z .pre .1) in
@@ -28,4 +25,4 @@ unfolding rootExp
 returns-2 c = sym (cond-ne (c .before .args .g) 0 _ 0 (c .if1 .left))
 
 pub exponent-spec : {M : Type 1} → statement M
-exponent-spec = tie.close (tie.spec div-result mul-result returns returns-2)
+exponent-spec = tie.close (tie.spec (λ c. search needs) mul-result returns returns-2)

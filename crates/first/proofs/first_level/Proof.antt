@@ -28,12 +28,6 @@ append-root-requires c κs = let z = c .before .before .before .before in
     let less-than : l .k < a .p = search needs in
     (z .pre .0, z .pre .1, z .pre .2, less-than, z .pre .3, root-room (a .n) (a .p) (a .m) (now (a .rows)) (l .inv .1) less-than (z .pre .4))
 
-add-k : tie.Need-add-k Inv-loop μ-loop
-add-k c = search needs
-
-loop-less : tie.Need-loop-less Inv-loop μ-loop
-loop-less c = search needs
-
 loop-again : tie.Need-loop-again Inv-loop μ-loop
 loop-again c = let l = c .before .before .before .before .before .loop in
     (search needs, going-more (l .inv .1) (c .before .before .append-root .ensures))
@@ -49,4 +43,6 @@ returns c = let z = c .before .before .before in
     wrote-as (l .inv .1 .wrote) (ap (λ k. blocks k (rootWords (z .args .n) (z .args .p) (z .args .m) (now (z .args .rows)))) e)
 
 pub first-level-spec : {M : Type 1} → statement M
-first-level-spec = tie.close (tie.spec Inv-loop μ-loop loop-holds append-root-requires add-k loop-less loop-again same-length returns)
+first-level-spec =
+    tie.close
+    (tie.spec Inv-loop μ-loop loop-holds append-root-requires (λ c. search needs) (λ c. search needs) loop-again same-length returns)

@@ -16,15 +16,6 @@ returns : tie.Need-returns
 unfolding rootRef
 returns c = sym (cond-eq (c .before .args .g) 0 0 _ (c .if1 .taken))
 
-up-requires : tie.Need-up-requires
-up-requires c κs = search needs
-
-word-requires : tie.Need-word-requires
-word-requires c κs = search needs
-
-array-read-result : tie.Need-array-read-result
-array-read-result c = search needs
-
 add-result : tie.Need-add-result
 add-result c = let z = c .before .before .before in
     let v = word-read (now (z .args .rows)) (c .word .result) _ (z .args .g) (c .word .ensures) (c .before .up .ensures) in
@@ -37,9 +28,6 @@ mul-result c = let z = c .before .before .before in
     let h = z .pre .4 .below (z .args .g) (omega (arith, c .before .before .if1 .left)) (z .pre .1) in
     omega (arith, product-fits (z .args .k) (getD (c .word .result) 0 0 + 1) (omega (arith, z .pre .2, z .pre .3)) (omega (arith, v, h, z .pre .2)))
 
-rem-result : tie.Need-rem-result
-rem-result c = search needs
-
 returns-2 : tie.Need-returns-2
 unfolding rootRef
 returns-2 c = let z = c .before .before .before in
@@ -49,4 +37,4 @@ returns-2 c = let z = c .before .before .before in
 pub reference-spec : {M : Type 1} → statement M
 reference-spec =
     tie.close
-    (tie.spec returns up-requires word-requires array-read-result add-result mul-result rem-result returns-2)
+    (tie.spec returns (λ c κs. search needs) (λ c κs. search needs) (λ c. search needs) add-result mul-result (λ c. search needs) returns-2)

@@ -31,9 +31,6 @@ append-block-requires c κs = let z = c .before .before .before .before .before 
       z .pre .2,
     )
 
-same-length : tie.Need-same-length
-same-length c = search needs
-
 returns : tie.Need-returns
 returns c = let z = c .before .before .before .before .before .before .before .before in
     let a = z .args in
@@ -64,14 +61,11 @@ append-block-requires-2 c κs = let z = c .before .before .before .before .befor
       z .pre .2,
     )
 
-same-length-2 : tie.Need-same-length-2
-same-length-2 c = search needs
-
 returns-2 : tie.Need-returns-2
 returns-2 c = c .before .before .append-block2 .ensures
 
 pub append-cell-spec : {M : Type 1} → statement M
 append-cell-spec =
     tie.close
-    (tie.spec
-    add-t11 mul-t12 add-t13 append-block-requires same-length returns mul-t11 mul-t12-2 append-block-requires-2 same-length-2 returns-2)
+    (tie.spec add-t11 mul-t12 add-t13 append-block-requires (λ c. search needs) returns mul-t11 mul-t12-2 append-block-requires-2 (λ c. search needs)
+    returns-2)

@@ -52,12 +52,6 @@ append-cell-requires c κs = let z = c .before .before .before .before .before .
     let space = going-even (f .p) (8 * i .deg) (λ b. cell-length f W i (z .args .g) (cell b)) G less-than (z .pre .1 .room) in
     (c .before .find-cell .ensures .1, z .pre .0 .writing .inside, space)
 
-add-b : tie.Need-add-b Inv-loop μ-loop
-add-b c = search needs
-
-loop-less : tie.Need-loop-less Inv-loop μ-loop
-loop-less c = search needs
-
 loop-again : tie.Need-loop-again Inv-loop μ-loop
 unfolding cellsIn
 loop-again c = let G = c .before .before .before .before .before .before .before .loop .inv .2 in
@@ -78,6 +72,5 @@ returns c = let z = c .before .before .before .before .before .before in
 pub append-cells-spec : {M : Type 1} → statement M
 append-cells-spec =
     tie.close
-    (tie.spec
-    Inv-loop μ-loop mul-n loop-holds slice-reshare-prefix-find-cell slice-aggregate-find-cell find-cell-requires append-cell-requires add-b loop-less
-    loop-again same-length returns)
+    (tie.spec Inv-loop μ-loop mul-n loop-holds slice-reshare-prefix-find-cell slice-aggregate-find-cell find-cell-requires append-cell-requires
+    (λ c. search needs) (λ c. search needs) loop-again same-length returns)

@@ -16,12 +16,6 @@ append-below-requires : tie.Need-append-below-requires
 append-below-requires c κs = let z = c .before .before .before .before .before .before .before in
     (record { listing = record { rows = now (z .args .rows); known = z .pre .0 .0 }; degree = z .pre .1 .0; inside = z .pre .0 .1 }, z .pre .1 .1)
 
-same-length : tie.Need-same-length
-same-length c = search needs
-
-same-length-2 : tie.Need-same-length-2
-same-length-2 c = search needs
-
 returns : tie.Need-returns
 returns c = let s = c .before .before in
     let z = s .before .before .before .before .before .before .before .before in
@@ -70,12 +64,6 @@ append-cells-requires c κs = let s = c .before .before .before .before .before 
       z .pre .1 .1,
     )
 
-same-length-3 : tie.Need-same-length-3
-same-length-3 c = search needs
-
-same-length-4 : tie.Need-same-length-4
-same-length-4 c = search needs
-
 returns-2 : tie.Need-returns-2
 returns-2 c = let t = c .before .before .before .before .before .before .before in
     let s = t .before .before .before in
@@ -89,7 +77,6 @@ returns-2 c = let t = c .before .before .before .before .before .before .before 
 pub append-generator-spec : {M : Type 1} → statement M
 append-generator-spec =
     tie.close
-    (tie.spec
-    append-below-requires same-length same-length-2 returns mul-n slice-reshare-prefix-induced-target slice-aggregate-induced-target
-    induced-target-requires slice-reshare-prefix-find-scalars slice-aggregate-find-scalars find-scalars-requires append-cells-requires same-length-3
-    same-length-4 returns-2)
+    (tie.spec append-below-requires (λ c. search needs) (λ c. search needs) returns mul-n slice-reshare-prefix-induced-target
+    slice-aggregate-induced-target induced-target-requires slice-reshare-prefix-find-scalars slice-aggregate-find-scalars find-scalars-requires
+    append-cells-requires (λ c. search needs) (λ c. search needs) returns-2)

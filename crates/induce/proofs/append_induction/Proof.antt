@@ -64,12 +64,6 @@ append-generator-requires c κs = let s = c .before .before .before in
     let space = going-even (f .gens) _ (λ g. induced-length f W (now (z .args .rows)) i g degree) G less-than room in
     rw (G .below) ((l .inv .3, less-than), (degree, space))
 
-add-g : tie.Need-add-g Inv-loop μ-loop
-add-g c = search needs
-
-loop-less : tie.Need-loop-less Inv-loop μ-loop
-loop-less c = search needs
-
 loop-again : tie.Need-loop-again Inv-loop μ-loop
 loop-again c = let l = c .before .before .before .before .before .before .before .before .loop in
     let G = l .inv .4 in
@@ -78,9 +72,6 @@ loop-again c = let l = c .before .before .before .before .before .before .before
 
 same-length : tie.Need-same-length Inv-loop μ-loop
 same-length c = c .before .loop .inv .4 .len
-
-same-length-2 : tie.Need-same-length-2 Inv-loop μ-loop
-same-length-2 c = search needs
 
 returns : tie.Need-returns Inv-loop μ-loop
 returns c = let s = c .before in
@@ -98,6 +89,5 @@ returns c = let s = c .before in
 pub append-induction-spec : {M : Type 1} → statement M
 append-induction-spec =
     tie.close
-    (tie.spec
-    Inv-loop μ-loop mul-n slice-reshare-prefix-find-induction slice-aggregate-find-induction find-induction-requires loop-holds
-    append-generator-requires add-g loop-less loop-again same-length same-length-2 returns)
+    (tie.spec Inv-loop μ-loop mul-n slice-reshare-prefix-find-induction slice-aggregate-find-induction find-induction-requires loop-holds
+    append-generator-requires (λ c. search needs) (λ c. search needs) loop-again same-length (λ c. search needs) returns)

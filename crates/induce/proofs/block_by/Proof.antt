@@ -44,6 +44,4 @@ returns-3 c = let z = c .before .before .before .before .before .before .before 
     (e ∙ last (omega (arith, c .before .if2 .left)), subst (λ x. x < a .f .m) (sym e) (I .surveyed .shifts-are .below _ (I .leads .listed)))
 
 pub block-by-spec : {M : Type 1} → statement M
-block-by-spec =
-    tie.close
-    (tie.spec block-requires returns add-if2 note-requires returns-2 returns-3)
+block-by-spec = tie.close (tie.spec block-requires returns add-if2 note-requires returns-2 returns-3)

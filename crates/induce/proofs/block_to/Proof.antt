@@ -14,12 +14,6 @@ use borrow.Author.Needs.{needs}
 use Rattle.induce.proofs.block_to.Statement.{statement}
 use Rattle.induce.proofs.block_to.Tie as tie
 
-add-if2 : tie.Need-add-if2
-add-if2 c = search needs
-
-add-result : tie.Need-add-result
-add-result c = search needs
-
 returns : tie.Need-returns
 returns c = let z = c .before .before .before .before .before .before in
     let h : suc (z .args .b) < z .args .f .p = omega (arith, c .if2 .taken) in
@@ -65,6 +59,4 @@ returns-3 c = let z = c .before .before .before .before .before .before in
     )
 
 pub block-to-spec : {M : Type 1} → statement M
-block-to-spec =
-    tie.close
-    (tie.spec add-if2 add-result returns returns-2 word-at-requires note-requires returns-3)
+block-to-spec = tie.close (tie.spec (λ c. search needs) (λ c. search needs) returns returns-2 word-at-requires note-requires returns-3)

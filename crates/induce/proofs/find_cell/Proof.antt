@@ -21,9 +21,6 @@ block-to-requires c κs = let z = c .before .before .before .before in
 block-by-requires : tie.Need-block-by-requires
 block-by-requires c κs = let z = c .before .before .before .before .before in ((now (z .args .low), z .pre .0), z .pre .1)
 
-block-reference-requires : tie.Need-block-reference-requires
-block-reference-requires c κs = search needs
-
 returns : tie.Need-returns
 returns c = let z = c .before .before .before .before .before .before .before in
     let e = c .before .before .before .find-still .ensures .0 in
@@ -37,4 +34,4 @@ returns c = let z = c .before .before .before .before .before .before .before in
     )
 
 pub find-cell-spec : {M : Type 1} → statement M
-find-cell-spec = tie.close (tie.spec find-still-requires block-to-requires block-by-requires block-reference-requires returns)
+find-cell-spec = tie.close (tie.spec find-still-requires block-to-requires block-by-requires (λ c κs. search needs) returns)

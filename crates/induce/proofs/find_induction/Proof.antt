@@ -19,9 +19,6 @@ note-requires : tie.Need-note-requires
 note-requires c κs = let z = c .before .before .before .before .before .before .before .before in
     record { fields = omega arith; rows = omega (arith, z .pre .1, z .pre .0 .1 .numbers-are .long) }
 
-same-length : tie.Need-same-length
-same-length c = search needs
-
 returns : tie.Need-returns
 returns c = let z = c .before .before .before .before .before .before .before .before .before in
     let n = c .note .ensures in
@@ -29,4 +26,4 @@ returns c = let z = c .before .before .before .before .before .before .before .b
     ((λ o. record { leader = z .args .r; number = n o; deg = d o }), c .before .before .before .before .list-orbit .ensures)
 
 pub find-induction-spec : {M : Type 1} → statement M
-find-induction-spec = tie.close (tie.spec list-orbit-requires listed-requires note-requires same-length returns)
+find-induction-spec = tie.close (tie.spec list-orbit-requires listed-requires note-requires (λ c. search needs) returns)

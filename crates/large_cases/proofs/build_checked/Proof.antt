@@ -8,32 +8,13 @@ use Rattle.large_cases.proofs.build_checked.Tie as tie
 slice-aggregate-build : tie.Need-slice-aggregate-build
 slice-aggregate-build c = sym (length-replicate {0} {A = ℕ} 3669792 7)
 
-build-requires : tie.Need-build-requires
-build-requires c κs = tt
-
 slice-aggregate-mix-words : tie.Need-slice-aggregate-mix-words
 slice-aggregate-mix-words c = sym (c .before .before .build .kept .1 .0 ∙ length-replicate {0} {A = ℕ} 3669792 7)
-
-mix-words-requires : tie.Need-mix-words-requires
-mix-words-requires c κs = tt
 
 slice-aggregate-check-first-lines : tie.Need-slice-aggregate-check-first-lines
 slice-aggregate-check-first-lines c = sym (c .before .before .before .before .build .kept .1 .0 ∙ length-replicate {0} {A = ℕ} 3669792 7)
 
-check-first-lines-requires : tie.Need-check-first-lines-requires
-check-first-lines-requires c κs = tt
-
-returns : tie.Need-returns
-returns c = tt
-
 pub build-checked-spec : {M : Type 1} → statement M
 build-checked-spec =
     tie.close
-    (tie.spec
-    slice-aggregate-build
-    build-requires
-    slice-aggregate-mix-words
-    mix-words-requires
-    slice-aggregate-check-first-lines
-    check-first-lines-requires
-    returns)
+    (tie.spec slice-aggregate-build (λ c κs. tt) slice-aggregate-mix-words (λ c κs. tt) slice-aggregate-check-first-lines (λ c κs. tt) (λ c. tt))

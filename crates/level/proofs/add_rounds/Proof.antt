@@ -8,12 +8,6 @@ use borrow.Author.Needs.{needs}
 use Rattle.level.proofs.add_rounds.Statement.{statement}
 use Rattle.level.proofs.add_rounds.Tie as tie
 
-up-requires : tie.Need-up-requires
-up-requires c κs = search needs
-
-up-requires-2 : tie.Need-up-requires-2
-up-requires-2 c κs = search needs
-
 mul-result : tie.Need-mul-result
 mul-result c = let z = c .before .before in
     let e : z .args .k * c .up2 .result ≡ z .args .k * z .args .b = ap (λ b. z .args .k * b) (c .up2 .ensures) in
@@ -23,12 +17,6 @@ add-result : tie.Need-add-result
 add-result c = let z = c .before .before in
     let e : z .args .k * c .up2 .result ≡ z .args .k * z .args .b = ap (λ b. z .args .k * b) (c .up2 .ensures) in
     omega (arith, e, c .before .up .ensures, times-fit (z .args .a) (z .args .k) (z .args .b) (z .args .m) (z .pre .0) (z .pre .1) (z .pre .2) (z .pre .3))
-
-up-requires-3 : tie.Need-up-requires-3
-up-requires-3 c κs = search needs
-
-rem-result : tie.Need-rem-result
-rem-result c = search needs
 
 cast-result : tie.Need-cast-result
 cast-result c = let z = c .before .before .before in
@@ -44,4 +32,6 @@ returns c = let z = c .before .before .before in
     ((λ o. (a o + z .args .k * b o) % m o), omega (arith, m, z .pre, mod-lt sum {m = c .up3 .result} (omega (arith, m, z .pre))))
 
 pub add-rounds-spec : {M : Type 1} → statement M
-add-rounds-spec = tie.close (tie.spec up-requires up-requires-2 mul-result add-result up-requires-3 rem-result cast-result returns)
+add-rounds-spec =
+    tie.close
+    (tie.spec (λ c κs. search needs) (λ c κs. search needs) mul-result add-result (λ c κs. search needs) (λ c. search needs) cast-result returns)

@@ -4,18 +4,6 @@ use borrow.Author.Needs.{needs}
 use Rattle.level.proofs.after_laps.Statement.{statement}
 use Rattle.level.proofs.after_laps.Tie as tie
 
-rounds-of-requires : tie.Need-rounds-of-requires
-rounds-of-requires c κs = search needs
-
-gain-requires : tie.Need-gain-requires
-gain-requires c κs = search needs
-
-add-rounds-requires : tie.Need-add-rounds-requires
-add-rounds-requires c κs = search needs
-
-steps-requires : tie.Need-steps-requires
-steps-requires c κs = search needs
-
 returns : tie.Need-returns
 returns c = let g = c .before .before in
     let z = g .before .before .before in
@@ -24,4 +12,4 @@ returns c = let g = c .before .before in
     (laps-power (z .pre .0) (z .pre .1 .0) (z .pre .1 .1) (g .before .rounds-of .ensures) (g .gain .ensures .0) t (S .0), S .1)
 
 pub after-laps-spec : {M : Type 1} → statement M
-after-laps-spec = tie.close (tie.spec rounds-of-requires gain-requires add-rounds-requires steps-requires returns)
+after-laps-spec = tie.close (tie.spec (λ c κs. search needs) (λ c κs. search needs) (λ c κs. search needs) (λ c κs. search needs) returns)

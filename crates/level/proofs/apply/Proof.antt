@@ -9,12 +9,6 @@ use borrow.Author.Needs.{needs}
 use Rattle.level.proofs.apply.Statement.{statement}
 use Rattle.level.proofs.apply.Tie as tie
 
-column-requires : tie.Need-column-requires
-column-requires c κs = search needs
-
-add-mod-requires : tie.Need-add-mod-requires
-add-mod-requires c κs = search needs
-
 returns : tie.Need-returns
 returns c = let z = c .before .before .before in
     let x = z .args .x in
@@ -24,4 +18,4 @@ returns c = let z = c .before .before .before in
     (ap₂ entry (ap (λ (y : Entry). y .row) e) s ∙ sym (act-in m (now (z .args .words)) (z .args .at) (z .args .d) x (z .pre .1 .row)), search needs)
 
 pub apply-spec : {M : Type 1} → statement M
-apply-spec = tie.close (tie.spec column-requires add-mod-requires returns)
+apply-spec = tie.close (tie.spec (λ c κs. search needs) (λ c κs. search needs) returns)

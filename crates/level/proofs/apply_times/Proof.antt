@@ -6,18 +6,12 @@ use borrow.Author.Needs.{needs}
 use Rattle.level.proofs.apply_times.Statement.{statement}
 use Rattle.level.proofs.apply_times.Tie as tie
 
-apply-requires : tie.Need-apply-requires
-apply-requires c κs = search needs
-
 returns : tie.Need-returns
 returns c = (turns-one _ (c .before .if1 .taken) (c .apply .ensures .0), c .apply .ensures .1)
-
-power-of-requires : tie.Need-power-of-requires
-power-of-requires c κs = search needs
 
 returns-2 : tie.Need-returns-2
 returns-2 c = let z = c .before .before .before in
     (c .power-of .ensures .0 ∙ power-turns (z .pre .0) (z .pre .1) (z .args .k), c .power-of .ensures .1)
 
 pub apply-times-spec : {M : Type 1} → statement M
-apply-times-spec = tie.close (tie.spec apply-requires returns power-of-requires returns-2)
+apply-times-spec = tie.close (tie.spec (λ c κs. search needs) returns (λ c κs. search needs) returns-2)

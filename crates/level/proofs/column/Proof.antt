@@ -7,19 +7,10 @@ use borrow.Author.Needs.{needs}
 use Rattle.level.proofs.column.Statement.{statement}
 use Rattle.level.proofs.column.Tie as tie
 
-up-requires : tie.Need-up-requires
-up-requires c κs = search needs
-
-add-entry-at : tie.Need-add-entry-at
-add-entry-at c = search needs
-
-entry-at-requires : tie.Need-entry-at-requires
-entry-at-requires c κs = search needs
-
 returns : tie.Need-returns
 returns c = let z = c .before .before .before in
     let e = c .entry-at .ensures ∙ ap (λ k. entryIn (now (z .args .words)) (z .args .at + k)) (c .before .up .ensures) in
     (e, subst (Below (z .args .m) (z .args .d)) (sym e) (z .pre .0 .valid (z .args .k) (z .pre .1)))
 
 pub column-spec : {M : Type 1} → statement M
-column-spec = tie.close (tie.spec up-requires add-entry-at entry-at-requires returns)
+column-spec = tie.close (tie.spec (λ c κs. search needs) (λ c. search needs) (λ c κs. search needs) returns)

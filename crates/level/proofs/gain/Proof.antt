@@ -6,19 +6,13 @@ use borrow.Author.Needs.{needs}
 use Rattle.level.proofs.gain.Statement.{statement}
 use Rattle.level.proofs.gain.Tie as tie
 
-sub-mod-requires : tie.Need-sub-mod-requires
-sub-mod-requires c κs = search needs
-
 returns : tie.Need-returns
 returns c = let z = c .before .before in
     (c .sub-mod .ensures .0 ∙ sym (ap (λ (t : Bool). gained (z .args .m) t (z .args .a) (z .args .b)) (c .before .if1 .taken)), c .sub-mod .ensures .1)
-
-sub-mod-requires-2 : tie.Need-sub-mod-requires-2
-sub-mod-requires-2 c κs = search needs
 
 returns-2 : tie.Need-returns-2
 returns-2 c = let z = c .before .before in
     (c .sub-mod2 .ensures .0 ∙ sym (ap (λ (t : Bool). gained (z .args .m) t (z .args .a) (z .args .b)) (c .before .if1 .left)), c .sub-mod2 .ensures .1)
 
 pub gain-spec : {M : Type 1} → statement M
-gain-spec = tie.close (tie.spec sub-mod-requires returns sub-mod-requires-2 returns-2)
+gain-spec = tie.close (tie.spec (λ c κs. search needs) returns (λ c κs. search needs) returns-2)

@@ -45,6 +45,4 @@ returns-2 : tie.Need-returns-2 Inv-loop μ-loop
 returns-2 c = record { lapping = c .before .before .before .loop .inv; ends = λ h. c .if1 .left }
 
 pub lap-from-spec : {M : Type 1} → statement M
-lap-from-spec =
-    tie.close
-    (tie.spec Inv-loop μ-loop apply-requires loop-holds apply-requires-2 add-turns loop-less loop-again returns returns-2)
+lap-from-spec = tie.close (tie.spec Inv-loop μ-loop apply-requires loop-holds apply-requires-2 add-turns loop-less loop-again returns returns-2)

@@ -6,12 +6,6 @@ use borrow.Author.Needs.{needs}
 use Rattle.level.proofs.matrix_line.Statement.{statement}
 use Rattle.level.proofs.matrix_line.Tie as tie
 
-up-requires : tie.Need-up-requires
-up-requires c κs = search needs
-
-up-requires-2 : tie.Need-up-requires-2
-up-requires-2 c κs = search needs
-
 mul-result : tie.Need-mul-result
 mul-result c = let z = c .before .before in
     let e : c .before .up .result * c .up2 .result ≡ z .args .g * z .args .d .deg = ap₂ (λ a b. a * b) (c .before .up .ensures) (c .up2 .ensures) in
@@ -30,4 +24,4 @@ returns c = let up′ = c .before .before .up in
     omega (arith, e, z .pre)
 
 pub matrix-line-spec : {M : Type 1} → statement M
-matrix-line-spec = tie.close (tie.spec up-requires up-requires-2 mul-result add-result returns)
+matrix-line-spec = tie.close (tie.spec (λ c κs. search needs) (λ c κs. search needs) mul-result add-result returns)

@@ -11,12 +11,6 @@ use borrow.Author.Needs.{needs}
 use Rattle.level.proofs.power_entry.Statement.{statement}
 use Rattle.level.proofs.power_entry.Tie as tie
 
-signed-of-requires : tie.Need-signed-of-requires
-signed-of-requires c κs = search needs
-
-power-of-requires : tie.Need-power-of-requires
-power-of-requires c κs = search needs
-
 returns : tie.Need-returns
 returns c = let z = c .before .before .before in
     let M = matrixIn (now (z .args .words)) (z .args .at) (z .args .d) in
@@ -25,4 +19,4 @@ returns c = let z = c .before .before .before in
     (c .power-of .ensures .0 ∙ ap power (sym is), c .power-of .ensures .1)
 
 pub power-entry-spec : {M : Type 1} → statement M
-power-entry-spec = tie.close (tie.spec signed-of-requires power-of-requires returns)
+power-entry-spec = tie.close (tie.spec (λ c κs. search needs) (λ c κs. search needs) returns)

@@ -11,22 +11,13 @@ use borrow.Author.Needs.{needs}
 use Rattle.level.proofs.power_of.Statement.{statement}
 use Rattle.level.proofs.power_of.Tie as tie
 
-lap-from-requires : tie.Need-lap-from-requires
-lap-from-requires c κs = search needs
-
 after-laps-requires : tie.Need-after-laps-requires
 after-laps-requires c κs = let z = c .before .before .before in
     (z .pre .0, (z .pre .1, closed-late (z .pre .0) (z .pre .1) (c .lap-from .ensures)))
 
-returns : tie.Need-returns
-returns c = search needs
-
 returns-2 : tie.Need-returns-2
 returns-2 c = let z = c .before .before .before .before in
     (turns-power (z .pre .0) (z .pre .1) (z .args .k) (c .before .before .if1 .left) (turns-none _ (c .if2 .taken)), z .pre .1)
-
-lap-from-requires-2 : tie.Need-lap-from-requires-2
-lap-from-requires-2 c κs = search needs
 
 returns-3 : tie.Need-returns-3
 returns-3 c = let w = c .before .before .before .before in
@@ -42,9 +33,8 @@ after-laps-requires-2 c κs = let w = c .before .before .before in
     let L = w .lap-from2 .ensures in
     (z .pre .0, (z .pre .1, closed-early (z .pre .0) (z .pre .1) L (omega (arith, L .lapping .at-most, c .if3 .left))))
 
-returns-4 : tie.Need-returns-4
-returns-4 c = search needs
-
 pub power-of-spec : {M : Type 1} → statement M
 power-of-spec =
-    tie.close (tie.spec lap-from-requires after-laps-requires returns returns-2 lap-from-requires-2 returns-3 after-laps-requires-2 returns-4)
+    tie.close
+    (tie.spec (λ c κs. search needs) after-laps-requires (λ c. search needs) returns-2 (λ c κs. search needs) returns-3 after-laps-requires-2
+    (λ c. search needs))

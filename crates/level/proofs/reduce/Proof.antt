@@ -5,12 +5,6 @@ use Rattle.level.proofs.Columns.{Reduced, reduced}
 use Rattle.level.proofs.reduce.Statement.{statement}
 use Rattle.level.proofs.reduce.Tie as tie
 
-sub-over : tie.Need-sub-over
-sub-over c = search needs
-
-add-over : tie.Need-add-over
-add-over c = search needs
-
 -- what the law says of the number
 left : (c : tie.Start) → Reduced (c .args .s) (c .args .m)
 left c = reduced (c .args .s) (c .args .m) (c .pre .1) (c .pre .0)
@@ -25,4 +19,4 @@ returns : tie.Need-returns
 returns c = let s = left c in (s .1, omega (arith, s .1, s .2))
 
 pub reduce-spec : {M : Type 1} → statement M
-reduce-spec = tie.close (tie.spec sub-over add-over mul-result sub-result returns)
+reduce-spec = tie.close (tie.spec (λ c. search needs) (λ c. search needs) mul-result sub-result returns)

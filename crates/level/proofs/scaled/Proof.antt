@@ -9,9 +9,6 @@ use borrow.Author.Needs.{needs}
 use Rattle.level.proofs.scaled.Statement.{statement}
 use Rattle.level.proofs.scaled.Tie as tie
 
-moved-requires : tie.Need-moved-requires
-moved-requires c κs = search needs
-
 add-mod-requires : tie.Need-add-mod-requires
 add-mod-requires c κs = let z = c .before .before in (c .moved .ensures .1 .exp, z .pre .2, z .pre .0 .holds (z .args .g) (le-refl _) .small)
 
@@ -24,4 +21,4 @@ returns c = let z = c .before .before .before in
     )
 
 pub scaled-spec : {M : Type 1} → statement M
-scaled-spec = tie.close (tie.spec moved-requires add-mod-requires returns)
+scaled-spec = tie.close (tie.spec (λ c κs. search needs) add-mod-requires returns)

@@ -87,12 +87,6 @@ loop-holds c = (search needs, omega arith, sym (iter-zero _ _), c .before .befor
 scaled-requires-2 : tie.Need-scaled-requires-2 Inv-loop μ-loop
 scaled-requires-2 c κs = let z = c .before .before .before .before .before .before .before .before .before in (z .pre .0, c .before .loop .inv .3, z .pre .2)
 
-add-i : tie.Need-add-i Inv-loop μ-loop
-add-i c = search needs
-
-loop-less : tie.Need-loop-less Inv-loop μ-loop
-loop-less c = search needs
-
 loop-again : tie.Need-loop-again Inv-loop μ-loop
 loop-again c = let t = c .before .before in
     let l = t .loop in
@@ -111,6 +105,5 @@ returns-4 c = let s = c .before .before .before .before .before .before in
 pub scaled-times-spec : {M : Type 1} → statement M
 scaled-times-spec =
     tie.close
-    (tie.spec
-    Inv-loop μ-loop returns scaled-requires returns-2 matrix-line-requires column-requires add-mod-requires add-times-requires returns-3 loop-holds
-    scaled-requires-2 add-i loop-less loop-again returns-4)
+    (tie.spec Inv-loop μ-loop returns scaled-requires returns-2 matrix-line-requires column-requires add-mod-requires add-times-requires returns-3
+    loop-holds scaled-requires-2 (λ c. search needs) (λ c. search needs) loop-again returns-4)

@@ -31,23 +31,11 @@ add-single-times c = let z = c .before .before .before in
     let f : 8 * (z .args .at + l .k * 1 + 1) ≤ length (now (z .args .words)) = z .pre .1 (l .k) (search needs) .fits in
     omega (arith, f, z .good)
 
-mul-single-times : tie.Need-mul-single-times Inv-loop μ-loop
-mul-single-times c = search needs
-
-element-copy-out-single-times : tie.Need-element-copy-out-single-times Inv-loop μ-loop
-element-copy-out-single-times c = search needs
-
 single-times-requires : tie.Need-single-times-requires Inv-loop μ-loop
 single-times-requires c κs = let z = c .before .before .before .before in
     let l = c .before .before .loop in
     let i : z .args .at + l .k * 1 ≡ z .args .at + l .k = omega arith in
     (subst (λ g. Holds (z .args .m) (now (z .args .words)) g 1) i (z .pre .1 (l .k) (search needs)), l .inv .2)
-
-add-k : tie.Need-add-k Inv-loop μ-loop
-add-k c = search needs
-
-loop-less : tie.Need-loop-less Inv-loop μ-loop
-loop-less c = search needs
 
 loop-again : tie.Need-loop-again Inv-loop μ-loop
 loop-again c = let z = c .before .before .before .before .before in
@@ -66,6 +54,5 @@ returns c = let e : c .before .loop .k ≡ c .before .before .before .args .n = 
 pub single-word-spec : {M : Type 1} → statement M
 single-word-spec =
     tie.close
-    (tie.spec
-    Inv-loop μ-loop loop-holds add-single-times mul-single-times element-copy-out-single-times single-times-requires add-k loop-less loop-again
-    returns)
+    (tie.spec Inv-loop μ-loop loop-holds add-single-times (λ c. search needs) (λ c. search needs) single-times-requires (λ c. search needs)
+    (λ c. search needs) loop-again returns)

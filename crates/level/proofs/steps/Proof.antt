@@ -24,12 +24,6 @@ loop-holds c = (search needs, sym (iter-zero _ _), c .before .pre .1)
 apply-requires : tie.Need-apply-requires Inv-loop μ-loop
 apply-requires c κs = (c .before .before .before .pre .0, c .before .loop .inv .2)
 
-add-i : tie.Need-add-i Inv-loop μ-loop
-add-i c = search needs
-
-loop-less : tie.Need-loop-less Inv-loop μ-loop
-loop-less c = search needs
-
 loop-again : tie.Need-loop-again Inv-loop μ-loop
 loop-again c = let z = c .before .before .before .before in
     let l = c .before .before .loop in
@@ -40,4 +34,4 @@ returns : tie.Need-returns Inv-loop μ-loop
 returns c = let e : c .before .loop .i ≡ c .before .before .before .args .k = omega arith in (rw e at (c .before .loop .inv .1), c .before .loop .inv .2)
 
 pub steps-spec : {M : Type 1} → statement M
-steps-spec = tie.close (tie.spec Inv-loop μ-loop loop-holds apply-requires add-i loop-less loop-again returns)
+steps-spec = tie.close (tie.spec Inv-loop μ-loop loop-holds apply-requires (λ c. search needs) (λ c. search needs) loop-again returns)

@@ -33,30 +33,15 @@ loop-holds c = let z = c .before in
     let F : ℕ → Matrix = λ j. matrixIn (now (z .args .words)) (z .args .at + j * z .args .d) (z .args .d) in
     (search needs, omega arith, sym (walk-zero (z .args .m) F (now (z .args .w)) (z .args .x)), z .pre .1)
 
-mul-e : tie.Need-mul-e Inv-loop μ-loop
-mul-e c = search needs
-
-element-copy-out-e : tie.Need-element-copy-out-e Inv-loop μ-loop
-element-copy-out-e c = search needs
-
 apply-times-requires : tie.Need-apply-times-requires Inv-loop μ-loop
 apply-times-requires c κs = let l = c .before .before .before .loop in
     (rw (l .inv .1) (c .before .before .before .before .before .pre .0 .1 (l .k) (search needs)), l .inv .3)
-
-up-requires : tie.Need-up-requires Inv-loop μ-loop
-up-requires c κs = search needs
 
 add-g : tie.Need-add-g Inv-loop μ-loop
 add-g c = let l = c .before .before .before .before .loop in
     let z = c .before .before .before .before .before .before in
     let f : 8 * (z .args .at + l .k * z .args .d + z .args .d) ≤ length (now (z .args .words)) = z .pre .0 .1 (l .k) (search needs) .fits in
     omega (arith, c .up .ensures, l .inv .1, z .good)
-
-add-k : tie.Need-add-k Inv-loop μ-loop
-add-k c = search needs
-
-loop-less : tie.Need-loop-less Inv-loop μ-loop
-loop-less c = search needs
 
 loop-again : tie.Need-loop-again Inv-loop μ-loop
 loop-again c = let l = c .before .before .before .before .loop in
@@ -83,4 +68,5 @@ returns c = let e : c .before .loop .k ≡ c .before .before .before .args .n = 
 pub walk-word-spec : {M : Type 1} → statement M
 walk-word-spec =
     tie.close
-    (tie.spec Inv-loop μ-loop loop-holds mul-e element-copy-out-e apply-times-requires up-requires add-g add-k loop-less loop-again returns)
+    (tie.spec Inv-loop μ-loop loop-holds (λ c. search needs) (λ c. search needs) apply-times-requires (λ c κs. search needs) add-g
+    (λ c. search needs) (λ c. search needs) loop-again returns)

@@ -32,8 +32,5 @@ returns c = let z = c .before .before .before .before in
 walk-word-requires : tie.Need-walk-word-requires
 walk-word-requires c κs = let z = c .before .before .before in ((z .pre .0, z .pre .1 .holds), z .pre .2)
 
-returns-2 : tie.Need-returns-2
-returns-2 c = search needs
-
 pub walked-spec : {M : Type 1} → statement M
-walked-spec = tie.close (tie.spec single-word-requires returns walk-word-requires returns-2)
+walked-spec = tie.close (tie.spec single-word-requires returns walk-word-requires (λ c. search needs))

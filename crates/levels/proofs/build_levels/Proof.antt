@@ -12,13 +12,10 @@ levels-to-requires c κs =
     let (A, G) = z .pre in
     ((A, G), omega (arith, A .positive, G .n-is), le-refl _)
 
-same-length : tie.Need-same-length
-same-length c = search needs
-
 returns : tie.Need-returns
 returns c =
     let b = c .before .before in
     λ A G. stage-last G (b .levels-to .ensures A G)
 
 pub build-levels-spec : {M : Type 1} → statement M
-build-levels-spec = tie.close (tie.spec levels-to-requires same-length returns)
+build-levels-spec = tie.close (tie.spec levels-to-requires (λ c. search needs) returns)

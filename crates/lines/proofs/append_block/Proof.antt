@@ -26,14 +26,8 @@ abbrev μ-loop : tie.MeasureT-loop
 append-line-requires : tie.Need-append-line-requires Inv-loop μ-loop
 append-line-requires c κs = let z = c .before .before .before in (z .pre .0, z .pre .1, c .before .if1 .taken)
 
-same-length : tie.Need-same-length Inv-loop μ-loop
-same-length c = search needs
-
 returns : tie.Need-returns Inv-loop μ-loop
 returns c = c .before .before .append-line .ensures
-
-mul-n : tie.Need-mul-n Inv-loop μ-loop
-mul-n c = search needs
 
 loop-holds : tie.Need-loop-holds Inv-loop μ-loop
 loop-holds c = (search needs, search needs, space-none (c .before .before .pre .1))
@@ -47,20 +41,11 @@ slice-aggregate-block-entry c = let l = c .before .before .loop in sym (length-t
 block-entry-requires : tie.Need-block-entry-requires Inv-loop μ-loop
 block-entry-requires c κs = (rw (c .before .before .loop .inv .2 .below) (c .before .before .before .before .before .pre .0), search needs)
 
-add-put-line : tie.Need-add-put-line Inv-loop μ-loop
-add-put-line c = search needs
-
 put-line-requires : tie.Need-put-line-requires Inv-loop μ-loop
 unfolding turn
 put-line-requires c κs = let z = c .before .before .before .before .before .before .before .before in
     let g = c .before .before .before .before .before .loop .inv .2 in
     going-line (z .args .b .deg) (λ k. headLine-eight _ _ _) g (search needs) (z .pre .1 .room)
-
-add-k : tie.Need-add-k Inv-loop μ-loop
-add-k c = search needs
-
-loop-less : tie.Need-loop-less Inv-loop μ-loop
-loop-less c = search needs
 
 loop-again : tie.Need-loop-again Inv-loop μ-loop
 unfolding turn
@@ -81,6 +66,6 @@ returns-2 c = let z = c .before .before .before .before in
 pub append-block-spec : {M : Type 1} → statement M
 append-block-spec =
     tie.close
-    (tie.spec
-    Inv-loop μ-loop append-line-requires same-length returns mul-n loop-holds slice-reshare-prefix-block-entry slice-aggregate-block-entry
-    block-entry-requires add-put-line put-line-requires add-k loop-less loop-again same-length-2 returns-2)
+    (tie.spec Inv-loop μ-loop append-line-requires (λ c. search needs) returns (λ c. search needs) loop-holds slice-reshare-prefix-block-entry
+    slice-aggregate-block-entry block-entry-requires (λ c. search needs) put-line-requires (λ c. search needs) (λ c. search needs) loop-again
+    same-length-2 returns-2)

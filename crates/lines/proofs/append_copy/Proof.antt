@@ -25,24 +25,12 @@ Inv-loop words₀ low at h src deg n pos₀ k₀ words pos k = (k ≤ deg) × (d
 abbrev μ-loop : tie.MeasureT-loop
 μ-loop words₀ low at h src deg n pos₀ k₀ words pos k = deg - k
 
-mul-n : tie.Need-mul-n Inv-loop μ-loop
-mul-n c = search needs
-
-slice-reshare-prefix-entry-at : tie.Need-slice-reshare-prefix-entry-at Inv-loop μ-loop
-slice-reshare-prefix-entry-at c = search needs
-
 slice-aggregate-entry-at : tie.Need-slice-aggregate-entry-at Inv-loop μ-loop
 slice-aggregate-entry-at c = let z = c .before .before .before in sym (length-take-le _ (now (z .args .words)) (space-low (z .pre .1)))
 
 entry-at-requires : tie.Need-entry-at-requires Inv-loop μ-loop
 entry-at-requires c κs = let z = c .before .before .before in
     omega (arith, length-take-le (8 * z .args .low) (now (z .args .words)) (space-low (z .pre .1)), z .pre .0, c .before .if1 .taken)
-
-put-line-requires : tie.Need-put-line-requires Inv-loop μ-loop
-put-line-requires c κs = search needs
-
-same-length : tie.Need-same-length Inv-loop μ-loop
-same-length c = search needs
 
 returns : tie.Need-returns Inv-loop μ-loop
 returns c = let z = c .before .before .before .before .before .before .before .before in
@@ -60,12 +48,6 @@ slice-reshare-prefix-entry-at-2 c = omega (arith, going-low (c .before .loop .in
 slice-aggregate-entry-at-2 : tie.Need-slice-aggregate-entry-at-2 Inv-loop μ-loop
 slice-aggregate-entry-at-2 c = let l = c .before .before .loop in sym (length-take-le _ (l .words) (going-low (l .inv .2)))
 
-up-requires : tie.Need-up-requires Inv-loop μ-loop
-up-requires c κs = search needs
-
-add-entry-at : tie.Need-add-entry-at Inv-loop μ-loop
-add-entry-at c = search needs
-
 entry-at-requires-2 : tie.Need-entry-at-requires-2 Inv-loop μ-loop
 entry-at-requires-2 c κs = let l = c .before .before .before .loop in
     let z = c .before .before .before .before .before .before in
@@ -76,12 +58,6 @@ unfolding turn
 put-line-requires-2 c κs = let z = c .before .before .before .before .before .before .before .before in
     let g = c .before .before .before .before .before .loop .inv .2 in
     going-line (z .args .h .deg) (λ k. headLine-eight _ _ _) g (search needs) (z .pre .1 .room)
-
-add-k : tie.Need-add-k Inv-loop μ-loop
-add-k c = search needs
-
-loop-less : tie.Need-loop-less Inv-loop μ-loop
-loop-less c = search needs
 
 loop-again : tie.Need-loop-again Inv-loop μ-loop
 unfolding turn
@@ -103,7 +79,6 @@ returns-2 c = let z = c .before .before .before .before in
 pub append-copy-spec : {M : Type 1} → statement M
 append-copy-spec =
     tie.close
-    (tie.spec
-    Inv-loop μ-loop mul-n slice-reshare-prefix-entry-at slice-aggregate-entry-at entry-at-requires put-line-requires same-length returns loop-holds
-    slice-reshare-prefix-entry-at-2 slice-aggregate-entry-at-2 up-requires add-entry-at entry-at-requires-2 put-line-requires-2 add-k loop-less
-    loop-again same-length-2 returns-2)
+    (tie.spec Inv-loop μ-loop (λ c. search needs) (λ c. search needs) slice-aggregate-entry-at entry-at-requires (λ c κs. search needs)
+    (λ c. search needs) returns loop-holds slice-reshare-prefix-entry-at-2 slice-aggregate-entry-at-2 (λ c κs. search needs) (λ c. search needs)
+    entry-at-requires-2 put-line-requires-2 (λ c. search needs) (λ c. search needs) loop-again same-length-2 returns-2)

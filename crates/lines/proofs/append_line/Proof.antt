@@ -11,28 +11,13 @@ use borrow.Author.Needs.{needs}
 use Rattle.lines.proofs.append_line.Statement.{statement}
 use Rattle.lines.proofs.append_line.Tie as tie
 
-mul-n : tie.Need-mul-n
-mul-n c = search needs
-
-slice-reshare-prefix-word-at : tie.Need-slice-reshare-prefix-word-at
-slice-reshare-prefix-word-at c = search needs
-
 slice-aggregate-word-at : tie.Need-slice-aggregate-word-at
 slice-aggregate-word-at c = let z = c .before .before in sym (length-take-le _ (now (z .args .words)) (space-low (z .pre .1)))
-
-word-at-requires : tie.Need-word-at-requires
-word-at-requires c κs = search needs
 
 add-mod-requires : tie.Need-add-mod-requires
 add-mod-requires c κs = let z = c .before .before .before in
     let C = z .pre .0 in
     (subst (λ x. x < z .args .m) (sym (c .word-at .ensures)) (single-below C (z .pre .2)), C .by-below, C .holds .small)
-
-put-line-requires : tie.Need-put-line-requires
-put-line-requires c κs = search needs
-
-same-length : tie.Need-same-length
-same-length c = search needs
 
 returns : tie.Need-returns
 returns c = let z = c .before .before .before .before .before .before .before .before in
@@ -45,5 +30,5 @@ returns c = let z = c .before .before .before .before .before .before .before .b
 pub append-line-spec : {M : Type 1} → statement M
 append-line-spec =
     tie.close
-    (tie.spec
-    mul-n slice-reshare-prefix-word-at slice-aggregate-word-at word-at-requires add-mod-requires put-line-requires same-length returns)
+    (tie.spec (λ c. search needs) (λ c. search needs) slice-aggregate-word-at (λ c κs. search needs) add-mod-requires (λ c κs. search needs)
+    (λ c. search needs) returns)

@@ -7,15 +7,6 @@ use borrow.Author.Needs.{needs}
 use Rattle.lines.proofs.block_entry.Statement.{statement}
 use Rattle.lines.proofs.block_entry.Tie as tie
 
-column-requires : tie.Need-column-requires
-column-requires c κs = search needs
-
-add-t6 : tie.Need-add-t6
-add-t6 c = search needs
-
-add-mod-requires : tie.Need-add-mod-requires
-add-mod-requires c κs = search needs
-
 returns : tie.Need-returns
 returns c = let z = c .before .before .before .before .before in
     let b = z .args .b in
@@ -23,4 +14,4 @@ returns c = let z = c .before .before .before .before .before in
     ap₂ entry (ap (λ (x : Entry). b .row + x .row) e) (c .add-mod .ensures .0 ∙ ap (λ (x : Entry). (x .exp + b .by) % z .args .m) e)
 
 pub block-entry-spec : {M : Type 1} → statement M
-block-entry-spec = tie.close (tie.spec column-requires add-t6 add-mod-requires returns)
+block-entry-spec = tie.close (tie.spec (λ c κs. search needs) (λ c. search needs) (λ c κs. search needs) returns)

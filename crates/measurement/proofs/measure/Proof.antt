@@ -6,9 +6,6 @@ use Rattle.measurement.proofs.Measured.{measure-refused, measure-sized}
 use Rattle.measurement.proofs.measure.Statement.{statement}
 use Rattle.measurement.proofs.measure.Tie as tie
 
-accepted-requires : tie.Need-accepted-requires
-accepted-requires c κs = refl
-
 returns : tie.Need-returns
 returns c = measure-refused (c .before .accepted .ensures) (omega arith)
 
@@ -24,4 +21,4 @@ returns-2 c =
     measure-sized (a .ensures) (omega arith) (c .measure .ensures)
 
 pub measure-spec : {M : Type 1} → statement M
-measure-spec = tie.close (tie.spec accepted-requires returns measure-requires returns-2)
+measure-spec = tie.close (tie.spec (λ c κs. refl) returns measure-requires returns-2)

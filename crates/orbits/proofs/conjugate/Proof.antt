@@ -20,21 +20,12 @@ use Rattle.orbits.proofs.conjugate.Tie as tie
 of-block-requires : tie.Need-of-block-requires
 of-block-requires c κs = let z = c .before .before .before in (z .pre .0, z .pre .1)
 
-up-requires : tie.Need-up-requires
-up-requires c κs = search needs
-
 walked-requires : tie.Need-walked-requires
 walked-requires c κs = let z = c .before .before .before .before .before in
     let D = c .before .of-block .ensures in
     let gens = listing-stands (z .pre .0) .gens in
     let e = c .up .ensures in
     (omega (arith, e, gens), located-stored D (c .up .result) (omega (arith, e, gens)), located-column D)
-
-mul-k : tie.Need-mul-k
-mul-k c = search needs
-
-element-copy-out-k : tie.Need-element-copy-out-k
-element-copy-out-k c = search needs
 
 add-cycle-times : tie.Need-add-cycle-times
 add-cycle-times c = let z = c .before .before .before .before .before .before .before in
@@ -62,4 +53,7 @@ returns c = let z = c .before .before .before .before .before .before .before .b
     subst (λ y. EntryIs f W (z .args .r) y (c .cycle-times .result)) e (c .cycle-times .ensures)
 
 pub conjugate-spec : {M : Type 1} → statement M
-conjugate-spec = tie.close (tie.spec of-block-requires up-requires walked-requires mul-k element-copy-out-k add-cycle-times cycle-times-requires returns)
+conjugate-spec =
+    tie.close
+    (tie.spec of-block-requires (λ c κs. search needs) walked-requires (λ c. search needs) (λ c. search needs) add-cycle-times cycle-times-requires
+    returns)

@@ -23,12 +23,6 @@ moved-requires c κs = let z = c .before .before .before .before in
     let below = subst (λ d. Below (f .m) d (z .args .s .x)) (sym d) (z .pre .2 .entry-below) in
     (located-stored D (suc (f .top)) (listing-stands (z .pre .0) .gens .0), below)
 
-add-if1 : tie.Need-add-if1
-add-if1 c = search needs
-
-add-t13 : tie.Need-add-t13
-add-t13 c = search needs
-
 returns : tie.Need-returns
 returns c = let z = c .before .before .before .before .before .before .before in
     let f = z .args .f in
@@ -69,4 +63,4 @@ returns-2 c = let z = c .before .before .before .before .before .before .before 
     }
 
 pub cycle-spec : {M : Type 1} → statement M
-cycle-spec = tie.close (tie.spec of-block-requires moved-requires add-if1 add-t13 returns add-mod-requires returns-2)
+cycle-spec = tie.close (tie.spec of-block-requires moved-requires (λ c. search needs) (λ c. search needs) returns add-mod-requires returns-2)

@@ -25,12 +25,6 @@ loop-holds c = let z = c .before .before .before in
 cycle-requires : tie.Need-cycle-requires Inv-loop μ-loop
 cycle-requires c κs = let z = c .before .before .before .before .before in (z .pre .0, z .pre .1, c .before .loop .inv .1 .lies)
 
-add-i : tie.Need-add-i Inv-loop μ-loop
-add-i c = search needs
-
-loop-less : tie.Need-loop-less Inv-loop μ-loop
-loop-less c = search needs
-
 loop-again : tie.Need-loop-again Inv-loop μ-loop
 loop-again c = let z = c .before .before .before .before .before .before in
     let l = c .before .before .loop in
@@ -46,6 +40,4 @@ returns c = let z = c .before .before .before .before .before in
     subst (λ n. EntryIs (z .args .f) (now (z .args .low)) (z .args .r) (iter step n (movedOf (z .args .s))) (l .t)) e (l .inv .1)
 
 pub cycle-times-spec : {M : Type 1} → statement M
-cycle-times-spec =
-    tie.close
-    (tie.spec Inv-loop μ-loop loop-holds cycle-requires add-i loop-less loop-again returns)
+cycle-times-spec = tie.close (tie.spec Inv-loop μ-loop loop-holds cycle-requires (λ c. search needs) (λ c. search needs) loop-again returns)

@@ -55,12 +55,6 @@ target-requires c κs = let s = c .before .before .before .before .before .befor
     let z = s .before .before .before .before .before in
     (z .args .f .m, located-stored (c .member .ensures) (suc (z .args .f .top)) (z .pre .0 .gens .0))
 
-add-k : tie.Need-add-k Inv-loop μ-loop
-add-k c = search needs
-
-loop-less : tie.Need-loop-less Inv-loop μ-loop
-loop-less c = search needs
-
 loop-again : tie.Need-loop-again Inv-loop μ-loop
 loop-again c = let s = c .before .before .before .before .before .before .before in
     let z = s .before .before .before .before .before in
@@ -95,5 +89,5 @@ returns c = let z = c .before .before .before .before .before .before in
 pub list-orbit-spec : {M : Type 1} → statement M
 list-orbit-spec =
     tie.close
-    (tie.spec
-    Inv-loop μ-loop listed-requires loop-holds put-block-requires member-requires target-requires add-k loop-less loop-again same-length returns)
+    (tie.spec Inv-loop μ-loop listed-requires loop-holds put-block-requires member-requires target-requires (λ c. search needs) (λ c. search needs)
+    loop-again same-length returns)

@@ -39,12 +39,6 @@ next-scalar-requires c κs = let s = c .before .before in
 put-block-requires-2 : tie.Need-put-block-requires-2 Inv-loop μ-loop
 put-block-requires-2 c κs = scalar-inside (c .before .before .before .before .loop .inv .3 .known) _ (c .before .next-scalar .ensures .block-below)
 
-add-k : tie.Need-add-k Inv-loop μ-loop
-add-k c = search needs
-
-loop-less : tie.Need-loop-less Inv-loop μ-loop
-loop-less c = search needs
-
 loop-again : tie.Need-loop-again Inv-loop μ-loop
 loop-again c = let s = c .before .before .before .before .before .before .before in
     let z = s .before .before .before .before .before .before .before .before .before in
@@ -69,5 +63,5 @@ returns c = let s = c .before in
 pub list-scalars-spec : {M : Type 1} → statement M
 list-scalars-spec =
     tie.close
-    (tie.spec
-    Inv-loop μ-loop put-block-requires sub-last loop-holds next-scalar-requires put-block-requires-2 add-k loop-less loop-again same-length returns)
+    (tie.spec Inv-loop μ-loop put-block-requires sub-last loop-holds next-scalar-requires put-block-requires-2 (λ c. search needs)
+    (λ c. search needs) loop-again same-length returns)

@@ -12,12 +12,6 @@ use borrow.Author.Needs.{needs}
 use Rattle.orbits.proofs.next_scalar.Statement.{statement}
 use Rattle.orbits.proofs.next_scalar.Tie as tie
 
-up-requires : tie.Need-up-requires
-up-requires c κs = search needs
-
-up-requires-2 : tie.Need-up-requires-2
-up-requires-2 c κs = search needs
-
 word-requires : tie.Need-word-requires
 word-requires c κs = let z = c .before .before .before .before .before in
     let gens = z .pre .0 .surveyed .sound .stands .gens in
@@ -76,5 +70,5 @@ returns c = let s = c .before .before .before .before .before .before .before in
 pub next-scalar-spec : {M : Type 1} → statement M
 next-scalar-spec =
     tie.close
-    (tie.spec
-    up-requires up-requires-2 word-requires note-requires conjugate-requires left-requires right-requires add-mod-requires sub-mod-requires returns)
+    (tie.spec (λ c κs. search needs) (λ c κs. search needs) word-requires note-requires conjugate-requires left-requires right-requires
+    add-mod-requires sub-mod-requires returns)

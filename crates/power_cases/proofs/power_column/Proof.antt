@@ -14,8 +14,5 @@ power-entry-requires c κs = let z = c .before in
     let m : 0 < z .args .m = omega (arith, z .pre .0 .valid (z .args .c) (z .pre .1) .exp) in
     (z .pre .0, record { row = z .pre .1; exp = mod-lt (z .args .c) m })
 
-returns : tie.Need-returns
-returns c = search needs
-
 pub power-column-spec : {M : Type 1} → statement M
-power-column-spec = tie.close (tie.spec rem-t7 power-entry-requires returns)
+power-column-spec = tie.close (tie.spec rem-t7 power-entry-requires (λ c. search needs))

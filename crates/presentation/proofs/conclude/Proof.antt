@@ -7,26 +7,14 @@ use borrow.Author.Needs.{needs}
 use Rattle.presentation.proofs.conclude.Statement.{statement}
 use Rattle.presentation.proofs.conclude.Tie as tie
 
-primes-of-requires : tie.Need-primes-of-requires
-primes-of-requires c κs = search needs
-
 order-fits-requires : tie.Need-order-fits-requires
 order-fits-requires c κs =
     (omega arith, λ j l. omega (arith, c .before .primes-of .ensures .each j l, c .before .before .pre .1 j l))
-
-refused-requires : tie.Need-refused-requires
-refused-requires c κs = search needs
 
 returns : tie.Need-returns
 returns c =
     let f = c .before .before in
     concluded-large (f .before .before .primes-of .ensures) (sym (f .order-fits .ensures) ∙ not-true _ (c .before .if1 .taken)) (c .refused .ensures)
-
-well-requires : tie.Need-well-requires
-well-requires c κs = search needs
-
-refused-requires-2 : tie.Need-refused-requires-2
-refused-requires-2 c κs = search needs
 
 returns-2 : tie.Need-returns-2
 returns-2 c =
@@ -45,12 +33,5 @@ returns-3 c =
 pub conclude-spec : {M : Type 1} → statement M
 conclude-spec =
     tie.close
-    (tie.spec
-    primes-of-requires
-    order-fits-requires
-    refused-requires
-    returns
-    well-requires
-    refused-requires-2
-    returns-2
+    (tie.spec (λ c κs. search needs) order-fits-requires (λ c κs. search needs) returns (λ c κs. search needs) (λ c κs. search needs) returns-2
     returns-3)

@@ -7,18 +7,6 @@ use borrow.Author.Needs.{needs}
 use Rattle.presentation.proofs.read.Statement.{statement}
 use Rattle.presentation.proofs.read.Tie as tie
 
-names-requires : tie.Need-names-requires
-names-requires c κs = search needs
-
-enum-known-n : tie.Need-enum-known-n
-enum-known-n c = search needs
-
-enum-told : tie.Need-enum-told
-enum-told c = search needs
-
-refused-requires : tie.Need-refused-requires
-refused-requires c κs = search needs
-
 returns : tie.Need-returns
 returns c =
     refused-form (unnamed (c .before .before .before .names .ensures .fails (c .before .enum-told .given .1))) (c .refused .ensures)
@@ -28,18 +16,12 @@ read-lines-requires c κs =
     let m = c .before .before .before .before .before .names .ensures .stands _ _ (c .before .before .before .n .given .1) in
     (m .within, m .few, c .before .before .before .before .before .before .before .pre, refl)
 
-refused-requires-2 : tie.Need-refused-requires-2
-refused-requires-2 c κs = search needs
-
 returns-2 : tie.Need-returns-2
 returns-2 c =
     let r = c .before .before in
     let n = r .before .before .before .before in
     let m = n .before .before .names .ensures .stands _ _ (n .n .given .1) in
     refused-form (unlined m (r .read-lines .ensures .fails (not-true _ (c .before .if1 .taken)))) (c .refused2 .ensures)
-
-refused-requires-3 : tie.Need-refused-requires-3
-refused-requires-3 c κs = search needs
 
 returns-3 : tie.Need-returns-3
 returns-3 c =
@@ -49,9 +31,6 @@ returns-3 c =
     let a = r .read-lines .ensures .stands (not-false _ (c .before .before .if1 .left)) in
     not-prime m a (not-true _ (c .before .if2 .taken)) (c .refused3 .ensures)
 
-refused-requires-4 : tie.Need-refused-requires-4
-refused-requires-4 c κs = search needs
-
 returns-4 : tie.Need-returns-4
 returns-4 c =
     let r = c .before .before .before .before in
@@ -59,9 +38,6 @@ returns-4 c =
     let m = n .before .before .names .ensures .stands _ _ (n .n .given .1) in
     let a = r .read-lines .ensures .stands (not-false _ (c .before .before .before .if1 .left)) in
     too-many m a (not-false _ (c .before .before .if2 .left)) (omega arith) (c .refused4 .ensures)
-
-cast-count : tie.Need-cast-count
-cast-count c = search needs
 
 conclude-requires : tie.Need-conclude-requires
 conclude-requires c κs =
@@ -82,19 +58,6 @@ returns-5 c =
 pub read-spec : {M : Type 1} → statement M
 read-spec =
     tie.close
-    (tie.spec
-    names-requires
-    enum-known-n
-    enum-told
-    refused-requires
-    returns
-    read-lines-requires
-    refused-requires-2
-    returns-2
-    refused-requires-3
-    returns-3
-    cast-count
-    refused-requires-4
-    returns-4
-    conclude-requires
+    (tie.spec (λ c κs. search needs) (λ c. search needs) (λ c. search needs) (λ c κs. search needs) returns read-lines-requires
+    (λ c κs. search needs) returns-2 (λ c κs. search needs) returns-3 (λ c. search needs) (λ c κs. search needs) returns-4 conclude-requires
     returns-5)

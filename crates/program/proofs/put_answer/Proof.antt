@@ -6,12 +6,6 @@ use Rattle.program.proofs.Answered.{number-short, answered}
 use Rattle.program.proofs.put_answer.Statement.{statement}
 use Rattle.program.proofs.put_answer.Tie as tie
 
-slice-aggregate-put-bytes : tie.Need-slice-aggregate-put-bytes
-slice-aggregate-put-bytes c = search needs
-
-put-bytes-requires : tie.Need-put-bytes-requires
-put-bytes-requires c κs = search needs
-
 put-value-requires : tie.Need-put-value-requires
 put-value-requires c κs =
     let name = c .before .before .before .put-bytes .ensures in
@@ -26,9 +20,6 @@ put-byte-requires c κs =
     let start = at-name .before .before .before .before in
     omega (arith, name .end, wrote-length name, number .end, wrote-length number, number-short (start .args .number) (omega arith))
 
-same-length : tie.Need-same-length
-same-length c = search needs
-
 returns : tie.Need-returns
 returns c =
     let byte = c .before .before in
@@ -37,4 +28,4 @@ returns c =
     answered (name .before .before .before .before .args .number) (name .put-bytes .ensures) (value .put-value .ensures) (byte .put-byte .ensures)
 
 pub put-answer-spec : {M : Type 1} → statement M
-put-answer-spec = tie.close (tie.spec slice-aggregate-put-bytes put-bytes-requires put-value-requires put-byte-requires same-length returns)
+put-answer-spec = tie.close (tie.spec (λ c. search needs) (λ c κs. search needs) put-value-requires put-byte-requires (λ c. search needs) returns)

@@ -18,33 +18,9 @@ abbrev μ-loop : tie.MeasureT-loop
 loop-holds : tie.Need-loop-holds Inv-loop μ-loop
 loop-holds c = going-none (c .before .pre .0) (c .before .pre .1)
 
-value-behind-requires : tie.Need-value-behind-requires Inv-loop μ-loop
-value-behind-requires c κs = omega arith
-
-enum-known-e : tie.Need-enum-known-e Inv-loop μ-loop
-enum-known-e c = search needs
-
-enum-told : tie.Need-enum-told Inv-loop μ-loop
-enum-told c = search needs
-
 returns : tie.Need-returns Inv-loop μ-loop
 returns c =
     going-fails (c .before .before .before .before .loop .inv) (omega arith) (c .before .before .value-behind .ensures .fails (c .enum-told .given .1))
-
-cast-place : tie.Need-cast-place Inv-loop μ-loop
-cast-place c = omega arith
-
-mul-kept : tie.Need-mul-kept Inv-loop μ-loop
-mul-kept c = omega arith
-
-array-write-kept : tie.Need-array-write-kept Inv-loop μ-loop
-array-write-kept c = omega arith
-
-add-k : tie.Need-add-k Inv-loop μ-loop
-add-k c = omega arith
-
-loop-less : tie.Need-loop-less Inv-loop μ-loop
-loop-less c = omega arith
 
 loop-again : tie.Need-loop-again Inv-loop μ-loop
 loop-again c =
@@ -54,9 +30,6 @@ loop-again c =
     let v = k .value-behind .ensures .stands _ _ (e .e .given .1) in
     ⊎-elim (λ w. going-as (w .1) (going-more h (omega arith) (omega (arith, w .0)) v))
     (λ w. going-as (w .1) (going-past h (omega arith) (omega (arith, w .0)) v)) (c .if1 .came)
-
-byte-at-requires : tie.Need-byte-at-requires Inv-loop μ-loop
-byte-at-requires c κs = tt
 
 returns-2 : tie.Need-returns-2 Inv-loop μ-loop
 returns-2 c =
@@ -75,21 +48,5 @@ returns-3 c =
 pub exponents-spec : {M : Type 1} → statement M
 exponents-spec =
     tie.close
-    (tie.spec
-    Inv-loop
-    μ-loop
-    loop-holds
-    value-behind-requires
-    enum-known-e
-    enum-told
-    returns
-    cast-place
-    mul-kept
-    array-write-kept
-    add-k
-    loop-less
-    loop-again
-    byte-at-requires
-    returns-2
-    add-t19
-    returns-3)
+    (tie.spec Inv-loop μ-loop loop-holds (λ c κs. omega arith) (λ c. search needs) (λ c. search needs) returns (λ c. omega arith) (λ c. omega arith)
+    (λ c. omega arith) (λ c. omega arith) (λ c. omega arith) loop-again (λ c κs. tt) returns-2 add-t19 returns-3)

@@ -8,15 +8,6 @@ use borrow.Author.Needs.{needs}
 use Rattle.reader.proofs.head.Statement.{statement}
 use Rattle.reader.proofs.head.Tie as tie
 
-value-requires : tie.Need-value-requires
-value-requires c κs = search needs
-
-enum-known-a : tie.Need-enum-known-a
-enum-known-a c = search needs
-
-enum-told : tie.Need-enum-told
-enum-told c = search needs
-
 returns : tie.Need-returns
 returns c = head-none _ _ (c .before .before .value .ensures .fails (c .enum-told .given .1)) (c .before .before .before .before .pre .0)
 
@@ -28,15 +19,6 @@ returns-2 : tie.Need-returns-2
 returns-2 c =
     let a = c .before .before in
     head-other _ _ (a .before .before .value .ensures .stands _ _ (a .a .given .1)) (λ q. c .if1 .taken (q ∙ sym (add-one _)))
-
-value-behind-requires : tie.Need-value-behind-requires
-value-behind-requires c κs = search needs
-
-enum-known-b : tie.Need-enum-known-b
-enum-known-b c = search needs
-
-enum-told-2 : tie.Need-enum-told-2
-enum-told-2 c = search needs
 
 returns-3 : tie.Need-returns-3
 returns-3 c =
@@ -57,9 +39,6 @@ returns-4 c =
     head-other-2 _ _ (a .before .before .value .ensures .stands _ _ (a .a .given .1)) (k .value-behind .ensures .stands _ _ (b .b .given .1))
     (λ q. c .if2 .taken (q ∙ sym (add-one _)))
 
-value-behind-requires-2 : tie.Need-value-behind-requires-2
-value-behind-requires-2 c κs = search needs
-
 returns-5 : tie.Need-returns-5
 returns-5 c =
     let b = c .before .before .before in
@@ -71,18 +50,5 @@ returns-5 c =
 pub head-spec : {M : Type 1} → statement M
 head-spec =
     tie.close
-    (tie.spec
-    value-requires
-    enum-known-a
-    enum-told
-    returns
-    add-if1
-    returns-2
-    value-behind-requires
-    enum-known-b
-    enum-told-2
-    returns-3
-    add-if2
-    returns-4
-    value-behind-requires-2
-    returns-5)
+    (tie.spec (λ c κs. search needs) (λ c. search needs) (λ c. search needs) returns add-if1 returns-2 (λ c κs. search needs) (λ c. search needs)
+    (λ c. search needs) returns-3 add-if2 returns-4 (λ c κs. search needs) returns-5)

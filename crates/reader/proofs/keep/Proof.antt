@@ -5,18 +5,6 @@ use borrow.Author.Needs.{needs}
 use Rattle.reader.proofs.keep.Statement.{statement}
 use Rattle.reader.proofs.keep.Tie as tie
 
-mul-e : tie.Need-mul-e
-mul-e c = search needs
-
-element-set-from-e : tie.Need-element-set-from-e
-element-set-from-e c = search needs
-
-mul-ps : tie.Need-mul-ps
-mul-ps c = search needs
-
-element-write-ps : tie.Need-element-write-ps
-element-write-ps c = search needs
-
 returns : tie.Need-returns
 returns c =
     record {
@@ -36,4 +24,4 @@ returns-2 c =
     }
 
 pub keep-spec : {M : Type 1} → statement M
-keep-spec = tie.close (tie.spec mul-e element-set-from-e mul-ps element-write-ps returns returns-2)
+keep-spec = tie.close (tie.spec (λ c. search needs) (λ c. search needs) (λ c. search needs) (λ c. search needs) returns returns-2)

@@ -18,29 +18,11 @@ Inv-loop text n₀ at₀ n at = NamesGoing text n at
 abbrev μ-loop : tie.MeasureT-loop
 μ-loop text n₀ at₀ n at = length text - at
 
-slice-aggregate-starts : tie.Need-slice-aggregate-starts Inv-loop μ-loop
-slice-aggregate-starts c = search needs
-
-starts-requires : tie.Need-starts-requires Inv-loop μ-loop
-starts-requires c κs = search needs
-
 returns : tie.Need-returns Inv-loop μ-loop
 returns c = names-unstarted (λ h. true≢false (sym (c .before .starts .ensures .1 h) ∙ not-true (c .before .starts .result) (c .if1 .taken)))
 
 loop-holds : tie.Need-loop-holds Inv-loop μ-loop
 loop-holds c = names-none (c .before .starts .ensures .0 (not-false (c .before .starts .result) (c .if1 .left)))
-
-byte-at-requires : tie.Need-byte-at-requires Inv-loop μ-loop
-byte-at-requires c κs = tt
-
-next-name-requires : tie.Need-next-name-requires Inv-loop μ-loop
-next-name-requires c κs = tt
-
-enum-known-v : tie.Need-enum-known-v Inv-loop μ-loop
-enum-known-v c = search needs
-
-enum-told : tie.Need-enum-told Inv-loop μ-loop
-enum-told c = search needs
 
 returns-2 : tie.Need-returns-2 Inv-loop μ-loop
 returns-2 c =
@@ -70,9 +52,6 @@ loop-again c =
 returns-4 : tie.Need-returns-4 Inv-loop μ-loop
 returns-4 c = names-stops (c .before .before .before .loop .inv) (λ q. omega arith) (λ l q. omega arith)
 
-byte-at-requires-2 : tie.Need-byte-at-requires-2 Inv-loop μ-loop
-byte-at-requires-2 c κs = tt
-
 returns-5 : tie.Need-returns-5 Inv-loop μ-loop
 returns-5 c = names-stops (c .before .before .before .before .before .loop .inv) (λ q. omega arith) (λ l q. omega arith)
 
@@ -89,24 +68,5 @@ returns-6 c =
 pub names-spec : {M : Type 1} → statement M
 names-spec =
     tie.close
-    (tie.spec
-    Inv-loop
-    μ-loop
-    slice-aggregate-starts
-    starts-requires
-    returns
-    loop-holds
-    byte-at-requires
-    next-name-requires
-    enum-known-v
-    enum-told
-    returns-2
-    add-if3
-    returns-3
-    loop-less
-    loop-again
-    returns-4
-    byte-at-requires-2
-    returns-5
-    add-t16
-    returns-6)
+    (tie.spec Inv-loop μ-loop (λ c. search needs) (λ c κs. search needs) returns loop-holds (λ c κs. tt) (λ c κs. tt) (λ c. search needs)
+    (λ c. search needs) returns-2 add-if3 returns-3 loop-less loop-again returns-4 (λ c κs. tt) returns-5 add-t16 returns-6)

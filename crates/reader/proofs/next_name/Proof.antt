@@ -7,9 +7,6 @@ use borrow.Author.Needs.{needs}
 use Rattle.reader.proofs.next_name.Statement.{statement}
 use Rattle.reader.proofs.next_name.Tie as tie
 
-byte-at-requires : tie.Need-byte-at-requires
-byte-at-requires c κs = search needs
-
 returns : tie.Need-returns
 returns c =
     let a = c .before .before .before .args in
@@ -20,14 +17,10 @@ add-value-behind c =
     let a = c .before .before .before .args in
     omega (arith, byte-within (a .text .now) (a .at) (omega arith))
 
-value-behind-requires : tie.Need-value-behind-requires
-value-behind-requires c κs = search needs
-
 returns-2 : tie.Need-returns-2
 returns-2 c =
     let a = c .before .before .before .before .args in
     behind-some (101 ∷ []) (a .text .now) (a .at) 32 (omega arith) (omega arith) (c .value-behind .ensures)
 
 pub next-name-spec : {M : Type 1} → statement M
-next-name-spec =
-    tie.close (tie.spec byte-at-requires returns add-value-behind value-behind-requires returns-2)
+next-name-spec = tie.close (tie.spec (λ c κs. search needs) returns add-value-behind (λ c κs. search needs) returns-2)

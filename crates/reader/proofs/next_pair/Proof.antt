@@ -6,12 +6,6 @@ use borrow.Author.Needs.{needs}
 use Rattle.reader.proofs.next_pair.Statement.{statement}
 use Rattle.reader.proofs.next_pair.Tie as tie
 
-add-if2 : tie.Need-add-if2
-add-if2 c = search needs
-
-add-t6 : tie.Need-add-t6
-add-t6 c = search needs
-
 returns : tie.Need-returns
 returns c =
     let a = c .before .before .args in
@@ -41,5 +35,4 @@ returns-4 c =
     (next-power (a .j) (a .i) (omega arith) (omega arith), omega arith, omega arith)
 
 pub next-pair-spec : {M : Type 1} → statement M
-next-pair-spec =
-    tie.close (tie.spec add-if2 add-t6 returns add-t4 add-t7 returns-2 returns-3 returns-4)
+next-pair-spec = tie.close (tie.spec (λ c. search needs) (λ c. search needs) returns add-t4 add-t7 returns-2 returns-3 returns-4)

@@ -23,12 +23,6 @@ loop-holds c =
 head-requires : tie.Need-head-requires Inv-loop μ-loop
 head-requires c κs = omega (arith, c .before .before .before .pre)
 
-enum-known-p : tie.Need-enum-known-p Inv-loop μ-loop
-enum-known-p c = search needs
-
-enum-told : tie.Need-enum-told Inv-loop μ-loop
-enum-told c = search needs
-
 returns : tie.Need-returns Inv-loop μ-loop
 returns c =
     let h = c .before .before in
@@ -53,9 +47,6 @@ still-prime-requires : tie.Need-still-prime-requires Inv-loop μ-loop
 still-prime-requires c κs =
     let p = c .before .before .before .before in
     p .before .before .head .ensures .stands _ _ (p .p .given .1) .small
-
-keep-requires : tie.Need-keep-requires Inv-loop μ-loop
-keep-requires c κs = tt
 
 add-k : tie.Need-add-k Inv-loop μ-loop
 add-k c =
@@ -93,20 +84,5 @@ returns-3 c = reading-end (c .before .loop .inv) (omega arith)
 pub read-lines-spec : {M : Type 1} → statement M
 read-lines-spec =
     tie.close
-    (tie.spec
-    Inv-loop
-    μ-loop
-    loop-holds
-    head-requires
-    enum-known-p
-    enum-told
-    returns
-    exponents-requires
-    returns-2
-    still-prime-requires
-    keep-requires
-    add-k
-    next-pair-requires
-    loop-less
-    loop-again
-    returns-3)
+    (tie.spec Inv-loop μ-loop loop-holds head-requires (λ c. search needs) (λ c. search needs) returns exponents-requires returns-2
+    still-prime-requires (λ c κs. tt) add-k next-pair-requires loop-less loop-again returns-3)

@@ -17,13 +17,10 @@ returns-2 c =
     let a = c .before .before .args in
     sym (rw (not-false (a .primes) (c .before .if1 .left), ne-eqb (a .i) (a .j) (c .if2 .taken)))
 
-is-prime-requires : tie.Need-is-prime-requires
-is-prime-requires c κs = search needs
-
 returns-3 : tie.Need-returns-3
 returns-3 c =
     let a = c .before .before .before .args in
     c .is-prime .ensures ∙ sym (rw (not-false (a .primes) (c .before .before .if1 .left), eq-eqb (a .i) (a .j) (c .before .if2 .left)))
 
 pub still-prime-spec : {M : Type 1} → statement M
-still-prime-spec = tie.close (tie.spec returns returns-2 is-prime-requires returns-3)
+still-prime-spec = tie.close (tie.spec returns returns-2 (λ c κs. search needs) returns-3)

@@ -23,9 +23,6 @@ loop-holds c =
     let a = c .before .args in
     (omega arith, record { tested = λ P S. record { each = before-level (a .s) (now (a .words)) (a .d) P (a .i) } })
 
-intertwiner-requires : tie.Need-intertwiner-requires Inv-loop μ-loop
-intertwiner-requires c κs = search needs
-
 returns : tie.Need-returns Inv-loop μ-loop
 returns c = λ P S.
     let l = c .before .before .before in
@@ -35,12 +32,6 @@ returns c = λ P S.
     let (above, inv) = l .loop .inv in
     passed-fails inv (omega arith) (λ P S. from-level (a .s) T (a .d) P (a .i) (l .loop .j) above (t .ensures P S)) (not-true (t .result) (c .if1 .taken)) P S
     ∙ intertwiners-all (a .s) T (a .d) P (a .i) (S .gens-are)
-
-add-j : tie.Need-add-j Inv-loop μ-loop
-add-j c = omega arith
-
-loop-less : tie.Need-loop-less Inv-loop μ-loop
-loop-less c = omega arith
 
 loop-again : tie.Need-loop-again Inv-loop μ-loop
 loop-again c =
@@ -61,4 +52,6 @@ returns-2 c = λ P S.
     passed-all (l .loop .inv .1) (omega arith) P S ∙ intertwiners-all (a .s) T (a .d) P (a .i) (S .gens-are)
 
 pub all-intertwiners-spec : {M : Type 1} → statement M
-all-intertwiners-spec = tie.close (tie.spec Inv-loop μ-loop loop-holds intertwiner-requires returns add-j loop-less loop-again returns-2)
+all-intertwiners-spec =
+    tie.close
+    (tie.spec Inv-loop μ-loop loop-holds (λ c κs. search needs) returns (λ c. omega arith) (λ c. omega arith) loop-again returns-2)

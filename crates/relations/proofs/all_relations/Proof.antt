@@ -21,9 +21,6 @@ abbrev μ-loop : tie.MeasureT-loop
 loop-holds : tie.Need-loop-holds Inv-loop μ-loop
 loop-holds c = passed-none
 
-top-relations-requires : tie.Need-top-relations-requires Inv-loop μ-loop
-top-relations-requires c κs = search needs
-
 returns : tie.Need-returns Inv-loop μ-loop
 returns c = λ P R.
     let l = c .before .before .before in
@@ -31,12 +28,6 @@ returns c = λ P R.
     let a = l .before .before .args in
     passed-fails (l .loop .inv) (omega arith) (t .ensures) (not-true (t .result) (c .if1 .taken)) P R
     ∙ relations-top (a .s) (now (a .words)) (a .d) P (a .i)
-
-add-j : tie.Need-add-j Inv-loop μ-loop
-add-j c = omega arith
-
-loop-less : tie.Need-loop-less Inv-loop μ-loop
-loop-less c = omega arith
 
 loop-again : tie.Need-loop-again Inv-loop μ-loop
 loop-again c =
@@ -50,4 +41,6 @@ returns-2 c = λ P R.
     passed-all (l .loop .inv) (omega arith) P R ∙ relations-top (a .s) (now (a .words)) (a .d) P (a .i)
 
 pub all-relations-spec : {M : Type 1} → statement M
-all-relations-spec = tie.close (tie.spec Inv-loop μ-loop loop-holds top-relations-requires returns add-j loop-less loop-again returns-2)
+all-relations-spec =
+    tie.close
+    (tie.spec Inv-loop μ-loop loop-holds (λ c κs. search needs) returns (λ c. omega arith) (λ c. omega arith) loop-again returns-2)

@@ -20,9 +20,6 @@ abbrev μ-loop : tie.MeasureT-loop
 loop-holds : tie.Need-loop-holds Inv-loop μ-loop
 loop-holds c = passed-none
 
-intertwines-at-requires : tie.Need-intertwines-at-requires Inv-loop μ-loop
-intertwines-at-requires c κs = search needs
-
 returns : tie.Need-returns Inv-loop μ-loop
 returns c = λ P is.
     let l = c .before .before .before in
@@ -30,12 +27,6 @@ returns c = λ P is.
     let t = c .before .intertwines-at in
     passed-fails (l .loop .inv) (omega arith) (t .ensures) (not-true (t .result) (c .if1 .taken)) P is
     ∙ intertwiner-everywhere (z .pre .0) P (z .args .k) (z .args .j) (z .pre .3) (z .pre .4) (z .pre .1) (z .pre .2)
-
-add-c : tie.Need-add-c Inv-loop μ-loop
-add-c c = omega arith
-
-loop-less : tie.Need-loop-less Inv-loop μ-loop
-loop-less c = omega arith
 
 loop-again : tie.Need-loop-again Inv-loop μ-loop
 loop-again c =
@@ -50,4 +41,6 @@ returns-2 c = λ P is.
     ∙ intertwiner-everywhere (z .pre .0) P (z .args .k) (z .args .j) (z .pre .3) (z .pre .4) (z .pre .1) (z .pre .2)
 
 pub carries-over-spec : {M : Type 1} → statement M
-carries-over-spec = tie.close (tie.spec Inv-loop μ-loop loop-holds intertwines-at-requires returns add-c loop-less loop-again returns-2)
+carries-over-spec =
+    tie.close
+    (tie.spec Inv-loop μ-loop loop-holds (λ c κs. search needs) returns (λ c. omega arith) (λ c. omega arith) loop-again returns-2)

@@ -10,12 +10,6 @@ use borrow.Author.Needs.{needs}
 use Rattle.relations.proofs.commutator_at.Statement.{statement}
 use Rattle.relations.proofs.commutator_at.Tie as tie
 
-up-requires : tie.Need-up-requires
-up-requires c κs = search needs
-
-add-walked : tie.Need-add-walked
-add-walked c = search needs
-
 walked-requires : tie.Need-walked-requires
 walked-requires c κs =
     let z = c .before .before .before .before in
@@ -36,9 +30,6 @@ returns c = λ P is.
 moved-requires : tie.Need-moved-requires
 moved-requires c κs = let (K, k, j, h) = c .before .before .before .pre in (kept-stored K _ j, kept-column K _ h)
 
-conjugated-requires : tie.Need-conjugated-requires
-conjugated-requires c κs = search needs
-
 moved-requires-2 : tie.Need-moved-requires-2
 moved-requires-2 c κs = let (K, k, j, h) = c .before .before .before .before .before .pre in (kept-stored K _ k, c .before .moved .ensures .1)
 
@@ -46,9 +37,6 @@ moved-requires-3 : tie.Need-moved-requires-3
 moved-requires-3 c κs =
     let (K, k, j, h) = c .before .before .before .before .before .before .pre in
     (kept-stored K _ j, c .before .conjugated .ensures .below)
-
-same-entry-requires : tie.Need-same-entry-requires
-same-entry-requires c κs = search needs
 
 returns-2 : tie.Need-returns-2
 returns-2 c = λ P is.
@@ -65,14 +53,5 @@ returns-2 c = λ P is.
 pub commutator-at-spec : {M : Type 1} → statement M
 commutator-at-spec =
     tie.close
-    (tie.spec
-    up-requires
-    add-walked
-    walked-requires
-    returns
-    moved-requires
-    conjugated-requires
-    moved-requires-2
-    moved-requires-3
-    same-entry-requires
-    returns-2)
+    (tie.spec (λ c κs. search needs) (λ c. search needs) walked-requires returns moved-requires (λ c κs. search needs) moved-requires-2
+    moved-requires-3 (λ c κs. search needs) returns-2)

@@ -8,24 +8,6 @@ use Rattle.relations.proofs.Relations.{word-looked}
 use Rattle.relations.proofs.commutator_relation.Statement.{statement}
 use Rattle.relations.proofs.commutator_relation.Tie as tie
 
-up-requires : tie.Need-up-requires
-up-requires c κs = search needs
-
-up-requires-2 : tie.Need-up-requires-2
-up-requires-2 c κs = search needs
-
-pair-requires : tie.Need-pair-requires
-pair-requires c κs = search needs
-
-mul-commutator-holds : tie.Need-mul-commutator-holds
-mul-commutator-holds c = search needs
-
-index-1-commutator-holds : tie.Need-index-1-commutator-holds
-index-1-commutator-holds c = search needs
-
-commutator-holds-requires : tie.Need-commutator-holds-requires
-commutator-holds-requires c κs = search needs
-
 returns : tie.Need-returns
 returns c = λ P W.
     let t = c .before .before in
@@ -36,11 +18,5 @@ returns c = λ P W.
 pub commutator-relation-spec : {M : Type 1} → statement M
 commutator-relation-spec =
     tie.close
-    (tie.spec
-    up-requires
-    up-requires-2
-    pair-requires
-    mul-commutator-holds
-    index-1-commutator-holds
-    commutator-holds-requires
+    (tie.spec (λ c κs. search needs) (λ c κs. search needs) (λ c κs. search needs) (λ c. search needs) (λ c. search needs) (λ c κs. search needs)
     returns)

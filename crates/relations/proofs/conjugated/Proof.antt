@@ -6,12 +6,6 @@ use borrow.Author.Needs.{needs}
 use Rattle.relations.proofs.conjugated.Statement.{statement}
 use Rattle.relations.proofs.conjugated.Tie as tie
 
-up-requires : tie.Need-up-requires
-up-requires c κs = search needs
-
-add-walked : tie.Need-add-walked
-add-walked c = search needs
-
 walked-requires : tie.Need-walked-requires
 walked-requires c κs =
     let (K, l, h) = c .before .before .pre in
@@ -34,4 +28,4 @@ returns c =
     }
 
 pub conjugated-spec : {M : Type 1} → statement M
-conjugated-spec = tie.close (tie.spec up-requires add-walked walked-requires moved-requires returns)
+conjugated-spec = tie.close (tie.spec (λ c κs. search needs) (λ c. search needs) walked-requires moved-requires returns)

@@ -5,9 +5,6 @@ use Rattle.relations.proofs.Intertwiners.{formed-kept, among-kept, inte
 use Rattle.relations.proofs.intertwiner.Statement.{statement}
 use Rattle.relations.proofs.intertwiner.Tie as tie
 
-led-to-requires : tie.Need-led-to-requires
-led-to-requires c κs = search needs
-
 returns : tie.Need-returns
 returns c = λ P S.
     let e = c .before in
@@ -29,4 +26,4 @@ returns-2 c = λ P S.
     (c .all-carried .ensures P S)
 
 pub intertwiner-spec : {M : Type 1} → statement M
-intertwiner-spec = tie.close (tie.spec led-to-requires returns all-carried-requires returns-2)
+intertwiner-spec = tie.close (tie.spec (λ c κs. search needs) returns all-carried-requires returns-2)

@@ -9,9 +9,6 @@ use borrow.Author.Needs.{needs}
 use Rattle.relations.proofs.intertwines_at.Statement.{statement}
 use Rattle.relations.proofs.intertwines_at.Tie as tie
 
-conjugated-requires : tie.Need-conjugated-requires
-conjugated-requires c κs = search needs
-
 moved-requires : tie.Need-moved-requires
 moved-requires c κs =
     let z = c .before .before .before .before in
@@ -31,9 +28,6 @@ returns c = λ P is.
 moved-requires-2 : tie.Need-moved-requires-2
 moved-requires-2 c κs = let (K, L, e, k, j, h) = c .before .before .before .pre in (kept-stored K _ j, kept-column K _ h)
 
-conjugated-requires-2 : tie.Need-conjugated-requires-2
-conjugated-requires-2 c κs = search needs
-
 moved-requires-3 : tie.Need-moved-requires-3
 moved-requires-3 c κs =
     let (K, L, e, k, j, h) = c .before .before .before .before .before .pre in
@@ -45,9 +39,6 @@ moved-requires-4 c κs =
     let (K, L, e, k, j, h) = z .pre in
     let y = c .before .before .moved2 in
     (kept-stored L _ k, subst (λ d. Below (z .args .s .m) d (y .result)) (sym e) (y .ensures .1))
-
-same-entry-requires : tie.Need-same-entry-requires
-same-entry-requires c κs = search needs
 
 returns-2 : tie.Need-returns-2
 returns-2 c = λ P is.
@@ -64,13 +55,5 @@ returns-2 c = λ P is.
 pub intertwines-at-spec : {M : Type 1} → statement M
 intertwines-at-spec =
     tie.close
-    (tie.spec
-    conjugated-requires
-    moved-requires
-    returns
-    moved-requires-2
-    conjugated-requires-2
-    moved-requires-3
-    moved-requires-4
-    same-entry-requires
-    returns-2)
+    (tie.spec (λ c κs. search needs) moved-requires returns moved-requires-2 (λ c κs. search needs) moved-requires-3 moved-requires-4
+    (λ c κs. search needs) returns-2)

@@ -11,9 +11,6 @@ use Rattle.relations.proofs.led_to.Tie as tie
 target-requires : tie.Need-target-requires
 target-requires c κs = let z = c .before in (z .args .s .m, kept-stored (among-kept (z .pre .0)) _ (z .pre .2))
 
-up-requires : tie.Need-up-requires
-up-requires c κs = search needs
-
 found-near-requires : tie.Need-found-near-requires
 found-near-requires c κs =
     let t = c .before in
@@ -30,4 +27,4 @@ returns c =
     subst (λ r. Found (a .s .gens) (now (a .words)) (a .i) r (c .found-near .result)) is (c .found-near .ensures)
 
 pub led-to-spec : {M : Type 1} → statement M
-led-to-spec = tie.close (tie.spec target-requires up-requires found-near-requires returns)
+led-to-spec = tie.close (tie.spec target-requires (λ c κs. search needs) found-near-requires returns)

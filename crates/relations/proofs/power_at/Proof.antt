@@ -10,17 +10,11 @@ use Rattle.relations.proofs.power_at.Tie as tie
 moved-times-requires : tie.Need-moved-times-requires
 moved-times-requires c κs = let (K, l, h) = c .before .pre in (kept-stored K _ l, kept-column K _ h)
 
-up-requires : tie.Need-up-requires
-up-requires c κs = search needs
-
 walked-requires : tie.Need-walked-requires
 walked-requires c κs =
     let (K, l, h) = c .before .before .before .pre in
     let e = c .up .ensures in
     (omega (arith, K .few), kept-stored K _ (omega arith), kept-column K _ h)
-
-same-entry-requires : tie.Need-same-entry-requires
-same-entry-requires c κs = search needs
 
 returns : tie.Need-returns
 returns c = λ P is.
@@ -32,4 +26,4 @@ returns c = λ P is.
     (y .ensures .0) (z .ensures .0) is
 
 pub power-at-spec : {M : Type 1} → statement M
-power-at-spec = tie.close (tie.spec moved-times-requires up-requires walked-requires same-entry-requires returns)
+power-at-spec = tie.close (tie.spec moved-times-requires (λ c κs. search needs) walked-requires (λ c κs. search needs) returns)

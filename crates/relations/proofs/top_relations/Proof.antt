@@ -18,9 +18,6 @@ Inv-loop words rows primes s d j k₀ k = Passed (ReadsIn s primes rows) (λ P k
 abbrev μ-loop : tie.MeasureT-loop
 μ-loop words rows primes s d j k₀ k = j - k
 
-power-relation-requires : tie.Need-power-relation-requires Inv-loop μ-loop
-power-relation-requires c κs = search needs
-
 returns : tie.Need-returns Inv-loop μ-loop
 returns c = λ P R.
     let t = c .before .power-relation in
@@ -29,9 +26,6 @@ returns c = λ P R.
 
 loop-holds : tie.Need-loop-holds Inv-loop μ-loop
 loop-holds c = passed-none
-
-commutator-relation-requires : tie.Need-commutator-relation-requires Inv-loop μ-loop
-commutator-relation-requires c κs = search needs
 
 returns-2 : tie.Need-returns-2 Inv-loop μ-loop
 returns-2 c = λ P R.
@@ -43,12 +37,6 @@ returns-2 c = λ P R.
     let k = l .loop .k in
     passed-fails (l .loop .inv) (omega arith) (λ P R. t .ensures P (word-read R k (a .j) (omega arith) (z .pre .1))) (not-true (t .result) (c .if2 .taken)) P R
     ∙ top-rest (a .s) (now (a .words)) (a .d) P (a .j) (p .ensures P R) (not-false (p .result) (l .before .if1 .left))
-
-add-k : tie.Need-add-k Inv-loop μ-loop
-add-k c = omega arith
-
-loop-less : tie.Need-loop-less Inv-loop μ-loop
-loop-less c = omega arith
 
 loop-again : tie.Need-loop-again Inv-loop μ-loop
 loop-again c =
@@ -69,15 +57,5 @@ returns-3 c = λ P R.
 pub top-relations-spec : {M : Type 1} → statement M
 top-relations-spec =
     tie.close
-    (tie.spec
-    Inv-loop
-    μ-loop
-    power-relation-requires
-    returns
-    loop-holds
-    commutator-relation-requires
-    returns-2
-    add-k
-    loop-less
-    loop-again
-    returns-3)
+    (tie.spec Inv-loop μ-loop (λ c κs. search needs) returns loop-holds (λ c κs. search needs) returns-2 (λ c. omega arith) (λ c. omega arith)
+    loop-again returns-3)

@@ -10,9 +10,6 @@ use Rattle.repcheck.proofs.judge_files.Tie as tie
 returns : tie.Need-returns
 returns c = let z = c .before .before .before in group-long (z .args .group .now) (z .args .table .now) (c .if1 .taken)
 
-accept-requires : tie.Need-accept-requires
-accept-requires c κs = search needs
-
 returns-2 : tie.Need-returns-2
 returns-2 c =
     let a = c .before in
@@ -38,4 +35,4 @@ returns-4 c =
     table-short (z .args .group .now) (z .args .table .now) (omega arith) (e .before .if2 .left) (a .accept .ensures) (omega arith) (c .judge-table .ensures)
 
 pub judge-files-spec : {M : Type 1} → statement M
-judge-files-spec = tie.close (tie.spec returns accept-requires returns-2 returns-3 judge-table-requires returns-4)
+judge-files-spec = tie.close (tie.spec returns (λ c κs. search needs) returns-2 returns-3 judge-table-requires returns-4)

@@ -9,12 +9,6 @@ use Rattle.repcheck.proofs.Calls.{lines-within, refused, checked}
 use Rattle.repcheck.proofs.judge_table.Statement.{statement}
 use Rattle.repcheck.proofs.judge_table.Tie as tie
 
-slice-aggregate-read-table : tie.Need-slice-aggregate-read-table
-slice-aggregate-read-table c = search needs
-
-read-table-requires : tie.Need-read-table-requires
-read-table-requires c κs = search needs
-
 returns : tie.Need-returns
 returns c =
     let r = c .before .before in
@@ -29,9 +23,6 @@ array-share-prefix-words c = lines-within (c .if1 .left) (c .before .before .rea
 slice-aggregate-check : tie.Need-slice-aggregate-check
 slice-aggregate-check c = let e = c .before in sym (length-take-le _ _ (lines-within (e .if1 .left) (e .before .before .read-table .ensures)))
 
-check-requires : tie.Need-check-requires
-check-requires c κs = search needs
-
 returns-2 : tie.Need-returns-2
 returns-2 c =
     let e = c .before .before in
@@ -42,12 +33,5 @@ returns-2 c =
 pub judge-table-spec : {M : Type 1} → statement M
 judge-table-spec =
     tie.close
-    (tie.spec
-    slice-aggregate-read-table
-    read-table-requires
-    returns
-    mul-words
-    array-share-prefix-words
-    slice-aggregate-check
-    check-requires
+    (tie.spec (λ c. search needs) (λ c κs. search needs) returns mul-words array-share-prefix-words slice-aggregate-check (λ c κs. search needs)
     returns-2)

@@ -5,12 +5,6 @@ use Rattle.reptable.proofs.Calls.{reply-table, reply-refusal}
 use Rattle.reptable.proofs.reply.Statement.{statement}
 use Rattle.reptable.proofs.reply.Tie as tie
 
-tabulate-file-requires : tie.Need-tabulate-file-requires
-tabulate-file-requires c κs = search needs
-
-same-length : tie.Need-same-length
-same-length c = search needs
-
 returns : tie.Need-returns
 returns c =
     let made = c .before .before .before .tabulate-file .ensures in
@@ -19,9 +13,6 @@ returns c =
 put-answer-requires : tie.Need-put-answer-requires
 put-answer-requires c κs = omega (arith, c .before .before .before .before .tabulate-file .kept .1 .0, c .before .before .before .before .before .before .before .before .pre)
 
-same-length-2 : tie.Need-same-length-2
-same-length-2 c = search needs
-
 returns-2 : tie.Need-returns-2
 returns-2 c =
     let answer = c .before .before .put-answer .ensures in
@@ -29,4 +20,4 @@ returns-2 c =
     (reply-refusal (refused .if1 .left) (refused .before .before .before .tabulate-file .ensures .0) (answer .0), answer .1)
 
 pub reply-spec : {M : Type 1} → statement M
-reply-spec = tie.close (tie.spec tabulate-file-requires same-length returns put-answer-requires same-length-2 returns-2)
+reply-spec = tie.close (tie.spec (λ c κs. search needs) (λ c. search needs) returns put-answer-requires (λ c. search needs) returns-2)

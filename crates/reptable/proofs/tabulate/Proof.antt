@@ -9,12 +9,6 @@ use Rattle.reptable.proofs.Calls.{lines-within, refused, written}
 use Rattle.reptable.proofs.tabulate.Statement.{statement}
 use Rattle.reptable.proofs.tabulate.Tie as tie
 
-slice-aggregate-build : tie.Need-slice-aggregate-build
-slice-aggregate-build c = search needs
-
-build-requires : tie.Need-build-requires
-build-requires c κs = search needs
-
 returns : tie.Need-returns
 returns c =
     let z = c .before .before .before .before .before .before .before in
@@ -29,12 +23,6 @@ array-share-prefix-words c = omega (arith, lines-within (c .if1 .left) (c .befor
 slice-aggregate-write-table : tie.Need-slice-aggregate-write-table
 slice-aggregate-write-table c = sym (length-take-le _ _ (omega (arith, lines-within (c .before .if1 .left) (c .before .before .before .before .build .ensures))))
 
-write-table-requires : tie.Need-write-table-requires
-write-table-requires c κs = search needs
-
-same-length : tie.Need-same-length
-same-length c = search needs
-
 returns-2 : tie.Need-returns-2
 returns-2 c =
     let w = c .before .before in
@@ -45,13 +33,5 @@ returns-2 c =
 pub tabulate-spec : {M : Type 1} → statement M
 tabulate-spec =
     tie.close
-    (tie.spec
-    slice-aggregate-build
-    build-requires
-    returns
-    mul-words
-    array-share-prefix-words
-    slice-aggregate-write-table
-    write-table-requires
-    same-length
-    returns-2)
+    (tie.spec (λ c. search needs) (λ c κs. search needs) returns mul-words array-share-prefix-words slice-aggregate-write-table
+    (λ c κs. search needs) (λ c. search needs) returns-2)

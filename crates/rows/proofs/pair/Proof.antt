@@ -7,9 +7,6 @@ use borrow.Author.Needs.{needs}
 use Rattle.rows.proofs.pair.Statement.{statement}
 use Rattle.rows.proofs.pair.Tie as tie
 
-add-first : tie.Need-add-first
-add-first c = search needs
-
 mul-first : tie.Need-mul-first
 mul-first c = omega (arith, pair-small (c .args .j) (search needs))
 
@@ -32,4 +29,4 @@ returns-2 c =
     (e, omega (arith, e, pair-below (z .args .j) (z .args .i) (search needs) (search needs)))
 
 pub pair-spec : {M : Type 1} → statement M
-pair-spec = tie.close (tie.spec add-first mul-first add-result add-result-2 returns returns-2)
+pair-spec = tie.close (tie.spec (λ c. search needs) mul-first add-result add-result-2 returns returns-2)

@@ -24,9 +24,6 @@ returns-2 c =
     let l = last-before (a .args .s) (now (a .args .words)) (a .pre .0) (a .args .i) (c .before .before .before .if1 .left) (c .before .if2 .taken) in
     c .reps-before .ensures ∙ l .count
 
-add-find : tie.Need-add-find
-add-find c = search needs
-
 find-requires : tie.Need-find-requires
 find-requires c κs =
     let a = c .before .before .before .before in
@@ -48,13 +45,4 @@ returns-3 c =
     c .reps-before2 .ensures ∙ l .count
 
 pub count-of-spec : {M : Type 1} → statement M
-count-of-spec =
-    tie.close
-    (tie.spec
-    returns
-    reps-before-requires
-    returns-2
-    add-find
-    find-requires
-    reps-before-requires-2
-    returns-3)
+count-of-spec = tie.close (tie.spec returns reps-before-requires returns-2 (λ c. search needs) find-requires reps-before-requires-2 returns-3)

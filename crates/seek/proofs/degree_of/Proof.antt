@@ -8,11 +8,5 @@ use Rattle.seek.proofs.degree_of.Tie as tie
 returns : tie.Need-returns
 returns c = let a = c .before .before in zero-degree (a .args .s) (now (a .args .words)) (a .pre .0) (a .args .i) (a .args .r) (c .if1 .taken) (a .pre .2)
 
-found-near-requires : tie.Need-found-near-requires
-found-near-requires c κs = search needs
-
-returns-2 : tie.Need-returns-2
-returns-2 c = search needs
-
 pub degree-of-spec : {M : Type 1} → statement M
-degree-of-spec = tie.close (tie.spec returns found-near-requires returns-2)
+degree-of-spec = tie.close (tie.spec returns (λ c κs. search needs) (λ c. search needs))

@@ -27,9 +27,6 @@ returns-3 c =
     let a = z .args in
     λ h. split-first (now (a .words)) (a .i) (a .r) (a .x) (z .pre .1) (sym (t .stands-before .ensures) ∙ c .before .if2 .left) (c .if3 .taken)
 
-sub-stands-before : tie.Need-sub-stands-before
-sub-stands-before c = search needs
-
 stands-before-requires-2 : tie.Need-stands-before-requires-2
 stands-before-requires-2 c κs =
     let z = c .before .before .before .before .before in
@@ -45,6 +42,4 @@ returns-4 c =
     (sym (c .stands-before2 .ensures) ∙ h)
 
 pub ends-at-spec : {M : Type 1} → statement M
-ends-at-spec =
-    tie.close
-    (tie.spec returns stands-before-requires returns-2 returns-3 sub-stands-before stands-before-requires-2 returns-4)
+ends-at-spec = tie.close (tie.spec returns stands-before-requires returns-2 returns-3 (λ c. search needs) stands-before-requires-2 returns-4)

@@ -17,22 +17,10 @@ abbrev μ-loop : tie.MeasureT-loop
 loop-holds : tie.Need-loop-holds Inv-loop μ-loop
 loop-holds c = let a = c .before .args in halved-none (now (a .words)) (a .i) (a .r) (a .lines) (c .before .pre .0)
 
-sub-mid : tie.Need-sub-mid Inv-loop μ-loop
-sub-mid c = search needs
-
-add-mid : tie.Need-add-mid Inv-loop μ-loop
-add-mid c = search needs
-
 stands-before-requires : tie.Need-stands-before-requires Inv-loop μ-loop
 stands-before-requires c κs =
     let l = c .before in
     line-there (now (l .before .before .args .words)) (l .loop .lo + (l .loop .hi - l .loop .lo) / 2) (omega (arith, l .loop .inv .inside))
-
-add-lo : tie.Need-add-lo Inv-loop μ-loop
-add-lo c = search needs
-
-loop-less : tie.Need-loop-less Inv-loop μ-loop
-loop-less c = omega arith
 
 loop-again : tie.Need-loop-again Inv-loop μ-loop
 loop-again c =
@@ -40,9 +28,6 @@ loop-again c =
     let a = l .before .before .args in
     halved-low (now (a .words)) (a .i) (a .r) (l .loop .lo) (l .loop .hi) (l .loop .lo + (l .loop .hi - l .loop .lo) / 2)
     (l .loop .inv) (omega arith) (sym (c .before .stands-before .ensures) ∙ c .if1 .taken)
-
-loop-less-2 : tie.Need-loop-less-2 Inv-loop μ-loop
-loop-less-2 c = omega arith
 
 loop-again-2 : tie.Need-loop-again-2 Inv-loop μ-loop
 loop-again-2 c =
@@ -60,16 +45,5 @@ returns c =
 pub find-spec : {M : Type 1} → statement M
 find-spec =
     tie.close
-    (tie.spec
-    Inv-loop
-    μ-loop
-    loop-holds
-    sub-mid
-    add-mid
-    stands-before-requires
-    add-lo
-    loop-less
-    loop-again
-    loop-less-2
-    loop-again-2
-    returns)
+    (tie.spec Inv-loop μ-loop loop-holds (λ c. search needs) (λ c. search needs) stands-before-requires (λ c. search needs) (λ c. omega arith)
+    loop-again (λ c. omega arith) loop-again-2 returns)

@@ -6,9 +6,6 @@ use Rattle.seek.proofs.Halves.{line-there}
 use Rattle.seek.proofs.guess.Statement.{statement}
 use Rattle.seek.proofs.guess.Tie as tie
 
-returns : tie.Need-returns
-returns c = search needs
-
 word-at-requires : tie.Need-word-at-requires
 word-at-requires c κs =
     let z = c .before .before .before in
@@ -19,17 +16,11 @@ word-at-requires-2 c κs =
     let z = c .before .before .before .before in
     (line-there (now (z .args .words)) (z .args .near) (omega (arith, z .pre .lines-are)), omega arith)
 
-stride-requires : tie.Need-stride-requires
-stride-requires c κs = search needs
-
 onward-requires : tie.Need-onward-requires
 onward-requires c κs =
     let z = c .before .before .before .before .before .before in
     let l = line-there (now (z .args .words)) (z .args .near) (omega (arith, z .pre .lines-are)) in
     (omega (arith, l, z .good), c .stride .ensures)
 
-returns-2 : tie.Need-returns-2
-returns-2 c = search needs
-
 pub guess-spec : {M : Type 1} → statement M
-guess-spec = tie.close (tie.spec returns word-at-requires word-at-requires-2 stride-requires onward-requires returns-2)
+guess-spec = tie.close (tie.spec (λ c. search needs) word-at-requires word-at-requires-2 (λ c κs. search needs) onward-requires (λ c. search needs))

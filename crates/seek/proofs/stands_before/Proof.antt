@@ -8,20 +8,11 @@ use borrow.Author.Needs.{needs}
 use Rattle.seek.proofs.stands_before.Statement.{statement}
 use Rattle.seek.proofs.stands_before.Tie as tie
 
-word-at-requires : tie.Need-word-at-requires
-word-at-requires c κs = search needs
-
 returns : tie.Need-returns
 returns c = let a = c .before .before .before .args in before-first (now (a .words)) (a .i) (a .r) (a .l) (rw (c .before .word-at .ensures) at (c .if1 .taken))
 
 returns-2 : tie.Need-returns-2
 returns-2 c = let a = c .before .before .before .before .args in behind-first (now (a .words)) (a .i) (a .r) (a .l) (rw (c .before .before .word-at .ensures) at (c .if2 .taken))
-
-word-at-requires-2 : tie.Need-word-at-requires-2
-word-at-requires-2 c κs = search needs
-
-up-requires : tie.Need-up-requires
-up-requires c κs = search needs
 
 returns-3 : tie.Need-returns-3
 returns-3 c =
@@ -32,6 +23,4 @@ returns-3 c =
     ∙ before-second (now (a .words)) (a .i) (a .r) (a .l) (omega (arith, e, c .before .before .if2 .left, c .before .before .before .if1 .left))
 
 pub stands-before-spec : {M : Type 1} → statement M
-stands-before-spec =
-    tie.close
-    (tie.spec word-at-requires returns returns-2 word-at-requires-2 up-requires returns-3)
+stands-before-spec = tie.close (tie.spec (λ c κs. search needs) returns returns-2 (λ c κs. search needs) (λ c κs. search needs) returns-3)

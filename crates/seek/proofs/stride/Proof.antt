@@ -7,18 +7,6 @@ use Rattle.definitions.specs.Presentation.{maxGenerators, maxOrder}
 use Rattle.seek.proofs.stride.Statement.{statement}
 use Rattle.seek.proofs.stride.Tie as tie
 
-up-requires : tie.Need-up-requires
-up-requires c κs = search needs
-
-returns : tie.Need-returns
-returns c = search needs
-
-up-requires-2 : tie.Need-up-requires-2
-up-requires-2 c κs = search needs
-
-up-requires-3 : tie.Need-up-requires-3
-up-requires-3 c κs = search needs
-
 mul-result : tie.Need-mul-result
 mul-result c =
     let g : c .before .up2 .result ≤ maxGenerators = omega arith in
@@ -32,4 +20,4 @@ returns-2 c =
     mul-le-mul g d
 
 pub stride-spec : {M : Type 1} → statement M
-stride-spec = tie.close (tie.spec up-requires returns up-requires-2 up-requires-3 mul-result returns-2)
+stride-spec = tie.close (tie.spec (λ c κs. search needs) (λ c. search needs) (λ c κs. search needs) (λ c κs. search needs) mul-result returns-2)

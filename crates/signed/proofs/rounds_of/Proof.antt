@@ -6,20 +6,11 @@ use borrow.Author.Needs.{needs}
 use Rattle.signed.proofs.rounds_of.Statement.{statement}
 use Rattle.signed.proofs.rounds_of.Tie as tie
 
-div-whole : tie.Need-div-whole
-div-whole c = search needs
-
 cast-whole : tie.Need-cast-whole
 cast-whole c = record { fits = omega (arith, rounds-fit (c .args .k .size) (c .args .length) (omega (arith, c .good))) }
 
 add-t7 : tie.Need-add-t7
 add-t7 c = let z = c .before in record { fits = omega (arith, rounds-fit (z .args .k .size) (z .args .length) (omega (arith, z .good))) }
-
-sub-t8 : tie.Need-sub-t8
-sub-t8 c = search needs
-
-rem-t9 : tie.Need-rem-t9
-rem-t9 c = search needs
 
 sub-t10 : tie.Need-sub-t10
 sub-t10 c = omega (arith, mod-lt (c .before .args .k .size) (c .before .pre))
@@ -27,11 +18,10 @@ sub-t10 c = omega (arith, mod-lt (c .before .args .k .size) (c .before .pre))
 returns : tie.Need-returns
 returns c = let z = c .before in rounds-back (z .args .k) (z .args .length) (z .pre) (omega (arith, z .good)) (c .if1 .taken)
 
-rem-t5 : tie.Need-rem-t5
-rem-t5 c = search needs
-
 returns-2 : tie.Need-returns-2
 returns-2 c = let z = c .before in rounds-forward (z .args .k) (z .args .length) (z .pre) (omega (arith, z .good)) (c .if1 .left)
 
 pub rounds-of-spec : {M : Type 1} → statement M
-rounds-of-spec = tie.close (tie.spec div-whole cast-whole add-t7 sub-t8 rem-t9 sub-t10 returns rem-t5 returns-2)
+rounds-of-spec =
+    tie.close
+    (tie.spec (λ c. search needs) cast-whole add-t7 (λ c. search needs) (λ c. search needs) sub-t10 returns (λ c. search needs) returns-2)

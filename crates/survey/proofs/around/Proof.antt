@@ -37,12 +37,6 @@ loop-holds c = let z = c .before .before in
 carry-requires : tie.Need-carry-requires Inv-loop μ-loop
 carry-requires c κs = let z = c .before .before .before .before in (z .pre .0 .stands, z .pre .1, c .before .loop .inv .4)
 
-add-k : tie.Need-add-k Inv-loop μ-loop
-add-k c = search needs
-
-loop-less : tie.Need-loop-less Inv-loop μ-loop
-loop-less c = search needs
-
 loop-again : tie.Need-loop-again Inv-loop μ-loop
 loop-again c = let z = c .before .before .before .before .before in
     let l = c .before .before .loop in
@@ -65,4 +59,4 @@ returns c = let z = c .before .before .before .before .before in
     )
 
 pub around-spec : {M : Type 1} → statement M
-around-spec = tie.close (tie.spec Inv-loop μ-loop loop-holds carry-requires add-k loop-less loop-again returns)
+around-spec = tie.close (tie.spec Inv-loop μ-loop loop-holds carry-requires (λ c. search needs) (λ c. search needs) loop-again returns)

@@ -9,9 +9,6 @@ use borrow.Author.Needs.{needs}
 use Rattle.survey.proofs.carry.Statement.{statement}
 use Rattle.survey.proofs.carry.Tie as tie
 
-member-requires : tie.Need-member-requires
-member-requires c κs = search needs
-
 target-requires : tie.Need-target-requires
 target-requires c κs = let z = c .before .before .before in
     (z .args .f .m, located-stored (c .member .ensures) (suc (z .args .f .top)) (z .pre .0 .gens .0))
@@ -35,4 +32,4 @@ returns c = let z = c .before .before .before .before .before in
     }
 
 pub carry-spec : {M : Type 1} → statement M
-carry-spec = tie.close (tie.spec member-requires target-requires moved-requires returns)
+carry-spec = tie.close (tie.spec (λ c κs. search needs) target-requires moved-requires returns)

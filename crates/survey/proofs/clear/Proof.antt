@@ -28,12 +28,6 @@ put-note-requires c κs = let z = c .before .before .before .before in
       rows = omega (arith, rows-stay (z .args .reps) 1 1 (now (z .args .notes)) (l .notes) (l .inv .1 .len) (z .pre));
     }
 
-add-k : tie.Need-add-k Inv-loop μ-loop
-add-k c = search needs
-
-loop-less : tie.Need-loop-less Inv-loop μ-loop
-loop-less c = search needs
-
 loop-again : tie.Need-loop-again Inv-loop μ-loop
 loop-again c = let z = c .before .before .before .before .before .before .before in
     let l = c .before .before .before .before .before .loop in
@@ -48,4 +42,4 @@ returns : tie.Need-returns Inv-loop μ-loop
 returns c = let l = c .before .loop in record { beside = l .inv .1; unmarked = λ q h. l .inv .2 q (omega arith) }
 
 pub clear-spec : {M : Type 1} → statement M
-clear-spec = tie.close (tie.spec Inv-loop μ-loop loop-holds put-note-requires add-k loop-less loop-again same-length returns)
+clear-spec = tie.close (tie.spec Inv-loop μ-loop loop-holds put-note-requires (λ c. search needs) (λ c. search needs) loop-again same-length returns)

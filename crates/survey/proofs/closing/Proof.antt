@@ -7,9 +7,6 @@ use borrow.Author.Needs.{needs}
 use Rattle.survey.proofs.closing.Statement.{statement}
 use Rattle.survey.proofs.closing.Tie as tie
 
-listed-requires : tie.Need-listed-requires
-listed-requires c κs = search needs
-
 around-requires : tie.Need-around-requires
 around-requires c κs = (c .listed .ensures, c .before .before .before .pre .1)
 
@@ -44,4 +41,4 @@ returns-2 c = let o = c .before .before .before in
     (closing-walked (a .f) (now (a .low)) (now (a .u)) (a .n) (a .r) (z .pre .3) L (c .before .walked .ensures .0) (o .around .ensures .0) (e .0), e .1)
 
 pub closing-spec : {M : Type 1} → statement M
-closing-spec = tie.close (tie.spec listed-requires around-requires sub-mod-requires returns walked-requires sub-mod-requires-2 returns-2)
+closing-spec = tie.close (tie.spec (λ c κs. search needs) around-requires sub-mod-requires returns walked-requires sub-mod-requires-2 returns-2)

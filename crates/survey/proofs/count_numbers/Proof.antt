@@ -43,12 +43,6 @@ add-c c = let t = c .before .before .before .before .before .before .before in
     let fits = number-fits (z .args .f) W (z .pre .0) (l .r + 1) (search needs) in
     omega (arith, l .inv .3, c .made .ensures, number-next (z .args .f) W (l .r), fits)
 
-add-r : tie.Need-add-r Inv-loop μ-loop
-add-r c = search needs
-
-loop-less : tie.Need-loop-less Inv-loop μ-loop
-loop-less c = search needs
-
 loop-again : tie.Need-loop-again Inv-loop μ-loop
 loop-again c = let t = c .before .before .before .before .before .before .before in
     let z = t .before .before .before in
@@ -75,4 +69,6 @@ returns c = let z = c .before .before .before .before in
     )
 
 pub count-numbers-spec : {M : Type 1} → statement M
-count-numbers-spec = tie.close (tie.spec Inv-loop μ-loop loop-holds put-note-requires made-requires add-c add-r loop-less loop-again same-length returns)
+count-numbers-spec =
+    tie.close
+    (tie.spec Inv-loop μ-loop loop-holds put-note-requires made-requires add-c (λ c. search needs) (λ c. search needs) loop-again same-length returns)

@@ -58,7 +58,4 @@ returns : tie.Need-returns Inv-loop μ-loop
 returns c = (firsts-all (c .before .loop .inv .2) (omega arith), c .before .loop .inv .0)
 
 pub find-lines-spec : {M : Type 1} → statement M
-find-lines-spec =
-    tie.close
-    (tie.spec
-    Inv-loop μ-loop loop-holds representation-requires note-run-requires loop-less loop-again same-length returns)
+find-lines-spec = tie.close (tie.spec Inv-loop μ-loop loop-holds representation-requires note-run-requires loop-less loop-again same-length returns)

@@ -32,12 +32,6 @@ put-note-requires c κs = let z = c .before .before .before .before .before .bef
     let l = c .before .before .before .before .loop in
     inside-orbited 4 (omega arith) (z .pre .1) (l .inv .2 .len) (l .r) (search needs)
 
-add-r : tie.Need-add-r Inv-loop μ-loop
-add-r c = search needs
-
-loop-less : tie.Need-loop-less Inv-loop μ-loop
-loop-less c = search needs
-
 loop-again : tie.Need-loop-again Inv-loop μ-loop
 loop-again c = let t = c .before .before .before .before .before .before .before in
     let z = t .before .before .before in
@@ -58,4 +52,6 @@ returns c = let z = c .before .before .before .before in
     (record { long = long; at = λ k h. l .inv .3 k (omega (arith, e)) }, l .inv .2)
 
 pub find-shifts-spec : {M : Type 1} → statement M
-find-shifts-spec = tie.close (tie.spec Inv-loop μ-loop loop-holds leading-requires put-note-requires add-r loop-less loop-again same-length returns)
+find-shifts-spec =
+    tie.close
+    (tie.spec Inv-loop μ-loop loop-holds leading-requires put-note-requires (λ c. search needs) (λ c. search needs) loop-again same-length returns)

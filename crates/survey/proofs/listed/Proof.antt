@@ -13,9 +13,6 @@ use Rattle.survey.proofs.listed.Tie as tie
 note-requires : tie.Need-note-requires
 note-requires c κs = let z = c .before .before in inside-array 0 (now (z .args .notes)) _ (omega arith) (z .pre .1) (z .args .r) (z .pre .2)
 
-up-requires : tie.Need-up-requires
-up-requires c κs = search needs
-
 representation-requires : tie.Need-representation-requires
 representation-requires c κs = let z = c .before .before .before .before in
     let e : c .up .result ≡ firstOf (z .args .f) (now (z .args .low)) (z .args .r) = c .up .ensures ∙ c .before .note .ensures
@@ -34,4 +31,4 @@ returns c = let z = c .before .before .before .before .before in
     }
 
 pub listed-spec : {M : Type 1} → statement M
-listed-spec = tie.close (tie.spec note-requires up-requires representation-requires returns)
+listed-spec = tie.close (tie.spec note-requires (λ c κs. search needs) representation-requires returns)

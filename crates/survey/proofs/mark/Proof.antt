@@ -8,19 +8,10 @@ use borrow.Author.Needs.{needs}
 use Rattle.survey.proofs.mark.Statement.{statement}
 use Rattle.survey.proofs.mark.Tie as tie
 
-note-requires : tie.Need-note-requires
-note-requires c κs = search needs
-
-put-note-requires : tie.Need-put-note-requires
-put-note-requires c κs = search needs
-
 put-note-requires-2 : tie.Need-put-note-requires-2
 put-note-requires-2 c κs = let s = c .before .before .before in
     let z = s .before .before .before .before .before .before in
     inside-other 1 2 (z .args .q) (now (z .args .notes)) _ (omega arith) (s .put-note .ensures .len) (z .pre)
-
-same-length : tie.Need-same-length
-same-length c = search needs
 
 returns : tie.Need-returns
 returns c = let s = c .before .before .before .before .before .before in
@@ -38,9 +29,6 @@ returns c = let s = c .before .before .before .before .before .before in
       stale = λ n. absurd (n (sym (i .before .note .ensures) ∙ i .if1 .taken));
     }
 
-same-length-2 : tie.Need-same-length-2
-same-length-2 c = search needs
-
 returns-2 : tie.Need-returns-2
 returns-2 c = record {
   len = refl;
@@ -50,4 +38,6 @@ returns-2 c = record {
 }
 
 pub mark-spec : {M : Type 1} → statement M
-mark-spec = tie.close (tie.spec note-requires put-note-requires put-note-requires-2 same-length returns same-length-2 returns-2)
+mark-spec =
+    tie.close
+    (tie.spec (λ c κs. search needs) (λ c κs. search needs) put-note-requires-2 (λ c. search needs) returns (λ c. search needs) returns-2)

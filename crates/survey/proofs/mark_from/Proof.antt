@@ -18,9 +18,6 @@ mark-orbit-requires c κs = let z = c .before .before .before .before .before .b
     let own = marking-own (z .args .f) (now (z .args .low)) (z .pre .0 .0) (z .args .r) _ _ (z .pre .0 .2) u (z .pre .1) in
     ((z .pre .0 .0, z .pre .0 .1, z .pre .0 .2, own), z .pre .1)
 
-same-length : tie.Need-same-length
-same-length c = search needs
-
 returns : tie.Need-returns
 returns c = let i = c .before .before .before .before in
     let z = i .before .before .before .before .before .before in
@@ -30,9 +27,6 @@ returns c = let i = c .before .before .before .before in
     let M = marking-done (z .args .f) (now (z .args .low)) (z .pre .0 .0) (z .args .r) (z .pre .0 .2) own _ _ (e .marks) in
     record { marks = M; lines = e .lines; len = e .len }
 
-same-length-2 : tie.Need-same-length-2
-same-length-2 c = search needs
-
 returns-2 : tie.Need-returns-2
 returns-2 c = let z = c .before .before .before .before .before .before in
     let M = marking-skip (z .args .f) (now (z .args .low)) (z .pre .0 .0) (z .args .r) _ _ (z .pre .0 .2)
@@ -40,4 +34,4 @@ returns-2 c = let z = c .before .before .before .before .before .before in
     record { marks = M; lines = refl; len = refl }
 
 pub mark-from-spec : {M : Type 1} → statement M
-mark-from-spec = tie.close (tie.spec note-requires mark-orbit-requires same-length returns same-length-2 returns-2)
+mark-from-spec = tie.close (tie.spec note-requires mark-orbit-requires (λ c. search needs) returns (λ c. search needs) returns-2)

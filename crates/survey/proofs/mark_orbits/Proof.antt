@@ -38,12 +38,6 @@ mark-from-requires c κs = let z = c .before .before .before .before .before .be
     let e = l .inv .2 .lines ∙ c .before .before .before .before .before .clear .ensures .beside .kept 0 (omega arith) (λ e. omega (arith, e)) in
     ((z .pre .0, subst (Lines (z .args .f) (now (z .args .low))) (sym e) (z .pre .1), search needs), l .inv .2 .marks)
 
-add-r : tie.Need-add-r Inv-loop μ-loop
-add-r c = search needs
-
-loop-less : tie.Need-loop-less Inv-loop μ-loop
-loop-less c = search needs
-
 loop-again : tie.Need-loop-again Inv-loop μ-loop
 loop-again c = let M = c .before .before .mark-from .ensures in
     let l = c .before .before .before .before .before .loop in
@@ -65,4 +59,6 @@ returns c = let z = c .before .before .before .before .before .before .before .b
     (record { lines = subst (Lines f W) (sym first) (z .pre .1); leaders-are = A .0; places-are = A .1 }, M .len ∙ C .len)
 
 pub mark-orbits-spec : {M : Type 1} → statement M
-mark-orbits-spec = tie.close (tie.spec Inv-loop μ-loop clear-requires loop-holds mark-from-requires add-r loop-less loop-again same-length returns)
+mark-orbits-spec =
+    tie.close
+    (tie.spec Inv-loop μ-loop clear-requires loop-holds mark-from-requires (λ c. search needs) (λ c. search needs) loop-again same-length returns)

@@ -11,9 +11,6 @@ use Rattle.survey.proofs.member.Tie as tie
 note-requires : tie.Need-note-requires
 note-requires c κs = let z = c .before .before in inside-array 0 (now (z .args .notes)) _ (omega arith) (z .pre .1) (z .args .r) (z .pre .2)
 
-up-requires : tie.Need-up-requires
-up-requires c κs = search needs
-
 returns : tie.Need-returns
 returns c = let z = c .before .before .before .before in
     let e : c .up .result ≡ firstOf (z .args .f) (now (z .args .low)) (z .args .r) = c .up .ensures ∙ c .before .note .ensures
@@ -21,4 +18,4 @@ returns c = let z = c .before .before .before .before in
     record { stands = z .pre .0; listed = z .pre .2; is = ap₂ (λ l d. record { line = l; deg = d }) e (z .pre .3) }
 
 pub member-spec : {M : Type 1} → statement M
-member-spec = tie.close (tie.spec note-requires up-requires returns)
+member-spec = tie.close (tie.spec note-requires (λ c κs. search needs) returns)

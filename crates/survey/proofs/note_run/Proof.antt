@@ -70,12 +70,6 @@ add-line c =
     let z = at-loop .before .before .before .before .before in
     omega (arith, run-small (z .pre .0) (at-loop .loop .inv .1) (at-if1 .if1 .taken), at-loop .loop .inv .0)
 
-add-q : tie.Need-add-q Inv-loop μ-loop
-add-q c = search needs
-
-loop-less : tie.Need-loop-less Inv-loop μ-loop
-loop-less c = search needs
-
 loop-again : tie.Need-loop-again Inv-loop μ-loop
 loop-again c =
     let at-put-note = c .before .before in
@@ -100,6 +94,5 @@ returns-2 c =
 pub note-run-spec : {M : Type 1} → statement M
 note-run-spec =
     tie.close
-    (tie.spec
-    Inv-loop μ-loop matrix-line-requires sub-step loop-holds word-at-requires same-length returns cast-put-note put-note-requires
-    add-line add-q loop-less loop-again same-length-2 returns-2)
+    (tie.spec Inv-loop μ-loop matrix-line-requires sub-step loop-holds word-at-requires same-length returns cast-put-note put-note-requires add-line
+    (λ c. search needs) (λ c. search needs) loop-again same-length-2 returns-2)

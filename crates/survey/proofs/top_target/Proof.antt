@@ -6,9 +6,6 @@ use borrow.Author.Needs.{needs}
 use Rattle.survey.proofs.top_target.Statement.{statement}
 use Rattle.survey.proofs.top_target.Tie as tie
 
-listed-requires : tie.Need-listed-requires
-listed-requires c κs = search needs
-
 target-requires : tie.Need-target-requires
 target-requires c κs = let z = c .before .before .before in
     (z .args .f .m, located-stored (c .listed .ensures) (suc (z .args .f .top)) (z .pre .0 .gens .0))
@@ -18,4 +15,4 @@ returns c = let z = c .before .before .before .before in
     located-target (c .before .listed .ensures) (z .args .f .top) _ (le-refl _) (z .pre .0 .gens .0) (c .target .ensures) .0
 
 pub top-target-spec : {M : Type 1} → statement M
-top-target-spec = tie.close (tie.spec listed-requires target-requires returns)
+top-target-spec = tie.close (tie.spec (λ c κs. search needs) target-requires returns)

@@ -15,22 +15,10 @@ abbrev μ-loop : tie.MeasureT-loop
 loop-holds : tie.Need-loop-holds Inv-loop μ-loop
 loop-holds c = counted-none
 
-shared-slice-read-is-newline : tie.Need-shared-slice-read-is-newline Inv-loop μ-loop
-shared-slice-read-is-newline c = omega arith
-
-is-newline-requires : tie.Need-is-newline-requires Inv-loop μ-loop
-is-newline-requires c κs = tt
-
 add-n : tie.Need-add-n Inv-loop μ-loop
 add-n c =
     let h = counted-more (c .before .before .before .loop .inv) (omega arith) (c .is-newline .ensures) in
     omega (arith, h .few, h .within)
-
-add-i : tie.Need-add-i Inv-loop μ-loop
-add-i c = omega arith
-
-loop-less : tie.Need-loop-less Inv-loop μ-loop
-loop-less c = omega arith
 
 loop-again : tie.Need-loop-again Inv-loop μ-loop
 loop-again c = counted-more (c .before .before .before .loop .inv) (omega arith) (c .is-newline .ensures)
@@ -41,14 +29,4 @@ returns c = counted-all (c .before .loop .inv) (omega arith)
 pub count-newlines-spec : {M : Type 1} → statement M
 count-newlines-spec =
     tie.close
-    (tie.spec
-    Inv-loop
-    μ-loop
-    loop-holds
-    shared-slice-read-is-newline
-    is-newline-requires
-    add-n
-    add-i
-    loop-less
-    loop-again
-    returns)
+    (tie.spec Inv-loop μ-loop loop-holds (λ c. omega arith) (λ c κs. tt) add-n (λ c. omega arith) (λ c. omega arith) loop-again returns)

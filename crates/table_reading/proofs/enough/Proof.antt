@@ -8,11 +8,8 @@ use Rattle.table_reading.proofs.enough.Tie as tie
 returns : tie.Need-returns
 returns c = enough-none (c .before .args .have) (c .before .args .lines) (c .if1 .taken)
 
-sub-result : tie.Need-sub-result
-sub-result c = search needs
-
 returns-2 : tie.Need-returns-2
 returns-2 c = enough-some (c .before .args .have) (c .before .args .lines) (omega arith)
 
 pub enough-spec : {M : Type 1} → statement M
-enough-spec = tie.close (tie.spec returns sub-result returns-2)
+enough-spec = tie.close (tie.spec returns (λ c. search needs) returns-2)

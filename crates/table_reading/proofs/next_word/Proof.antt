@@ -8,23 +8,8 @@ use borrow.Author.Needs.{needs}
 use Rattle.table_reading.proofs.next_word.Statement.{statement}
 use Rattle.table_reading.proofs.next_word.Tie as tie
 
-value-requires : tie.Need-value-requires
-value-requires c κs = search needs
-
-enum-known-v : tie.Need-enum-known-v
-enum-known-v c = search needs
-
-enum-told : tie.Need-enum-told
-enum-told c = search needs
-
 returns : tie.Need-returns
 returns c = word-none _ (c .before .before .value .ensures .fails (c .enum-told .given .1))
-
-byte-at-requires : tie.Need-byte-at-requires
-byte-at-requires c κs = search needs
-
-separator-requires : tie.Need-separator-requires
-separator-requires c κs = search needs
 
 returns-2 : tie.Need-returns-2
 returns-2 c =
@@ -48,13 +33,5 @@ returns-3 c =
 pub next-word-spec : {M : Type 1} → statement M
 next-word-spec =
     tie.close
-    (tie.spec
-    value-requires
-    enum-known-v
-    enum-told
-    returns
-    byte-at-requires
-    separator-requires
-    returns-2
-    add-t10
+    (tie.spec (λ c κs. search needs) (λ c. search needs) (λ c. search needs) returns (λ c κs. search needs) (λ c κs. search needs) returns-2 add-t10
     returns-3)

@@ -7,22 +7,10 @@ use borrow.Author.Needs.{needs}
 use Rattle.table_reading.proofs.read_table.Statement.{statement}
 use Rattle.table_reading.proofs.read_table.Tie as tie
 
-count-newlines-requires : tie.Need-count-newlines-requires
-count-newlines-requires c κs = search needs
-
-enough-requires : tie.Need-enough-requires
-enough-requires c κs = search needs
-
 returns : tie.Need-returns
 returns c =
     let e = c .before in
     read-short _ _ (short (e .before .count-newlines .ensures) (e .enough .ensures) (not-true _ (c .if1 .taken)))
-
-slice-aggregate-starts : tie.Need-slice-aggregate-starts
-slice-aggregate-starts c = search needs
-
-starts-requires : tie.Need-starts-requires
-starts-requires c κs = search needs
 
 returns-2 : tie.Need-returns-2
 returns-2 c =
@@ -50,9 +38,6 @@ fill-requires c κs =
     let formed = c .before .before .in-form .ensures .stands (not-false _ (c .before .if3 .left)) in
     read-room (s .before .starts .ensures .0 (not-false _ (s .if2 .left))) formed room
 
-same-length : tie.Need-same-length
-same-length c = search needs
-
 returns-4 : tie.Need-returns-4
 returns-4 c =
     let f = c .before .before in
@@ -65,15 +50,5 @@ returns-4 c =
 pub read-table-spec : {M : Type 1} → statement M
 read-table-spec =
     tie.close
-    (tie.spec
-    count-newlines-requires
-    enough-requires
-    returns
-    slice-aggregate-starts
-    starts-requires
-    returns-2
-    in-form-requires
-    returns-3
-    fill-requires
-    same-length
-    returns-4)
+    (tie.spec (λ c κs. search needs) (λ c κs. search needs) returns (λ c. search needs) (λ c κs. search needs) returns-2 in-form-requires returns-3
+    fill-requires (λ c. search needs) returns-4)

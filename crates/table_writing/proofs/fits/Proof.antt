@@ -18,27 +18,6 @@ loop-holds c = measured-none
 returns : tie.Need-returns Inv-loop μ-loop
 returns c = measured-over (c .before .before .loop .inv) (c .before .before .before .before .args .have) (omega arith)
 
-mul-width : tie.Need-mul-width Inv-loop μ-loop
-mul-width c = omega arith
-
-shared-slice-read-width : tie.Need-shared-slice-read-width Inv-loop μ-loop
-shared-slice-read-width c = omega arith
-
-width-requires : tie.Need-width-requires Inv-loop μ-loop
-width-requires c κs = tt
-
-add-total : tie.Need-add-total Inv-loop μ-loop
-add-total c = omega arith
-
-add-total-2 : tie.Need-add-total-2 Inv-loop μ-loop
-add-total-2 c = omega arith
-
-add-k : tie.Need-add-k Inv-loop μ-loop
-add-k c = omega arith
-
-loop-less : tie.Need-loop-less Inv-loop μ-loop
-loop-less c = omega arith
-
 loop-again : tie.Need-loop-again Inv-loop μ-loop
 loop-again c = measured-more (c .before .before .before .before .loop .inv) (omega arith) (c .width .ensures .0)
 
@@ -48,17 +27,5 @@ returns-2 c = measured-all (c .before .loop .inv) (c .before .before .before .ar
 pub fits-spec : {M : Type 1} → statement M
 fits-spec =
     tie.close
-    (tie.spec
-    Inv-loop
-    μ-loop
-    loop-holds
-    returns
-    mul-width
-    shared-slice-read-width
-    width-requires
-    add-total
-    add-total-2
-    add-k
-    loop-less
-    loop-again
-    returns-2)
+    (tie.spec Inv-loop μ-loop loop-holds returns (λ c. omega arith) (λ c. omega arith) (λ c κs. tt) (λ c. omega arith) (λ c. omega arith)
+    (λ c. omega arith) (λ c. omega arith) loop-again returns-2)

@@ -16,29 +16,14 @@ abbrev μ-loop : tie.MeasureT-loop
 loop-holds : tie.Need-loop-holds Inv-loop μ-loop
 loop-holds c = written-none (c .before .before .pre)
 
-mul-put-value : tie.Need-mul-put-value Inv-loop μ-loop
-mul-put-value c = omega arith
-
-shared-slice-read-put-value : tie.Need-shared-slice-read-put-value Inv-loop μ-loop
-shared-slice-read-put-value c = omega arith
-
 put-value-requires : tie.Need-put-value-requires Inv-loop μ-loop
 put-value-requires c κs = omega (arith, written-room (c .before .before .before .loop .inv) (omega arith))
-
-separator-requires : tie.Need-separator-requires Inv-loop μ-loop
-separator-requires c κs = tt
 
 put-byte-requires : tie.Need-put-byte-requires Inv-loop μ-loop
 put-byte-requires c κs =
     let v = c .before .before .before .before in
     let w = v .put-value .ensures in
     omega (arith, written-room (v .before .before .before .before .loop .inv) (omega arith), w .end, wrote-length w)
-
-add-k : tie.Need-add-k Inv-loop μ-loop
-add-k c = omega arith
-
-loop-less : tie.Need-loop-less Inv-loop μ-loop
-loop-less c = omega arith
 
 loop-again : tie.Need-loop-again Inv-loop μ-loop
 loop-again c =
@@ -55,17 +40,5 @@ returns c = written-all (c .before .loop .inv) (omega arith)
 pub put-words-spec : {M : Type 1} → statement M
 put-words-spec =
     tie.close
-    (tie.spec
-    Inv-loop
-    μ-loop
-    loop-holds
-    mul-put-value
-    shared-slice-read-put-value
-    put-value-requires
-    separator-requires
-    put-byte-requires
-    add-k
-    loop-less
-    loop-again
-    same-length
-    returns)
+    (tie.spec Inv-loop μ-loop loop-holds (λ c. omega arith) (λ c. omega arith) put-value-requires (λ c κs. tt) put-byte-requires (λ c. omega arith)
+    (λ c. omega arith) loop-again same-length returns)

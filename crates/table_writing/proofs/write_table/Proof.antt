@@ -11,23 +11,14 @@ use Rattle.table_writing.proofs.write_table.Tie as tie
 returns : tie.Need-returns
 returns c = write-part _ _ (c .if1 .taken)
 
-all-small-requires : tie.Need-all-small-requires
-all-small-requires c κs = search needs
-
 returns-2 : tie.Need-returns-2
 returns-2 c = write-large _ _ (sym (c .before .all-small .ensures) ∙ not-true _ (c .if2 .taken))
-
-fits-requires : tie.Need-fits-requires
-fits-requires c κs = search needs
 
 returns-3 : tie.Need-returns-3
 returns-3 c =
     let s = c .before .before in
     let few = sym (s .before .all-small .ensures) ∙ not-false _ (s .if2 .left) in
     write-short _ _ (s .before .before .if1 .left) few (sym (c .before .fits2 .ensures) ∙ not-true _ (c .if3 .taken))
-
-slice-aggregate-put-bytes : tie.Need-slice-aggregate-put-bytes
-slice-aggregate-put-bytes c = search needs
 
 put-bytes-requires : tie.Need-put-bytes-requires
 put-bytes-requires c κs =
@@ -42,9 +33,6 @@ put-words-requires c κs =
     let a = f .before .before .before .before .before .before .before .args in
     omega (arith, p .end, wrote-length p, write-room (a .words .now) (a .out .now) (f .before .fits2 .ensures) (not-false _ (f .if3 .left)))
 
-same-length : tie.Need-same-length
-same-length c = search needs
-
 returns-4 : tie.Need-returns-4
 returns-4 c =
     let p = c .before .before .before .before .before .before in
@@ -55,14 +43,5 @@ returns-4 c =
 pub write-table-spec : {M : Type 1} → statement M
 write-table-spec =
     tie.close
-    (tie.spec
-    returns
-    all-small-requires
-    returns-2
-    fits-requires
-    returns-3
-    slice-aggregate-put-bytes
-    put-bytes-requires
-    put-words-requires
-    same-length
-    returns-4)
+    (tie.spec returns (λ c κs. search needs) returns-2 (λ c κs. search needs) returns-3 (λ c. search needs) put-bytes-requires put-words-requires
+    (λ c. search needs) returns-4)

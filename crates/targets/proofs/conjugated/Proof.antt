@@ -17,21 +17,12 @@ use borrow.Author.Needs.{needs}
 use Rattle.targets.proofs.conjugated.Statement.{statement}
 use Rattle.targets.proofs.conjugated.Tie as tie
 
-up-requires : tie.Need-up-requires
-up-requires c κs = search needs
-
 walked-requires : tie.Need-walked-requires
 walked-requires c κs = let z = c .before .before in (
   omega (arith, c .up .ensures),
   stored-fewer (c .up .result) (omega (arith, c .up .ensures)) (z .pre .0),
   record { row = z .pre .0 .positive; exp = omega arith },
 )
-
-mul-k : tie.Need-mul-k
-mul-k c = search needs
-
-element-copy-out-k : tie.Need-element-copy-out-k
-element-copy-out-k c = search needs
 
 add-scaled-times : tie.Need-add-scaled-times
 add-scaled-times c = let z = c .before .before .before .before in
@@ -53,4 +44,6 @@ returns c = let up′ = c .before .before .before .up in
     (c .scaled-times .ensures .0 ∙ ap₂ (λ i x. iter F i x) (ap (λ i. i + 1) k ∙ add-one _) x, c .scaled-times .ensures .1)
 
 pub conjugated-spec : {M : Type 1} → statement M
-conjugated-spec = tie.close (tie.spec up-requires walked-requires mul-k element-copy-out-k add-scaled-times scaled-times-requires returns)
+conjugated-spec =
+    tie.close
+    (tie.spec (λ c κs. search needs) walked-requires (λ c. search needs) (λ c. search needs) add-scaled-times scaled-times-requires returns)

@@ -65,12 +65,6 @@ put-requires-2 c κs = let turn = c .before .before .before .before .before .bef
     let P = c .before .before .before .before .put .ensures in
     inside-targets (z .args .f .gens) 1 (omega arith) (omega (arith, P .len, l .inv .4, z .pre .3)) (search needs)
 
-add-j : tie.Need-add-j Inv-loop μ-loop
-add-j c = search needs
-
-loop-less : tie.Need-loop-less Inv-loop μ-loop
-loop-less c = search needs
-
 loop-again : tie.Need-loop-again Inv-loop μ-loop
 loop-again c = let late = c .before .before in
     let half = late .before .before .before .before .before in
@@ -110,6 +104,5 @@ returns c = let z = c .before .before .before .before .before .before .before in
 pub find-targets-spec : {M : Type 1} → statement M
 find-targets-spec =
     tie.close
-    (tie.spec
-    Inv-loop μ-loop listed-requires add-lo loop-holds target-requires note-requires put-requires landing-requires put-requires-2 add-j loop-less
-    loop-again same-length returns)
+    (tie.spec Inv-loop μ-loop listed-requires add-lo loop-holds target-requires note-requires put-requires landing-requires put-requires-2
+    (λ c. search needs) (λ c. search needs) loop-again same-length returns)

@@ -9,12 +9,6 @@ use borrow.Author.Needs.{needs}
 use Rattle.targets.proofs.landing.Statement.{statement}
 use Rattle.targets.proofs.landing.Tie as tie
 
-up-requires : tie.Need-up-requires
-up-requires c κs = search needs
-
-up-requires-2 : tie.Need-up-requires-2
-up-requires-2 c κs = search needs
-
 word-requires : tie.Need-word-requires
 word-requires c κs = let A = c .before .before .before .before .pre in
     omega (arith, c .before .up .ensures, c .up2 .ensures, A .surveyed .sound .stands .gens, A .above, A .inside)
@@ -100,6 +94,5 @@ returns c = let half = c .before .before .before .before .before .before in
 pub landing-spec : {M : Type 1} → statement M
 landing-spec =
     tie.close
-    (tie.spec
-    up-requires up-requires-2 word-requires root-requires conjugated-requires moved-requires target-requires member-requires root-requires-2
-    through-requires sub-mod-requires div-result div-result-2 returns)
+    (tie.spec (λ c κs. search needs) (λ c κs. search needs) word-requires root-requires conjugated-requires moved-requires target-requires
+    member-requires root-requires-2 through-requires sub-mod-requires div-result div-result-2 returns)

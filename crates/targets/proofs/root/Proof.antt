@@ -6,12 +6,6 @@ use borrow.Author.Needs.{needs}
 use Rattle.targets.proofs.root.Statement.{statement}
 use Rattle.targets.proofs.root.Tie as tie
 
-note-requires : tie.Need-note-requires
-note-requires c κs = search needs
-
-div-result : tie.Need-div-result
-div-result c = search needs
-
 returns : tie.Need-returns
 returns c = let z = c .before .before .before in
     let f = z .args .f in
@@ -19,4 +13,4 @@ returns c = let z = c .before .before .before in
     (ap (λ x. x / f .p) e, subst (λ x. x / f .p < f .m) (sym e) (divide-below _ (f .p) (f .m) (z .pre .2)))
 
 pub root-spec : {M : Type 1} → statement M
-root-spec = tie.close (tie.spec note-requires div-result returns)
+root-spec = tie.close (tie.spec (λ c κs. search needs) (λ c. search needs) returns)

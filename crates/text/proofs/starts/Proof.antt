@@ -14,33 +14,15 @@ Inv-loop text at s k₀ k = Matched text at s k
 abbrev μ-loop : tie.MeasureT-loop
 μ-loop text at s k₀ k = length s - k
 
-sub-if1 : tie.Need-sub-if1 Inv-loop μ-loop
-sub-if1 c = omega arith
-
 returns : tie.Need-returns Inv-loop μ-loop
 returns c = (λ e. absurd (false≢true e), λ h. absurd (starts-short (c .before .args .text .now) (c .before .args .at) (c .before .args .s .now) (omega arith) h))
 
 loop-holds : tie.Need-loop-holds Inv-loop μ-loop
 loop-holds c = matched-none (omega arith)
 
-add-if2 : tie.Need-add-if2 Inv-loop μ-loop
-add-if2 c = omega arith
-
-shared-slice-read-if2 : tie.Need-shared-slice-read-if2 Inv-loop μ-loop
-shared-slice-read-if2 c = omega arith
-
-shared-slice-read-if2-2 : tie.Need-shared-slice-read-if2-2 Inv-loop μ-loop
-shared-slice-read-if2-2 c = omega arith
-
 returns-2 : tie.Need-returns-2 Inv-loop μ-loop
 returns-2 c =
     (λ e. absurd (false≢true e), λ h. absurd (matched-other (c .before .before .before .before .loop .inv) (omega arith) (c .if2 .taken) h))
-
-add-k : tie.Need-add-k Inv-loop μ-loop
-add-k c = omega arith
-
-loop-less : tie.Need-loop-less Inv-loop μ-loop
-loop-less c = omega arith
 
 loop-again : tie.Need-loop-again Inv-loop μ-loop
 loop-again c = matched-more (c .before .before .before .before .loop .inv) (omega arith) (c .if2 .left)
@@ -51,17 +33,5 @@ returns-3 c = (λ e. matched-all (c .before .loop .inv) (omega arith), λ h. ref
 pub starts-spec : {M : Type 1} → statement M
 starts-spec =
     tie.close
-    (tie.spec
-    Inv-loop
-    μ-loop
-    sub-if1
-    returns
-    loop-holds
-    add-if2
-    shared-slice-read-if2
-    shared-slice-read-if2-2
-    returns-2
-    add-k
-    loop-less
-    loop-again
-    returns-3)
+    (tie.spec Inv-loop μ-loop (λ c. omega arith) returns loop-holds (λ c. omega arith) (λ c. omega arith) (λ c. omega arith) returns-2
+    (λ c. omega arith) (λ c. omega arith) loop-again returns-3)

@@ -13,17 +13,11 @@ Inv-loop text at v₀ i₀ d₀ v i d = Run text at v i d
 abbrev μ-loop : tie.MeasureT-loop
 μ-loop text at v₀ i₀ d₀ v i d = length text - i
 
-digit-at-requires : tie.Need-digit-at-requires Inv-loop μ-loop
-digit-at-requires c κs = search needs
-
 returns : tie.Need-returns Inv-loop μ-loop
 returns c = run-none (c .before .digit-at .ensures) (omega arith)
 
 add-i : tie.Need-add-i Inv-loop μ-loop
 add-i c = omega (arith, digit-within (c .before .digit-at .ensures) (omega arith))
-
-digit-at-requires-2 : tie.Need-digit-at-requires-2 Inv-loop μ-loop
-digit-at-requires-2 c κs = search needs
 
 loop-holds : tie.Need-loop-holds Inv-loop μ-loop
 loop-holds c =
@@ -35,17 +29,8 @@ returns-2 c = run-past (c .before .before .loop .inv) (omega arith) (λ p. omega
 returns-3 : tie.Need-returns-3 Inv-loop μ-loop
 returns-3 c = run-past (c .before .before .before .loop .inv) (omega arith) (λ p. omega arith)
 
-mul-v : tie.Need-mul-v Inv-loop μ-loop
-mul-v c = omega arith
-
-add-v : tie.Need-add-v Inv-loop μ-loop
-add-v c = omega arith
-
 add-i-2 : tie.Need-add-i-2 Inv-loop μ-loop
 add-i-2 c = omega (arith, run-within (c .before .before .before .loop .inv) (omega arith))
-
-digit-at-requires-3 : tie.Need-digit-at-requires-3 Inv-loop μ-loop
-digit-at-requires-3 c κs = search needs
 
 loop-less : tie.Need-loop-less Inv-loop μ-loop
 loop-less c =
@@ -61,20 +46,5 @@ returns-4 c = run-end (c .before .loop .inv) (omega arith)
 pub value-spec : {M : Type 1} → statement M
 value-spec =
     tie.close
-    (tie.spec
-    Inv-loop
-    μ-loop
-    digit-at-requires
-    returns
-    add-i
-    digit-at-requires-2
-    loop-holds
-    returns-2
-    returns-3
-    mul-v
-    add-v
-    add-i-2
-    digit-at-requires-3
-    loop-less
-    loop-again
-    returns-4)
+    (tie.spec Inv-loop μ-loop (λ c κs. search needs) returns add-i (λ c κs. search needs) loop-holds returns-2 returns-3 (λ c. omega arith)
+    (λ c. omega arith) add-i-2 (λ c κs. search needs) loop-less loop-again returns-4)

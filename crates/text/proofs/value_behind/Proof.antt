@@ -7,9 +7,6 @@ use borrow.Author.Needs.{needs}
 use Rattle.text.proofs.value_behind.Statement.{statement}
 use Rattle.text.proofs.value_behind.Tie as tie
 
-byte-at-requires : tie.Need-byte-at-requires
-byte-at-requires c κs = search needs
-
 returns : tie.Need-returns
 returns c =
     let a = c .before .before .before .args in
@@ -20,13 +17,10 @@ add-value c =
     let a = c .before .before .before .args in
     omega (arith, byte-within (a .text .now) (a .at) (omega arith))
 
-value-requires : tie.Need-value-requires
-value-requires c κs = search needs
-
 returns-2 : tie.Need-returns-2
 returns-2 c =
     let a = c .before .before .before .before .args in
     behind-some [] (a .text .now) (a .at) (a .b) (omega arith) (omega arith) (c .value .ensures)
 
 pub value-behind-spec : {M : Type 1} → statement M
-value-behind-spec = tie.close (tie.spec byte-at-requires returns add-value value-requires returns-2)
+value-behind-spec = tie.close (tie.spec (λ c κs. search needs) returns add-value (λ c κs. search needs) returns-2)

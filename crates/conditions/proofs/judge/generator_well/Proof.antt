@@ -17,19 +17,10 @@ abbrev μ-loop : tie.MeasureT-loop
 loop-holds : tie.Need-loop-holds Inv-loop μ-loop
 loop-holds c = tested-none
 
-pair-well-requires : tie.Need-pair-well-requires Inv-loop μ-loop
-pair-well-requires c κs = omega arith
-
 returns : tie.Need-returns Inv-loop μ-loop
 returns c =
     let t = c .before .pair-well in
     tested-fails (c .before .before .before .loop .inv) (omega arith) (sym (t .ensures) ∙ not-true (t .result) (c .if1 .taken))
-
-add-i : tie.Need-add-i Inv-loop μ-loop
-add-i c = omega arith
-
-loop-less : tie.Need-loop-less Inv-loop μ-loop
-loop-less c = omega arith
 
 loop-again : tie.Need-loop-again Inv-loop μ-loop
 loop-again c =
@@ -42,13 +33,4 @@ returns-2 c = tested-all (c .before .loop .inv) (omega arith)
 pub generator-well-spec : {M : Type 1} → statement M
 generator-well-spec =
     tie.close
-    (tie.spec
-    Inv-loop
-    μ-loop
-    loop-holds
-    pair-well-requires
-    returns
-    add-i
-    loop-less
-    loop-again
-    returns-2)
+    (tie.spec Inv-loop μ-loop loop-holds (λ c κs. omega arith) returns (λ c. omega arith) (λ c. omega arith) loop-again returns-2)

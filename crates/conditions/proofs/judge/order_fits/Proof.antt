@@ -18,15 +18,6 @@ abbrev μ-loop : tie.MeasureT-loop
 loop-holds : tie.Need-loop-holds Inv-loop μ-loop
 loop-holds c = (sym (product-zero (c .args .primes .now)), omega arith, omega arith)
 
-mul-wide : tie.Need-mul-wide Inv-loop μ-loop
-mul-wide c = omega arith
-
-element-copy-out-wide : tie.Need-element-copy-out-wide Inv-loop μ-loop
-element-copy-out-wide c = omega arith
-
-wide-requires : tie.Need-wide-requires Inv-loop μ-loop
-wide-requires c κs = tt
-
 mul-order : tie.Need-mul-order Inv-loop μ-loop
 mul-order c =
     omega (arith, mul-le-mul {n₁ = c .before .before .before .loop .order} {m₁ = c .wide .result} {n₂ = maxOrder} {m₂ = 4294967296} (omega arith) (omega arith))
@@ -38,12 +29,6 @@ returns c =
     let next = c .before .wide in
     let turn = product-turn (z .args .primes .now) (loop .j) (loop .order) (next .result) (loop .inv .0) (next .ensures .0) in
     sym (order-exceeds (z .args .primes .now) (loop .j + 1) (z .args .n) (loop .order * next .result) (omega arith) (z .pre .1) turn (omega arith))
-
-add-j : tie.Need-add-j Inv-loop μ-loop
-add-j c = omega arith
-
-loop-less : tie.Need-loop-less Inv-loop μ-loop
-loop-less c = omega arith
 
 loop-again : tie.Need-loop-again Inv-loop μ-loop
 loop-again c =
@@ -60,16 +45,5 @@ returns-2 c =
 pub order-fits-spec : {M : Type 1} → statement M
 order-fits-spec =
     tie.close
-    (tie.spec
-    Inv-loop
-    μ-loop
-    loop-holds
-    mul-wide
-    element-copy-out-wide
-    wide-requires
-    mul-order
-    returns
-    add-j
-    loop-less
-    loop-again
-    returns-2)
+    (tie.spec Inv-loop μ-loop loop-holds (λ c. omega arith) (λ c. omega arith) (λ c κs. tt) mul-order returns (λ c. omega arith) (λ c. omega arith)
+    loop-again returns-2)

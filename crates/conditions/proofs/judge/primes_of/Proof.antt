@@ -15,27 +15,6 @@ abbrev μ-loop : tie.MeasureT-loop
 loop-holds : tie.Need-loop-holds Inv-loop μ-loop
 loop-holds c = primes-none
 
-pair-requires : tie.Need-pair-requires Inv-loop μ-loop
-pair-requires c κs = omega arith
-
-mul-primes : tie.Need-mul-primes Inv-loop μ-loop
-mul-primes c = omega arith
-
-element-copy-out-primes : tie.Need-element-copy-out-primes Inv-loop μ-loop
-element-copy-out-primes c = omega arith
-
-mul-primes-2 : tie.Need-mul-primes-2 Inv-loop μ-loop
-mul-primes-2 c = omega arith
-
-array-write-primes : tie.Need-array-write-primes Inv-loop μ-loop
-array-write-primes c = omega arith
-
-add-j : tie.Need-add-j Inv-loop μ-loop
-add-j c = omega arith
-
-loop-less : tie.Need-loop-less Inv-loop μ-loop
-loop-less c = omega arith
-
 loop-again : tie.Need-loop-again Inv-loop μ-loop
 loop-again c =
     primes-more (c .before .pair .result) (c .before .before .before .loop .inv) (omega arith) (c .before .pair .ensures .0)
@@ -46,16 +25,5 @@ returns c = primes-all (c .before .loop .inv) (omega arith)
 pub primes-of-spec : {M : Type 1} → statement M
 primes-of-spec =
     tie.close
-    (tie.spec
-    Inv-loop
-    μ-loop
-    loop-holds
-    pair-requires
-    mul-primes
-    element-copy-out-primes
-    mul-primes-2
-    array-write-primes
-    add-j
-    loop-less
-    loop-again
-    returns)
+    (tie.spec Inv-loop μ-loop loop-holds (λ c κs. omega arith) (λ c. omega arith) (λ c. omega arith) (λ c. omega arith) (λ c. omega arith)
+    (λ c. omega arith) (λ c. omega arith) loop-again returns)

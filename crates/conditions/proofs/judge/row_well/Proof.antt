@@ -18,32 +18,11 @@ abbrev μ-loop : tie.MeasureT-loop
 loop-holds : tie.Need-loop-holds Inv-loop μ-loop
 loop-holds c = tested-none
 
-mul-entry-well : tie.Need-mul-entry-well Inv-loop μ-loop
-mul-entry-well c = omega arith
-
-element-copy-out-entry-well : tie.Need-element-copy-out-entry-well Inv-loop μ-loop
-element-copy-out-entry-well c = omega arith
-
-mul-entry-well-2 : tie.Need-mul-entry-well-2 Inv-loop μ-loop
-mul-entry-well-2 c = omega arith
-
-element-copy-out-entry-well-2 : tie.Need-element-copy-out-entry-well-2 Inv-loop μ-loop
-element-copy-out-entry-well-2 c = omega arith
-
-entry-well-requires : tie.Need-entry-well-requires Inv-loop μ-loop
-entry-well-requires c κs = tt
-
 returns : tie.Need-returns Inv-loop μ-loop
 unfolding rowWells
 returns c =
     let t = c .before .entry-well in
     tested-fails (c .before .before .before .before .before .loop .inv) (omega arith) (sym (t .ensures) ∙ not-true (t .result) (c .if1 .taken))
-
-add-k : tie.Need-add-k Inv-loop μ-loop
-add-k c = omega arith
-
-loop-less : tie.Need-loop-less Inv-loop μ-loop
-loop-less c = omega arith
 
 loop-again : tie.Need-loop-again Inv-loop μ-loop
 loop-again c =
@@ -57,17 +36,5 @@ returns-2 c = tested-all (c .before .loop .inv) (omega arith)
 pub row-well-spec : {M : Type 1} → statement M
 row-well-spec =
     tie.close
-    (tie.spec
-    Inv-loop
-    μ-loop
-    loop-holds
-    mul-entry-well
-    element-copy-out-entry-well
-    mul-entry-well-2
-    element-copy-out-entry-well-2
-    entry-well-requires
-    returns
-    add-k
-    loop-less
-    loop-again
-    returns-2)
+    (tie.spec Inv-loop μ-loop loop-holds (λ c. omega arith) (λ c. omega arith) (λ c. omega arith) (λ c. omega arith) (λ c κs. tt) returns
+    (λ c. omega arith) (λ c. omega arith) loop-again returns-2)

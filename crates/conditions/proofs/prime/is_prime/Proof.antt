@@ -21,17 +21,11 @@ loop-holds c = (omega arith, omega arith, omega arith, tried-none (c .before .ar
 mul-loop : tie.Need-mul-loop Inv-loop μ-loop
 mul-loop c = omega (arith, square-fits (c .loop .d) (omega arith))
 
-rem-if2 : tie.Need-rem-if2 Inv-loop μ-loop
-rem-if2 c = omega arith
-
 returns-2 : tie.Need-returns-2 Inv-loop μ-loop
 returns-2 c =
     let p = c .before .before .before .before .args .p in
     let d = c .before .before .loop .d in
     sym (not-prime-divided p d (omega arith) (root-less p d (omega arith) (omega arith)) (omega arith))
-
-add-d : tie.Need-add-d Inv-loop μ-loop
-add-d c = omega arith
 
 loop-less : tie.Need-loop-less Inv-loop μ-loop
 loop-less c =
@@ -51,15 +45,4 @@ returns-3 c =
 pub is-prime-spec : {M : Type 1} → statement M
 is-prime-spec =
     tie.close
-    (tie.spec
-    Inv-loop
-    μ-loop
-    returns
-    loop-holds
-    mul-loop
-    rem-if2
-    returns-2
-    add-d
-    loop-less
-    loop-again
-    returns-3)
+    (tie.spec Inv-loop μ-loop returns loop-holds mul-loop (λ c. omega arith) returns-2 (λ c. omega arith) loop-less loop-again returns-3)

@@ -21,12 +21,6 @@ abbrev μ-loop : tie.MeasureT-loop
 loop-holds : tie.Need-loop-holds Inv-loop μ-loop
 loop-holds c = (sym (product-zero (c .args .primes .now)), sym (sum-zero _), omega arith, omega arith, omega arith)
 
-mul-order : tie.Need-mul-order Inv-loop μ-loop
-mul-order c = omega arith
-
-element-copy-out-order : tie.Need-element-copy-out-order Inv-loop μ-loop
-element-copy-out-order c = omega arith
-
 mul-order-2 : tie.Need-mul-order-2 Inv-loop μ-loop
 mul-order-2 c =
     let z = c .before .before .before in
@@ -39,12 +33,6 @@ add-elements c =
     let l = c .before .before .loop in
     omega (arith, turn-fits (z .args .primes .now) (z .args .n) (l .j) (l .order) (z .pre .1) (omega arith) (l .inv .0))
 
-add-j : tie.Need-add-j Inv-loop μ-loop
-add-j c = omega arith
-
-loop-less : tie.Need-loop-less Inv-loop μ-loop
-loop-less c = omega arith
-
 loop-again : tie.Need-loop-again Inv-loop μ-loop
 loop-again c =
     let z = c .before .before .before in
@@ -53,9 +41,6 @@ loop-again c =
     let e : l .order * getD ps (l .j) 0 ≡ product ps (l .j + 1) = product-turn ps (l .j) (l .order) _ (l .inv .0) refl in
     let fits = turn-fits (z .args .primes .now) (z .args .n) (l .j) (l .order) (z .pre .1) (omega arith) (l .inv .0) in
     (e, elements-turn ps (l .j) (l .elements) _ (l .inv .1) e, omega arith, omega arith, omega arith)
-
-cast-t11 : tie.Need-cast-t11 Inv-loop μ-loop
-cast-t11 c = omega arith
 
 mul-t12 : tie.Need-mul-t12 Inv-loop μ-loop
 mul-t12 c = let l = c .before .loop in omega (arith, words-fit (c .before .before .args .n) (l .j) (l .elements) (omega arith) (omega arith) (omega arith))
@@ -77,18 +62,5 @@ returns c =
 pub measure-spec : {M : Type 1} → statement M
 measure-spec =
     tie.close
-    (tie.spec
-    Inv-loop
-    μ-loop
-    loop-holds
-    mul-order
-    element-copy-out-order
-    mul-order-2
-    add-elements
-    add-j
-    loop-less
-    loop-again
-    cast-t11
-    mul-t12
-    mul-t13
-    returns)
+    (tie.spec Inv-loop μ-loop loop-holds (λ c. omega arith) (λ c. omega arith) mul-order-2 add-elements (λ c. omega arith) (λ c. omega arith)
+    loop-again (λ c. omega arith) mul-t12 mul-t13 returns)
