@@ -4,12 +4,11 @@
 --   carrying-none, carrying-more, carrying-all      the steps of the loop
 --   Rising                           so do the intertwiners of the generators above the top and below k
 --   rising-none, rising-more, rising-all            the steps of the loop
---   says-word, says-power            the words that the rows say
 --   says-quiet                       a word that is empty
 --   led-is                           where an intertwiner leads, by its place in the list
 --   walk-empty, plain-conjugated     an empty word moves nothing, and its conjugate is the generator
 --   plain-moved                      an intertwiner at a column, where the word is empty
-use mathlib.Core.Path.{_≡_, refl, sym, _∙_, ap, ap₂, subst}
+use mathlib.Core.Path.{_≡_, refl, sym, _∙_, ap, subst}
 use mathlib.Core.Bool.{true}
 use mathlib.Core.List.{List, []}
 use Prim.Native.Nat.{ℕ, zero, suc, _+_, _*_, _≤_, _<_}
@@ -19,7 +18,7 @@ use native.Mathlib.Decide.{decLt}
 use lib.ListN.{getD}
 use borrow.Author.Count.{below-more}
 use Rattle.definitions.specs.declared.Entry.{Entry}
-use Rattle.definitions.specs.Presentation.{Presentation, toNF, pairNumber}
+use Rattle.definitions.specs.Presentation.{Presentation, toNF}
 use Rattle.definitions.specs.Monomial.{Matrix, entry, act}
 use Rattle.numbers.proofs.Lists.{iter-zero}
 use Rattle.group.proofs.Clauses.{sameForm-eq}
@@ -32,11 +31,11 @@ use Rattle.level.specs.declared.Listed.{Listed}
 use Rattle.seek.specs.declared.Scope.{Scope}
 use Rattle.seek.specs.Among.{repIn}
 use Rattle.level.specs.Stored.{Below, generatorIn, listedIn, targetIn}
-use Rattle.relations.specs.Said.{PowerOf, WordOf}
+use Rattle.relations.specs.Said.{WordOf, SaysTop}
 use Rattle.relations.specs.Tests.{Conjugated}
 use Rattle.relations.proofs.Kept.{conjugate-moved, intertwiner-moved}
 use Rattle.compare.specs.declared.Stage.{Stage}
-use Rattle.check_columns.specs.Relates.{SaysTop, Carries, ledTo, CarriesAll}
+use Rattle.check_columns.specs.Relates.{Carries, ledTo, CarriesAll}
 
 pub record Carrying (s : Scope) (T : List ℕ) (D E : Listed) (i j : ℕ) (w : List ℕ) (v o : ℕ) : Type 0 where
   pub many : ℕ
@@ -90,12 +89,6 @@ module _ {s : Scope} {T firsts : List ℕ} {g : Stage} {D : Listed} {rows : List
 -- ---- Words
 
 module _ {s : Scope} {rows : List (List ℕ)} {i p : ℕ} {P : Presentation} (S : SaysTop s rows i p P) where
-  pub says-word : (j : ℕ) → i < j → j < s .gens → (w : List ℕ) (a b : ℕ) → w ≡ getD rows (pairNumber a b) [] → a ≡ j → b ≡ i → WordOf i j w P
-  says-word j l h w a b is ja bi = record { word = ap (toNF (suc i)) (is ∙ ap₂ (λ a b. getD rows (pairNumber a b) []) ja bi) ∙ S .word j l h }
-
-  pub says-power : (u : List ℕ) (a : ℕ) → u ≡ getD rows (pairNumber a a) [] → a ≡ i → PowerOf i p u P
-  says-power u a is ai = record { prime = S .prime; word = ap (toNF i) (is ∙ ap (λ a. getD rows (pairNumber a a) []) ai) ∙ S .power }
-
   pub says-quiet : {reach : List ℕ} → Quiet (s .gens) rows reach → (j : ℕ) → i < j → j < s .gens → getD reach j 0 ≤ i → WordOf i j [] P
   says-quiet Q j l h r = record {
     word = toNF-trivial (suc i) [] (λ k b. refl) ∙ sym (sameForm-eq (suc i) _ _ (keeps-empty rows j i (Q .at j h .rest i 1 r l))) ∙ S .word j l h;

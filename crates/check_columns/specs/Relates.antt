@@ -1,6 +1,5 @@
--- The relations of the generator on top, in single columns.
+-- The intertwiners and the generator on top, in single columns.
 --
---   SaysTop s rows i p P              p is the prime of generator i of P, and rows are its words with the generators above it
 --   CarryAsked s T D E i j v       D and E hold matrices of one degree, j is above i, and v and the degree are within bounds
 --   Carries s T D E i j v P        the intertwiner of generator j carries generator i from D to E, in every v-th column
 --   ledTo T firsts g D j           where the intertwiner of generator j leads from D
@@ -9,23 +8,19 @@
 --   CarriesAll s T firsts g D rows v     all of them carry generator i over, in every v-th column
 use mathlib.Core.Path.{_≡_}
 use mathlib.Core.Bool.{true}
-use mathlib.Core.List.{List, []}
-use Prim.Native.Nat.{ℕ, suc, _+_, _*_, _≤_, _<_}
+use mathlib.Core.List.{List}
+use Prim.Native.Nat.{ℕ, _+_, _*_, _≤_, _<_}
 use lib.ListN.{length, getD}
-use Rattle.definitions.specs.Presentation.{Presentation, toNF, pairNumber}
+use Rattle.definitions.specs.Presentation.{Presentation}
 use Rattle.columns.specs.Columns.{intertwinesAt}
 use Rattle.level.specs.declared.Listed.{Listed}
 use Rattle.level.specs.Stored.{listedIn, targetIn}
 use Rattle.seek.specs.declared.Scope.{Scope}
 use Rattle.seek.specs.Among.{repIn}
 use Rattle.relations.specs.Kept.{MatricesStored}
+use Rattle.relations.specs.Said.{SaysTop}
 use Rattle.compare.specs.declared.Stage.{Stage}
 use Rattle.compare.specs.Staged.{maxLines}
-
-pub record SaysTop (s : Scope) (rows : List (List ℕ)) (i p : ℕ) (P : Presentation) : Type 0 where
-  pub prime : p ≡ P .p i
-  pub power : toNF i (getD rows (pairNumber i i) []) ≡ P .u i
-  pub word : (j : ℕ) → i < j → j < s .gens → toNF (suc i) (getD rows (pairNumber j i) []) ≡ P .w i j
 
 abbrev pub CarryAsked : Scope → List ℕ → (D E : Listed) → (i j v : ℕ) → Type 0
 CarryAsked s T D E i j v =

@@ -27,7 +27,7 @@ use Rattle.seek.specs.Formed.{Ordered}
 use Rattle.seek.proofs.Seek.{found-first}
 use Rattle.claims.specs.Claims.{OneReference, Unshared}
 use Rattle.check_blocks.specs.Squares.{squaresIn}
-use Rattle.check_columns.specs.Relates.{SaysTop}
+use Rattle.relations.specs.Said.{SaysTop}
 use Rattle.check_heads.specs.Places.{ordersIn}
 use Rattle.check_fit.specs.Fit.{FitUpTo, FittingLevels}
 

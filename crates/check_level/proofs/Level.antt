@@ -27,7 +27,8 @@ use Rattle.compare.specs.Staged.{Staged}
 use Rattle.compare.specs.Blocks.{block, Present, Upper, refAt, BlockFits, RepFits}
 use Rattle.compare.proofs.Staged.{found-inside, high-at, high-place}
 use Rattle.compare.proofs.Stored.{fits-stored}
-use Rattle.check_columns.specs.Relates.{SaysTop, ledTo, LeadsTo, Reached, CarriesAll}
+use Rattle.relations.specs.Said.{SaysTop}
+use Rattle.check_columns.specs.Relates.{ledTo, LeadsTo, Reached, CarriesAll}
 use Rattle.check_single.specs.Power.{PowerHolds}
 use Rattle.check_level.specs.Level.{repAtLevel, widthBelow, Compares, Relates, LevelFits}
 use Rattle.check_first.proofs.Found.{found-target}

@@ -18,7 +18,8 @@ use Rattle.seek.specs.Seek.{Found}
 use Rattle.claims.specs.Claims.{Unshared}
 use Rattle.compare.specs.declared.Stage.{Stage}
 use Rattle.compare.specs.Blocks.{RepFits}
-use Rattle.check_columns.specs.Relates.{SaysTop, CarriesAll}
+use Rattle.relations.specs.Said.{SaysTop}
+use Rattle.check_columns.specs.Relates.{CarriesAll}
 use Rattle.check_single.specs.Power.{PowerHolds}
 
 abbrev pub repAtLevel : Scope → List ℕ → (i r : ℕ) → Listed

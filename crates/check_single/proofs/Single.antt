@@ -17,7 +17,7 @@ use Rattle.definitions.specs.Monomial.{entry, less}
 use Rattle.definitions.specs.Table.{REF, ROW, EXP, wordAt}
 use Rattle.level.specs.declared.Listed.{Listed}
 use Rattle.level.specs.Stored.{entryIn, lineIn}
-use Rattle.level.proofs.Columns.{less-below, less-above}
+use Rattle.modular.proofs.Reduction.{less-below, less-above}
 use Rattle.seek.specs.declared.Scope.{Scope}
 use Rattle.seek.specs.Seek.{Found}
 use Rattle.compare.specs.declared.Stage.{Stage}

@@ -11,7 +11,7 @@ use Rattle.level.specs.declared.Listed.{Listed}
 use Rattle.seek.specs.declared.Scope.{Scope}
 use Rattle.seek.specs.Among.{repIn}
 use Rattle.compare.specs.declared.Stage.{Stage}
-use Rattle.check_columns.specs.Relates.{SaysTop}
+use Rattle.relations.specs.Said.{SaysTop}
 
 pub record PowerHolds (s : Scope) (T : List ℕ) (rows : List (List ℕ)) (g : Stage) (D : Listed) : Type 0 where
   pub is : (P : Presentation) → SaysTop s rows (g .top) (g .p) P → powerAt P (s .m) (repIn T D) (g .top) 0 ≡ true

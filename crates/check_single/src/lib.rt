@@ -150,7 +150,7 @@ fn times(p: u32, e: u32, m: u32) -> u32
     ensures { λ r. ⌜ r ≡ (p * e) % m ⌝ }
 {
     if p == 2 {
-        return level::add_mod(e, e, m);
+        return modular::add_mod(e, e, m);
     }
     level::add_times(0, p, e, m)
 }

@@ -63,7 +63,7 @@ fn line_shifted(words: &[u32], at: usize, src: usize, t: Shift, m: u32) -> bool
     if y.row != t.row + x.row {
         return false;
     }
-    y.exp == level::add_mod(x.exp, t.exp, m)
+    y.exp == modular::add_mod(x.exp, t.exp, m)
 }
 
 // The d lines from `at` on are those from src on, shifted.
@@ -177,7 +177,7 @@ fn generator_fits(words: &[u32], s: Scope, d: Listed, e: Listed, b: Stretch, g: 
     {
         return false;
     }
-    let exp = level::sub_mod(y.exp, level::word_at(words, src, level::EXP), s.m);
+    let exp = modular::sub_mod(y.exp, level::word_at(words, src, level::EXP), s.m);
     lines_shifted(words, at, src, f.deg, Shift { refn: x, row, exp }, s.m)
 }
 

@@ -1,8 +1,5 @@
 -- Laws of what stands in lines.
 --
---   mod-once                   a number below 2m modulo m, where it is not below m
---   over, over-is, reduced     1 where a number reaches m, and what is left of it with m taken off then
---   less-is, less-below, less-above       differences modulo m of numbers below it
 --   times-fit                  a product of a number up to 2³² and one below the modulus fits in 64 bits
 --   col-matrixIn               a column of a matrix that stands in lines
 --   act-in                     a matrix on an entry, from its line
@@ -17,16 +14,12 @@
 --   matrix-inside              the lines of a generator stand among those of all
 --   all-lines                  how many lines all have
 use mathlib.Core.Path.{_≡_, refl, ap, ap₂, sym, _∙_}
-use mathlib.Core.Bool.{cond}
-use Prim.Native.Nat.{ℕ, zero, suc, _+_, _-_, _*_, _/_, _%_, _<_, _≤_}
-use native.Mathlib.Nat.{mod-eq-of-lt, mod-eq-sub-mod, mod-lt, mod-add-mod, add-mod-mod, mul-le-mul-right, mul-zero, mul-one}
+use Prim.Native.Nat.{ℕ, zero, suc, _+_, _-_, _*_, _%_, _<_, _≤_}
+use native.Mathlib.Nat.{mod-eq-of-lt, mod-lt, mod-add-mod, add-mod-mod, mul-le-mul-right}
 use native.Mathlib.Omega.{arith}
-use native.Mathlib.Decide.{decLt}
 use native.Mathlib.Numerals.{add-one}
 use mathlib.Core.List.{List}
 use lib.ListN.{length, getD}
-use lib.Dec.{leb}
-use borrow.Author.Tests.{le-leb, lt-leb}
 use Rattle.definitions.specs.declared.Entry.{Entry}
 use Rattle.definitions.specs.Lists.{iter}
 use Rattle.definitions.specs.Presentation.{toNF}
@@ -38,52 +31,7 @@ use Rattle.rows.specs.Rows.{Top}
 use Rattle.level.specs.declared.Listed.{Listed}
 use Rattle.level.specs.Stored.{entryIn, matrixIn, lineIn, Stored}
 
--- ---- Sums modulo m
-
-pub mod-once : (s m : ℕ) → m ≤ s → s < m + m → s - m ≡ s % m
-mod-once s m h l = sym (mod-eq-sub-mod h ∙ mod-eq-of-lt (omega arith))
-
--- bit 31 of s + (2 ^ 31 - m)
-abbrev pub over : ℕ → ℕ → ℕ
-over s m = (s + (2147483648 - m)) / 2147483648
-
--- it is 1 where s reaches m
-pub over-is : (s m : ℕ) → m ≤ 2147483648 → s < m + m → over s m ≡ cond (leb m s) 1 0
-over-is s m h l = by (decLt s m)
-  where
-    by : Dec (s < m) → over s m ≡ cond (leb m s) 1 0
-    by (yes a) = let e : over s m ≡ 0 = omega arith in e ∙ sym (ap (λ t. cond t 1 0) (lt-leb m s a))
-    by (no f) = let e : over s m ≡ 1 = omega arith in e ∙ sym (ap (λ t. cond t 1 0) (le-leb m s (omega arith)))
-
--- m taken off where s reaches it, which leaves s modulo m
-abbrev pub Reduced : ℕ → ℕ → Type 0
-Reduced s m = (m * over s m ≤ s) × (s - m * over s m ≡ s % m) × (s % m < m)
-
-pub reduced : (s m : ℕ) → m ≤ 2147483648 → s < m + m → Reduced s m
-reduced s m h l = by (decLt s m)
-  where
-    by : Dec (s < m) → Reduced s m
-    by (yes a) =
-        let e : m * over s m ≡ 0 = ap (λ t. m * t) (over-is s m h l ∙ ap (λ t. cond t 1 0) (lt-leb m s a)) ∙ mul-zero m in
-        let q : s % m ≡ s = mod-eq-of-lt a in
-        (omega arith, omega arith, omega arith)
-    by (no f) =
-        let a : m ≤ s = omega arith in
-        let e : m * over s m ≡ m = ap (λ t. m * t) (over-is s m h l ∙ ap (λ t. cond t 1 0) (le-leb m s a)) ∙ mul-one m in
-        let q : s - m ≡ s % m = mod-once s m a l in
-        (omega arith, omega arith, omega arith)
-
-pub less-is : (m a b : ℕ) → b < m → (a + (m - b)) % m ≡ less m a b
-unfolding less
-less-is m a b l = sym (ap (λ z. (a + (m - z)) % m) (mod-eq-of-lt l))
-
-pub less-below : (m a b : ℕ) → b ≤ a → a < m → b < m → a - b ≡ less m a b
-less-below m a b h l k =
-    let s : a - b ≡ a + (m - b) - m = omega arith in
-    s ∙ mod-once (a + (m - b)) m (omega arith) (omega arith) ∙ less-is m a b k
-
-pub less-above : (m a b : ℕ) → a < b → b < m → a + (m - b) ≡ less m a b
-less-above m a b h k = sym (mod-eq-of-lt (omega arith)) ∙ less-is m a b k
+-- ---- Products that fit
 
 pub times-fit : (a k b m : ℕ) → a < m → b < m → m ≤ 2147483648 → k ≤ 4294967296 → a + k * b < 18446744073709551616
 times-fit a k b m h l s f = let x : k * b ≤ 4294967296 * b = mul-le-mul-right b (omega arith) in omega arith

@@ -2,7 +2,6 @@
 // on. Nothing is asked but what whole lines, complete and in order, with valid matrices guarantee.
 //
 //   LEVEL .. EXP                 the fields of a line
-//   reduce, add_mod, sub_mod     sums and differences of exponents
 //   word_at, entry_at, column    what stands in a line
 //   apply, apply_times           a column moved through a matrix, once or several times
 //   add_rounds, add_times        a product added to an exponent
@@ -19,7 +18,7 @@ ghost use Prim.Native.Nat.{ℕ, suc, _+_, _*_, _%_, _≤_, _<_};
 ghost use lib.ListN.{length};
 ghost use Rattle.definitions.specs.Lists.{iter};
 ghost use Rattle.definitions.specs.Presentation.{maxGenerators, toNF};
-ghost use Rattle.definitions.specs.Monomial.{entry, less, act, signedPower};
+ghost use Rattle.definitions.specs.Monomial.{entry, act, signedPower};
 ghost use Rattle.definitions.specs.Table.{wordAt};
 ghost use Rattle.formulas.specs.Formulas.{walk, plus};
 ghost use Rattle.signed.specs.Signs.{number};
@@ -50,31 +49,6 @@ pub fn up(x: u32) -> usize
     ensures { λ r. ⌜ r ≡ x ⌝ }
 {
     x as usize
-}
-
-// A number below 2m modulo m, without a branch: `over` is 1 if it reaches m, and 0 else.
-fn reduce(s: u32, m: u32) -> u32
-    requires { ⌜ (s < m + m) × (m ≤ 2147483648) ⌝ }
-    ensures { λ r. ⌜ (r ≡ s % m) × (r < m) ⌝ }
-{
-    let over = (s + (2147483648 - m)) / 2147483648;
-    s - m * over
-}
-
-// The sum modulo m of two numbers below m.
-pub fn add_mod(a: u32, b: u32, m: u32) -> u32
-    requires { ⌜ (a < m) × (b < m) × (m ≤ 2147483648) ⌝ }
-    ensures { λ r. ⌜ (r ≡ (a + b) % m) × (r < m) ⌝ }
-{
-    reduce(a + b, m)
-}
-
-// Their difference modulo m.
-pub fn sub_mod(a: u32, b: u32, m: u32) -> u32
-    requires { ⌜ (a < m) × (b < m) × (m ≤ 2147483648) ⌝ }
-    ensures { λ r. ⌜ (r ≡ less m a b) × (r < m) ⌝ }
-{
-    reduce(a + (m - b), m)
 }
 
 // Word k of a line.
@@ -113,7 +87,7 @@ fn apply(words: &[u32], at: usize, d: u32, x: Entry, m: u32) -> Entry
     let e = column(words, at, d, x.row, m);
     Entry {
         row: e.row,
-        exp: add_mod(e.exp, x.exp, m),
+        exp: modular::add_mod(e.exp, x.exp, m),
     }
 }
 
@@ -131,7 +105,7 @@ pub fn add_times(a: u32, k: u32, b: u32, m: u32) -> u32
     ensures { λ r. ⌜ (r ≡ (a + k * b) % m) × (r < m) ⌝ }
 {
     if k == 1 {
-        return add_mod(a, b, m);
+        return modular::add_mod(a, b, m);
     }
     add_rounds(a, up(k), b, m)
 }
@@ -179,9 +153,9 @@ fn gain(back: bool, a: u32, b: u32, m: u32) -> u32
     ensures { λ r. ⌜ (r ≡ gained m back a b) × (r < m) ⌝ }
 {
     if back {
-        return sub_mod(a, b, m);
+        return modular::sub_mod(a, b, m);
     }
-    sub_mod(b, a, m)
+    modular::sub_mod(b, a, m)
 }
 
 // The k-th power of a matrix on an entry whose basis index comes again after the lap w: whole laps at once, then the turns that
@@ -371,7 +345,7 @@ fn scaled(words: &[u32], d: Listed, g: u32, c: u32, x: Entry, m: u32) -> Entry
     let y = moved(words, d, g, x, m);
     Entry {
         row: y.row,
-        exp: add_mod(y.exp, c, m),
+        exp: modular::add_mod(y.exp, c, m),
     }
 }
 
@@ -392,7 +366,7 @@ pub fn scaled_times(words: &[u32], d: Listed, g: u32, c: u32, k: u32, x: Entry, 
         let e = column(words, matrix_line(d, g), d.deg, x.row, m);
         return Entry {
             row: x.row,
-            exp: add_times(x.exp, k, add_mod(e.exp, c, m), m),
+            exp: add_times(x.exp, k, modular::add_mod(e.exp, c, m), m),
         };
     }
     let mut r = y;

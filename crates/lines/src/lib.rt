@@ -75,7 +75,7 @@ fn block_entry(words: &[u32], b: Piece, k: u32, m: u32) -> Entry
     let e = level::column(words, b.src, b.deg, k, m);
     Entry {
         row: b.row + e.row,
-        exp: level::add_mod(e.exp, b.by, m),
+        exp: modular::add_mod(e.exp, b.by, m),
     }
 }
 
@@ -88,7 +88,7 @@ fn append_line(words: &mut [u32], low: usize, at: usize, h: Head, b: Piece, m: u
     let e = level::word_at(&words[..n], b.src, level::EXP);
     let x = Entry {
         row: b.row,
-        exp: level::add_mod(e, b.by, m),
+        exp: modular::add_mod(e, b.by, m),
     };
     put_line(words, at, h, b.col, x)
 }

@@ -103,7 +103,7 @@ fn cycle(
         block: 0,
         x: Entry {
             row: y.row,
-            exp: level::add_mod(y.exp, c, f.m),
+            exp: modular::add_mod(y.exp, c, f.m),
         },
     }
 }
@@ -219,10 +219,10 @@ fn next_scalar(
     let a = conjugate(low, notes, blocks, &w, f, c, r, s.block);
     let l = left(low, notes, blocks, f, j, r, a);
     let y = right(low, notes, blocks, f, j, r, s.block);
-    let e = level::add_mod(s.exp, y, f.m);
+    let e = modular::add_mod(s.exp, y, f.m);
     BlockScalar {
         block: a.block,
-        exp: level::sub_mod(e, l, f.m),
+        exp: modular::sub_mod(e, l, f.m),
     }
 }
 

@@ -22,7 +22,8 @@ use Rattle.separation.proofs.Pairs.{eqb-sym}
 use Rattle.columns.specs.Columns.{sameAt, commutatorAt, intertwinesAt}
 use Rattle.level.specs.declared.Listed.{Listed}
 use Rattle.level.specs.Stored.{entryIn, Below, lineIn, generatorIn}
-use Rattle.level.proofs.Columns.{mod-once, act-fixed}
+use Rattle.modular.proofs.Reduction.{mod-once}
+use Rattle.level.proofs.Columns.{act-fixed}
 use Rattle.seek.specs.declared.Scope.{Scope}
 use Rattle.relations.specs.Kept.{MatricesStored}
 use Rattle.relations.specs.Said.{WordOf}

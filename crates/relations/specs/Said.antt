@@ -6,6 +6,7 @@
 --   WordIn k j rows P      the rows say that word
 --   ReadsIn s primes rows P    primes and rows are those of P
 --   Spells s rows P        the rows say the words of all pairs of generators
+--   SaysTop s rows i p P   p is the prime of generator i of P, and rows are its words with the generators above it
 use mathlib.Core.Path.{_≡_}
 use mathlib.Core.Bool.{Bool}
 use mathlib.Core.List.{List, []}
@@ -34,3 +35,8 @@ ReadsIn s primes rows P = Reads P (s .gens) primes rows
 pub record Spells (s : Scope) (rows : List (List ℕ)) (P : Presentation) : Type 0 where
   pub gens-are : s .gens ≡ P .n
   pub word : (k j : ℕ) → k < j → j < s .gens → WordIn k j rows P
+
+pub record SaysTop (s : Scope) (rows : List (List ℕ)) (i p : ℕ) (P : Presentation) : Type 0 where
+  pub prime : p ≡ P .p i
+  pub power : toNF i (getD rows (pairNumber i i) []) ≡ P .u i
+  pub word : (j : ℕ) → i < j → j < s .gens → toNF (suc i) (getD rows (pairNumber j i) []) ≡ P .w i j

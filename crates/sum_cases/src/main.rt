@@ -28,7 +28,7 @@ fn print_line(numbers: &[u32]) {
 fn both(a: u32, b: u32, m: u32) -> u32
     requires { ⌜ (a < m) × (b < m) × (m ≤ 64) ⌝ }
 {
-    level::add_mod(a, b, m) + 64 * level::sub_mod(a, b, m)
+    modular::add_mod(a, b, m) + 64 * modular::sub_mod(a, b, m)
 }
 
 // Stores these for all pairs of numbers below m, the second number running first, and returns how many there are.
@@ -59,9 +59,9 @@ fn result(less: bool, a: u32, b: u32, m: u32) -> u32
     requires { ⌜ (a < m) × (b < m) × (m ≤ 2147483648) ⌝ }
 {
     if less {
-        return level::sub_mod(a, b, m);
+        return modular::sub_mod(a, b, m);
     }
-    level::add_mod(a, b, m)
+    modular::add_mod(a, b, m)
 }
 
 fn print_edges(less: bool, a: u32, m: u32)

@@ -274,10 +274,10 @@ fn closing(low: &[u32], notes: &[u32], u: &Row, n: usize, f: Frame, r: u32) -> u
     let d = listed(low, notes, f, r);
     let a = around(low, notes, f, d, r);
     if n == 0 {
-        return level::sub_mod(0, a.exp, f.m);
+        return modular::sub_mod(0, a.exp, f.m);
     }
     let b = level::walked(low, d, u, n, Entry { row: 0, exp: 0 }, f.m);
-    level::sub_mod(b.exp, a.exp, f.m)
+    modular::sub_mod(b.exp, a.exp, f.m)
 }
 
 // This constant if r is the least of its orbit, and 0 else.

@@ -76,7 +76,7 @@ fn landing(low: &[u32], rows: &Rows, notes: &[u32], f: Frame, d: Listed, j: u32,
     let e = survey::member(low, notes, f, d.deg, q);
     let b = root(notes, f, q);
     let z = level::through(low, d, j, e, f.top, b, f.m);
-    level::sub_mod(y.exp, z, f.m) / (f.m / f.p)
+    modular::sub_mod(y.exp, z, f.m) / (f.m / f.p)
 }
 
 // Fills, for each generator above the one on top, the number of the first extension of the target of r, and the number

@@ -13,7 +13,8 @@ use Rattle.level.specs.declared.Listed.{Listed}
 use Rattle.level.proofs.Columns.{stored-fewer}
 use Rattle.relations.specs.Kept.{MatricesStored}
 use Rattle.check_columns.specs.Relates.{Carries}
-use Rattle.check_columns.proofs.Carrying.{Rising, rising-none, rising-more, rising-all, says-word, says-quiet, led-is}
+use Rattle.relations.proofs.Said.{says-word}
+use Rattle.check_columns.proofs.Carrying.{Rising, rising-none, rising-more, rising-all, says-quiet, led-is}
 use Rattle.check_columns.proofs.carries_all.Statement.{statement}
 use Rattle.check_columns.proofs.carries_all.Tie as tie
 

@@ -9,7 +9,7 @@ use lib.ListN.{getD}
 use denote.Ref.{now}
 use Rattle.compare.proofs.Staged.{found-inside}
 use Rattle.compare.proofs.Stored.{fits-stored}
-use Rattle.check_columns.proofs.Carrying.{says-power}
+use Rattle.relations.proofs.Said.{says-power}
 use Rattle.check_single.proofs.Power as power
 use Rattle.check_single.proofs.rep_passes.Statement.{statement}
 use Rattle.check_single.proofs.rep_passes.Tie as tie

@@ -1,9 +1,9 @@
 -- `sub_mod`: a difference, and m more.
 use mathlib.Core.Path.{_∙_}
-use Rattle.level.proofs.Columns.{less-is}
+use Rattle.modular.proofs.Reduction.{less-is}
 use borrow.Author.Needs.{needs}
-use Rattle.level.proofs.sub_mod.Statement.{statement}
-use Rattle.level.proofs.sub_mod.Tie as tie
+use Rattle.modular.proofs.sub_mod.Statement.{statement}
+use Rattle.modular.proofs.sub_mod.Tie as tie
 
 returns : tie.Need-returns
 returns c = let z = c .before in (c .reduce .ensures .0 ∙ less-is (z .args .m) (z .args .a) (z .args .b) (z .pre .1), c .reduce .ensures .1)

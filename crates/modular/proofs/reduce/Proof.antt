@@ -1,9 +1,9 @@
 -- `reduce`: what is taken off.
 use native.Mathlib.Omega.{arith}
 use borrow.Author.Needs.{needs}
-use Rattle.level.proofs.Columns.{Reduced, reduced}
-use Rattle.level.proofs.reduce.Statement.{statement}
-use Rattle.level.proofs.reduce.Tie as tie
+use Rattle.modular.proofs.Reduction.{Reduced, reduced}
+use Rattle.modular.proofs.reduce.Statement.{statement}
+use Rattle.modular.proofs.reduce.Tie as tie
 
 -- what the law says of the number
 left : (c : tie.Start) → Reduced (c .args .s) (c .args .m)

@@ -1,0 +1,2 @@
+-- Laws of sums and differences modulo m.
+pub mod Reduction
