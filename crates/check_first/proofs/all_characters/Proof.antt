@@ -35,7 +35,8 @@ loop-holds c =
 character-requires : tie.Need-character-requires Inv-loop μ-loop
 character-requires c κs =
     let at-loop = c .before .before in
-    let z = at-loop .before .before .before .before .before .before .before .before .before .before .before in
+    let at-clear = at-loop .before .before .before .before .before .before .before in
+    let z = at-clear .before .before .before .before in
     (record { part = z .args .part; parted = z .pre .0; allowed = allowed-own (at-loop .loop .inv .0 .allowed) }, omega arith)
 
 returns : tie.Need-returns Inv-loop μ-loop
@@ -45,7 +46,8 @@ loop-again : tie.Need-loop-again Inv-loop μ-loop
 loop-again c =
     let at-character = c .before .before .before in
     let at-loop = at-character .before .before .before in
-    let z = at-loop .before .before .before .before .before .before .before .before .before .before .before in
+    let at-clear = at-loop .before .before .before .before .before .before .before in
+    let z = at-clear .before .before .before .before in
     let a = z .args in
     let h = at-character .character .ensures (not-false (at-character .character .result) (c .if1 .left)) in (
       taking-more (at-loop .loop .inv .0) (h .takes),
@@ -62,7 +64,8 @@ same-length-2 c =
 returns-2 : tie.Need-returns-2 Inv-loop μ-loop
 returns-2 c =
     let at-loop = c .before in
-    let z = at-loop .before .before .before .before .before .before .before .before .before .before .before in
+    let at-clear = at-loop .before .before .before .before .before .before .before in
+    let z = at-clear .before .before .before .before in
     λ x.
     let a = z .args in
     let P = z .pre .0 in

@@ -37,7 +37,8 @@ returns-5 : tie.Need-returns-5
 returns-5 c = λ x. absurd (false≢true x)
 
 parted : (e : tie.Else5) → let w = e .before .before .before .before .before in
-    let a = w .before .before .before .before .before .before .before .before .before .before .args in
+    let at-if2 = w .before .before .before .before .before in
+    let a = at-if2 .before .before .before .before .before .args in
     Parted (a .s) (now (a .words)) (w .before .before .wide .result) (w .wide2 .result)
 parted e =
     let at-wide3 = e .before .before in
@@ -62,7 +63,8 @@ small-characters-requires c κs = (parted (c .before .before), search needs)
 
 returns-6 : tie.Need-returns-6
 returns-6 c =
-    let at-wide = c .before .before .before .before .before .before .before .before .before .before in
+    let e = c .before .before .before in
+    let at-wide = e .before .before .before .before .before .before .before in
     λ x. subst (Characters _ _ _) (at-wide .wide .ensures .0) (c .small-characters .ensures x)
 
 all-characters-requires : tie.Need-all-characters-requires
@@ -73,7 +75,8 @@ all-characters-requires c κs =
 
 returns-7 : tie.Need-returns-7
 returns-7 c =
-    let at-wide = c .before .before .before .before .before .before .before .before .before .before .before .before .before in
+    let e = c .before .before .before .before .before .before in
+    let at-wide = e .before .before .before .before .before .before .before in
     λ x. subst (Characters _ _ _) (at-wide .wide .ensures .0) (c .before .before .all-characters .ensures x)
 
 pub characters-spec : {M : Type 1} → statement M

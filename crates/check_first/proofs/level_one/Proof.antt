@@ -41,7 +41,8 @@ returns-3 c = λ x. absurd (false≢true x)
 count-of-requires : tie.Need-count-of-requires
 count-of-requires c κs =
     let at-heads-behind = c .before in
-    let z = at-heads-behind .before .before .before .before .before .before .before .before .before .before .before in
+    let at-characters = at-heads-behind .before .before .before .before .before in
+    let z = at-characters .before .before .before .before .before .before in
     let a = z .args in
     let C = z .pre .0 in
     let h = sym (at-heads-behind .heads-behind .ensures) ∙ not-false (at-heads-behind .heads-behind .result) (c .if3 .left) in (

@@ -30,24 +30,28 @@ returns-2 c = none-counted
 
 level-one-requires : tie.Need-level-one-requires
 level-one-requires c κs =
-    let z = c .before .before .before .before .before .before .before .before .before .before .before .before in
+    let at-if1 = c .before .before .before .before in
+    let z = at-if1 .before .before .before .before .before .before .before .before in
     (z .pre .0, z .pre .1)
 
 returns-3 : tie.Need-returns-3
 returns-3 c = none-counted
 
 starts : (e : tie.Else3) → let at-level-one = e .before .before .before in
-    let a = at-level-one .before .before .before .before .before .before .before .before .before .before .before .before .before .args in
+    let at-if1 = at-level-one .before .before .before .before .before in
+    let a = at-if1 .before .before .before .before .before .before .before .before .args in
     Started (a .s) (now (a .words)) (now (a .rows)) (now (a .primes)) (now (a .orders))
 starts e =
     let at-level-one = e .before .before .before in
     let at-if2 = at-level-one .before .before .before in
-    let z = at-if2 .before .before .before .before .before .before .before .before .before .before in
+    let at-if1 = at-if2 .before .before in
+    let z = at-if1 .before .before .before .before .before .before .before .before in
     let F = at-level-one .level-one .ensures (not-false (at-level-one .level-one .result) (e .if3 .left)) in
     started (now (z .args .primes)) F (omega (arith, at-if2 .if2 .left)) (z .pre .1, z .pre .2)
 
 passes : {k : ℕ} (e : tie.Else3) → let at-level-one = e .before .before .before in
-    let a = at-level-one .before .before .before .before .before .before .before .before .before .before .before .before .before .args in
+    let at-if1 = at-level-one .before .before .before .before .before in
+    let a = at-if1 .before .before .before .before .before .before .before .before .args in
     FitUpTo (a .s) (now (a .words)) (now (a .rows)) (now (a .primes)) (now (a .orders)) k
     → FittingLevels (a .s) (now (a .rows)) (now (a .primes)) (now (a .orders)) (now (a .words)) k
 passes e h =

@@ -37,22 +37,26 @@ add-high c =
 
 add-first-lines : tie.Need-add-first-lines Inv-loop μ-loop
 add-first-lines c =
-    let z = c .before .before .before .before .before .before .before .before .before .before .before in
+    let at-loop = c .before .before in
+    let z = at-loop .before .before .before .before .before .before .before .before .before in
     omega (arith, z .pre .whole .few, c .up3 .ensures)
 
 add-first-lines-2 : tie.Need-add-first-lines-2 Inv-loop μ-loop
 add-first-lines-2 c =
-    let z = c .before .before .before .before .before .before .before .before .before .before .before in
+    let at-loop = c .before .before in
+    let z = at-loop .before .before .before .before .before .before .before .before .before in
     omega (arith, z .pre .whole .few, c .up3 .ensures)
 
 mul-first-lines : tie.Need-mul-first-lines Inv-loop μ-loop
 mul-first-lines c =
-    let z = c .before .before .before .before .before .before .before .before .before .before .before in
+    let at-loop = c .before .before in
+    let z = at-loop .before .before .before .before .before .before .before .before .before in
     omega (arith, z .pre .whole .few, c .up3 .ensures)
 
 element-copy-out-first-lines : tie.Need-element-copy-out-first-lines Inv-loop μ-loop
 element-copy-out-first-lines c =
-    let z = c .before .before .before .before .before .before .before .before .before .before .before in
+    let at-loop = c .before .before in
+    let z = at-loop .before .before .before .before .before .before .before .before .before in
     omega (arith, z .pre .whole .few, c .up3 .ensures)
 
 first-lines-requires : tie.Need-first-lines-requires Inv-loop μ-loop
@@ -87,13 +91,15 @@ returns c =
 mul-t25 : tie.Need-mul-t25 Inv-loop μ-loop
 mul-t25 c =
     let at-up3 = c .before .before .before .before .before .before in
-    let z = at-up3 .before .before .before .before .before .before .before .before .before .before .before in
+    let at-loop = at-up3 .before .before in
+    let z = at-loop .before .before .before .before .before .before .before .before .before in
     omega (arith, at-up3 .up3 .ensures, z .pre .whole .few)
 
 element-copy-out-t29 : tie.Need-element-copy-out-t29 Inv-loop μ-loop
 element-copy-out-t29 c =
     let at-up3 = c .before .before .before .before .before .before in
-    let z = at-up3 .before .before .before .before .before .before .before .before .before .before .before in
+    let at-loop = at-up3 .before .before in
+    let z = at-loop .before .before .before .before .before .before .before .before .before in
     omega (arith, at-up3 .up3 .ensures, z .pre .whole .few)
 
 level-fits-requires : tie.Need-level-fits-requires Inv-loop μ-loop
@@ -112,20 +118,23 @@ level-fits-requires c κs =
 
 same-length-4 : tie.Need-same-length-4 Inv-loop μ-loop
 same-length-4 c =
-    let at-first-lines = c .before .before .before .before .before .before .before .before .before .before .before .before .before .before in
+    let at-level-fits = c .before .before .before .before .before in
+    let at-first-lines = at-level-fits .before .before .before .before .before .before .before .before .before in
     let at-loop = at-first-lines .before .before .before .before .before in
     at-first-lines .first-lines .ensures .size ∙ at-loop .loop .inv .0 .size
 
 returns-2 : tie.Need-returns-2 Inv-loop μ-loop
 returns-2 c =
-    let at-first-lines = c .before .before .before .before .before .before .before .before .before .before .before .before .before .before in
+    let at-level-fits = c .before .before .before .before .before in
+    let at-first-lines = at-level-fits .before .before .before .before .before .before .before .before .before in
     let at-loop = at-first-lines .before .before .before .before .before in
     let z = at-loop .before .before .before .before .before .before .before .before .before in
     (reaching-stops (z .pre) (at-loop .loop .inv .0) (omega arith), at-first-lines .first-lines .ensures .size ∙ at-loop .loop .inv .0 .size)
 
 add-i : tie.Need-add-i Inv-loop μ-loop
 add-i c =
-    let at-first-lines = c .before .before .before .before .before .before .before .before .before .before .before .before .before .before in
+    let at-level-fits = c .before .before .before .before .before in
+    let at-first-lines = at-level-fits .before .before .before .before .before .before .before .before .before in
     let at-loop = at-first-lines .before .before .before .before .before in
     let z = at-loop .before .before .before .before .before .before .before .before .before in
     omega (arith, z .pre .whole .few)
