@@ -17,7 +17,8 @@
 //
 //   print, report, report_same      numbers and a word of the line
 //   write, write_back               words written, and a text that is written back
-//   accept_case, measure_case, commutative_case, build_case, read_case, write_case, check_case, call     a case of each kind, and of any
+//   accept_case, measure_case, commutative_case, build_case, read_case, write_case, check_case     a case of each kind
+//   lent_call, call                 a case of any kind, first of those with a buffer
 //   answer, answer_at, answer_all   a case, the one at a position, and all of them
 ghost use Prim.Native.Nat.{_<_, _≤_};
 ghost use lib.ListN.{length};
@@ -103,6 +104,19 @@ fn check_case(text: &[u8], have: u32) {
     print(case_calls::check_parsed(&text[..end], &text[start..], have) as u64);
 }
 
+// The call with a buffer that the kind of a case names.
+fn lent_call(line: &[u8], text: &[u8], have: u32, room: u32) {
+    if text::starts(line, 0, b"build ") {
+        build_case(text, have);
+    } else if text::starts(line, 0, b"read ") {
+        read_case(text, have, room);
+    } else if text::starts(line, 0, b"write ") {
+        write_case(text, have, room);
+    } else if text::starts(line, 0, b"check ") {
+        check_case(text, have);
+    }
+}
+
 // The call that the kind of a case names.
 fn call(line: &[u8], text: &[u8], have: u32, room: u32) {
     if text::starts(line, 0, b"accept ") {
@@ -111,14 +125,8 @@ fn call(line: &[u8], text: &[u8], have: u32, room: u32) {
         measure_case(text);
     } else if text::starts(line, 0, b"commutative ") {
         commutative_case(text);
-    } else if text::starts(line, 0, b"build ") {
-        build_case(text, have);
-    } else if text::starts(line, 0, b"read ") {
-        read_case(text, have, room);
-    } else if text::starts(line, 0, b"write ") {
-        write_case(text, have, room);
-    } else if text::starts(line, 0, b"check ") {
-        check_case(text, have);
+    } else {
+        lent_call(line, text, have, room);
     }
 }
 

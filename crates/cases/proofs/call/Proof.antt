@@ -8,5 +8,4 @@ pub call-spec : {M : Type 1} → statement M
 call-spec =
     tie.close
     (tie.spec (λ c. refl) (λ c κs. omega arith) (λ c κs. tt) (λ c. refl) (λ c κs. omega arith) (λ c κs. tt) (λ c. refl) (λ c κs. omega arith)
-    (λ c κs. tt) (λ c. refl) (λ c κs. omega arith) (λ c κs. tt) (λ c. refl) (λ c κs. omega arith) (λ c κs. tt) (λ c. refl) (λ c κs. omega arith)
-    (λ c κs. tt) (λ c. refl) (λ c κs. omega arith) (λ c κs. tt) (λ c. tt) (λ c. tt) (λ c. tt) (λ c. tt) (λ c. tt) (λ c. tt) (λ c. tt) (λ c. tt))
+    (λ c κs. tt) (λ c κs. tt) (λ c. tt) (λ c. tt) (λ c. tt) (λ c. tt))

@@ -1,0 +1,11 @@
+-- `lent_call` is safe: the line is looked at from its start.
+use mathlib.Core.Path.{refl}
+use native.Mathlib.Omega.{arith}
+use Rattle.cases.proofs.lent_call.Statement.{statement}
+use Rattle.cases.proofs.lent_call.Tie as tie
+
+pub lent-call-spec : {M : Type 1} → statement M
+lent-call-spec =
+    tie.close
+    (tie.spec (λ c. refl) (λ c κs. omega arith) (λ c κs. tt) (λ c. refl) (λ c κs. omega arith) (λ c κs. tt) (λ c. refl) (λ c κs. omega arith)
+    (λ c κs. tt) (λ c. refl) (λ c κs. omega arith) (λ c κs. tt) (λ c. tt) (λ c. tt) (λ c. tt) (λ c. tt) (λ c. tt))
