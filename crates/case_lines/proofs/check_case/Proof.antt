@@ -3,8 +3,8 @@ use mathlib.Core.Path.{sym}
 use native.Mathlib.Omega.{arith}
 use lib.Seq.{length-take-le}
 use borrow.Author.Needs.{needs}
-use Rattle.cases.proofs.check_case.Statement.{statement}
-use Rattle.cases.proofs.check_case.Tie as tie
+use Rattle.case_lines.proofs.check_case.Statement.{statement}
+use Rattle.case_lines.proofs.check_case.Tie as tie
 
 slice-aggregate-check-parsed : tie.Need-slice-aggregate-check-parsed
 slice-aggregate-check-parsed c = sym (length-take-le _ _ (omega arith))
