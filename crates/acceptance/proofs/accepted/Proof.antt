@@ -6,9 +6,6 @@ use borrow.Author.Needs.{needs}
 use Rattle.acceptance.proofs.accepted.Statement.{statement}
 use Rattle.acceptance.proofs.accepted.Tie as tie
 
-returns : tie.Need-returns
-returns c = accepted-refused (c .before .read .ensures) (omega arith)
-
 consistent-requires : tie.Need-consistent-requires
 consistent-requires c κs =
     let z = c .before .before .before .before .read in
@@ -25,4 +22,5 @@ returns-3 c =
     accepted-inconsistent (z .ensures) (omega arith) (c .before .consistent .ensures) (c .if2 .left) refl
 
 pub accepted-spec : {M : Type 1} → statement M
-accepted-spec = tie.close (tie.spec (λ c κs. search needs) returns consistent-requires returns-2 returns-3)
+accepted-spec = tie.close (tie.spec (λ c κs. search needs) (λ c. accepted-refused (c .before .read .ensures) (omega arith)) consistent-requires
+    returns-2 returns-3)

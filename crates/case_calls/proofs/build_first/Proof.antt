@@ -8,9 +8,6 @@ use borrow.Author.Needs.{needs}
 use Rattle.case_calls.proofs.build_first.Statement.{statement}
 use Rattle.case_calls.proofs.build_first.Tie as tie
 
-slice-aggregate-build : tie.Need-slice-aggregate-build
-slice-aggregate-build c = sym (length-take-le _ _ (omega arith))
-
 returns : tie.Need-returns
 returns c =
     let z = c .before .before .before .before .before .before .before .before in
@@ -19,6 +16,5 @@ returns c =
     lent-first (Build (z .args .text .now)) part (call .kept .1 .0 ∙ length-take-le _ _ (part .within)) (call .ensures)
 
 pub build-first-spec : {M : Type 1} → statement M
-build-first-spec =
-    tie.close
-    (tie.spec (λ c κs. search needs) (λ c. search needs) slice-aggregate-build (λ c κs. search needs) (λ c. search needs) returns)
+build-first-spec = tie.close (tie.spec (λ c κs. search needs) (λ c. search needs) (λ c. sym (length-take-le _ _ (omega arith))) (λ c κs. search needs)
+    (λ c. search needs) returns)

@@ -8,9 +8,6 @@ use borrow.Author.Needs.{needs}
 use Rattle.case_calls.proofs.check_parsed.Statement.{statement}
 use Rattle.case_calls.proofs.check_parsed.Tie as tie
 
-slice-aggregate-check : tie.Need-slice-aggregate-check
-slice-aggregate-check c = sym (length-take-le _ _ (omega arith))
-
 returns : tie.Need-returns
 returns c =
     let lent = c .before .before in
@@ -19,7 +16,5 @@ returns c =
     part-words (λ T. Check text T (c .check .result)) (lent .words-lent .ensures) (given .parse .ensures) (c .check .ensures)
 
 pub check-parsed-spec : {M : Type 1} → statement M
-check-parsed-spec =
-    tie.close
-    (tie.spec (λ c. search needs) (λ c κs. search needs) (λ c. search needs) (λ c κs. search needs) (λ c. search needs) slice-aggregate-check
-    (λ c κs. search needs) returns)
+check-parsed-spec = tie.close (tie.spec (λ c. search needs) (λ c κs. search needs) (λ c. search needs) (λ c κs. search needs) (λ c. search needs)
+    (λ c. sym (length-take-le _ _ (omega arith))) (λ c κs. search needs) returns)

@@ -8,9 +8,6 @@ use borrow.Author.Needs.{needs}
 use Rattle.case_calls.proofs.read_first.Statement.{statement}
 use Rattle.case_calls.proofs.read_first.Tie as tie
 
-slice-aggregate-read-table : tie.Need-slice-aggregate-read-table
-slice-aggregate-read-table c = sym (length-take-le _ _ (omega arith))
-
 returns : tie.Need-returns
 returns c =
     let z = c .before .before .before .before .before .before .before .before in
@@ -19,6 +16,5 @@ returns c =
     lent-first (ReadTable (z .args .text .now)) part (call .kept .1 .0 ∙ length-take-le _ _ (part .within)) (call .ensures)
 
 pub read-first-spec : {M : Type 1} → statement M
-read-first-spec =
-    tie.close
-    (tie.spec (λ c κs. search needs) (λ c. search needs) slice-aggregate-read-table (λ c κs. search needs) (λ c. search needs) returns)
+read-first-spec = tie.close (tie.spec (λ c κs. search needs) (λ c. search needs) (λ c. sym (length-take-le _ _ (omega arith))) (λ c κs. search needs)
+    (λ c. search needs) returns)

@@ -8,9 +8,6 @@ use borrow.Author.Needs.{needs}
 use Rattle.case_calls.proofs.write_first.Statement.{statement}
 use Rattle.case_calls.proofs.write_first.Tie as tie
 
-slice-aggregate-write-table : tie.Need-slice-aggregate-write-table
-slice-aggregate-write-table c = sym (length-take-le _ _ (omega arith))
-
 returns : tie.Need-returns
 returns c =
     let z = c .before .before .before .before .before .before .before .before in
@@ -19,6 +16,5 @@ returns c =
     lent-first (WriteTable (z .args .words .now)) part (call .kept .1 .0 ∙ length-take-le _ _ (part .within)) (call .ensures)
 
 pub write-first-spec : {M : Type 1} → statement M
-write-first-spec =
-    tie.close
-    (tie.spec (λ c κs. search needs) (λ c. search needs) slice-aggregate-write-table (λ c κs. search needs) (λ c. search needs) returns)
+write-first-spec = tie.close (tie.spec (λ c κs. search needs) (λ c. search needs) (λ c. sym (length-take-le _ _ (omega arith))) (λ c κs. search needs)
+    (λ c. search needs) returns)

@@ -4,11 +4,5 @@ use Rattle.case_input.proofs.Parsed.{digit-yes, digit-no}
 use Rattle.case_input.proofs.is_digit.Statement.{statement}
 use Rattle.case_input.proofs.is_digit.Tie as tie
 
-returns : tie.Need-returns
-returns c = digit-yes (c .before .args .b) (omega arith)
-
-returns-2 : tie.Need-returns-2
-returns-2 c = digit-no (c .before .args .b) (omega arith)
-
 pub is-digit-spec : {M : Type 1} → statement M
-is-digit-spec = tie.close (tie.spec returns returns-2)
+is-digit-spec = tie.close (tie.spec (λ c. digit-yes (c .before .args .b) (omega arith)) (λ c. digit-no (c .before .args .b) (omega arith)))

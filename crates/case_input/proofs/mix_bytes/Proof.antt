@@ -15,9 +15,6 @@ Inv-loop bytes sum₀ i₀ sum i = (sum ≡ mixedTo bytes i) × (i ≤ length by
 abbrev μ-loop : tie.MeasureT-loop
 μ-loop bytes sum₀ i₀ sum i = length bytes - i
 
-loop-holds : tie.Need-loop-holds Inv-loop μ-loop
-loop-holds c = (sym (mixed-none _), search needs)
-
 loop-again : tie.Need-loop-again Inv-loop μ-loop
 loop-again c =
     let l = c .before .before .before .before .loop in
@@ -31,7 +28,5 @@ returns c =
     l .inv .0 ∙ ap (mixedTo (z .args .bytes .now)) all
 
 pub mix-bytes-spec : {M : Type 1} → statement M
-mix-bytes-spec =
-    tie.close
-    (tie.spec Inv-loop μ-loop loop-holds (λ c. search needs) (λ c κs. search needs) (λ c κs. search needs) (λ c. search needs) (λ c. search needs)
-    loop-again returns)
+mix-bytes-spec = tie.close (tie.spec Inv-loop μ-loop (λ c. (sym (mixed-none _), search needs)) (λ c. search needs) (λ c κs. search needs)
+    (λ c κs. search needs) (λ c. search needs) (λ c. search needs) loop-again returns)

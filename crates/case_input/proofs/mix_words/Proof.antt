@@ -15,9 +15,6 @@ Inv-loop words sum₀ i₀ sum i = (sum ≡ mixedTo words i) × (i ≤ length wo
 abbrev μ-loop : tie.MeasureT-loop
 μ-loop words sum₀ i₀ sum i = length words - i
 
-loop-holds : tie.Need-loop-holds Inv-loop μ-loop
-loop-holds c = (sym (mixed-none _), search needs)
-
 loop-again : tie.Need-loop-again Inv-loop μ-loop
 loop-again c =
     let l = c .before .before .before .loop in
@@ -31,7 +28,5 @@ returns c =
     l .inv .0 ∙ ap (mixedTo (z .args .words .now)) all
 
 pub mix-words-spec : {M : Type 1} → statement M
-mix-words-spec =
-    tie.close
-    (tie.spec Inv-loop μ-loop loop-holds (λ c. search needs) (λ c. search needs) (λ c κs. search needs) (λ c. search needs) (λ c. search needs)
-    loop-again returns)
+mix-words-spec = tie.close (tie.spec Inv-loop μ-loop (λ c. (sym (mixed-none _), search needs)) (λ c. search needs) (λ c. search needs)
+    (λ c κs. search needs) (λ c. search needs) (λ c. search needs) loop-again returns)

@@ -14,9 +14,6 @@ Inv-loop s words₀ k₀ i₀ words k i = Parsing s words₀ words k i × (lengt
 abbrev μ-loop : tie.MeasureT-loop
 μ-loop s words₀ k₀ i₀ words k i = length s - i
 
-loop-holds : tie.Need-loop-holds Inv-loop μ-loop
-loop-holds c = (parsing-none, refl)
-
 word-behind-requires : tie.Need-word-behind-requires Inv-loop μ-loop
 word-behind-requires c κs = omega (arith, c .before .before .before .before .before .before .loop .inv .0 .few)
 
@@ -26,14 +23,6 @@ loop-again c =
     let add = c .before .before .before .add-byte in
     (parsing-more (loop .inv .0) (omega arith) (add .ensures) (c .word-behind .ensures), add .kept .0 ∙ loop .inv .1)
 
-same-length : tie.Need-same-length Inv-loop μ-loop
-same-length c = c .before .loop .inv .1
-
-returns : tie.Need-returns Inv-loop μ-loop
-returns c = parsing-all (c .before .loop .inv .0) (omega arith)
-
 pub parse-spec : {M : Type 1} → statement M
-parse-spec =
-    tie.close
-    (tie.spec Inv-loop μ-loop loop-holds (λ c. search needs) (λ c κs. search needs) word-behind-requires (λ c. search needs) (λ c. search needs)
-    loop-again same-length returns)
+parse-spec = tie.close (tie.spec Inv-loop μ-loop (λ c. (parsing-none, refl)) (λ c. search needs) (λ c κs. search needs) word-behind-requires
+    (λ c. search needs) (λ c. search needs) loop-again (λ c. c .before .loop .inv .1) (λ c. parsing-all (c .before .loop .inv .0) (omega arith)))

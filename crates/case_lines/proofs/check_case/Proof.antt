@@ -6,11 +6,6 @@ use borrow.Author.Needs.{needs}
 use Rattle.case_lines.proofs.check_case.Statement.{statement}
 use Rattle.case_lines.proofs.check_case.Tie as tie
 
-slice-aggregate-check-parsed : tie.Need-slice-aggregate-check-parsed
-slice-aggregate-check-parsed c = sym (length-take-le _ _ (omega arith))
-
 pub check-case-spec : {M : Type 1} → statement M
-check-case-spec =
-    tie.close
-    (tie.spec (λ c κs. search needs) (λ c κs. search needs) slice-aggregate-check-parsed (λ c. search needs) (λ c. search needs) (λ c. search needs)
-    (λ c κs. tt) (λ c. search needs) (λ c κs. tt) (λ c. tt))
+check-case-spec = tie.close (tie.spec (λ c κs. search needs) (λ c κs. search needs) (λ c. sym (length-take-le _ _ (omega arith))) (λ c. search needs)
+    (λ c. search needs) (λ c. search needs) (λ c κs. tt) (λ c. search needs) (λ c κs. tt) (λ c. tt))

@@ -6,8 +6,5 @@ use borrow.Author.Needs.{needs}
 use Rattle.case_lines.proofs.write_back.Statement.{statement}
 use Rattle.case_lines.proofs.write_back.Tie as tie
 
-slice-aggregate-write : tie.Need-slice-aggregate-write
-slice-aggregate-write c = sym (length-take-le _ _ (omega arith))
-
 pub write-back-spec : {M : Type 1} → statement M
-write-back-spec = tie.close (tie.spec (λ c. search needs) slice-aggregate-write (λ c κs. tt) (λ c κs. tt) (λ c. tt) (λ c. tt))
+write-back-spec = tie.close (tie.spec (λ c. search needs) (λ c. sym (length-take-le _ _ (omega arith))) (λ c κs. tt) (λ c κs. tt) (λ c. tt) (λ c. tt))

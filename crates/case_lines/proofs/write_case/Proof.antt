@@ -6,10 +6,6 @@ use borrow.Author.Needs.{needs}
 use Rattle.case_lines.proofs.write_case.Statement.{statement}
 use Rattle.case_lines.proofs.write_case.Tie as tie
 
-slice-aggregate-write : tie.Need-slice-aggregate-write
-slice-aggregate-write c = sym (length-take-le _ _ (omega arith))
-
 pub write-case-spec : {M : Type 1} → statement M
-write-case-spec =
-    tie.close
-    (tie.spec (λ c. search needs) (λ c κs. tt) (λ c. search needs) (λ c κs. tt) (λ c. search needs) slice-aggregate-write (λ c κs. tt) (λ c. tt))
+write-case-spec = tie.close (tie.spec (λ c. search needs) (λ c κs. tt) (λ c. search needs) (λ c κs. tt) (λ c. search needs)
+    (λ c. sym (length-take-le _ _ (omega arith))) (λ c κs. tt) (λ c. tt))

@@ -9,12 +9,6 @@ use borrow.Author.Needs.{needs}
 use Rattle.collector.proofs.alone.Statement.{statement}
 use Rattle.collector.proofs.alone.Tie as tie
 
-returns : tie.Need-returns
-returns c = record { is = λ e. absurd (false≢true e) }
-
-returns-2 : tie.Need-returns-2
-returns-2 c = record { is = λ e. absurd (false≢true e) }
-
 returns-3 : tie.Need-returns-3
 returns-3 c =
     let z = c .before .before .before .before .before .before .before in
@@ -30,7 +24,6 @@ returns-3 c =
     }
 
 pub alone-spec : {M : Type 1} → statement M
-alone-spec =
-    tie.close
-    (tie.spec returns (λ c. search needs) (λ c κs. search needs) returns-2 (λ c. search needs) (λ c. search needs) (λ c κs. search needs)
-    (λ c. search needs) (λ c κs. search needs) returns-3)
+alone-spec = tie.close (tie.spec (λ c. record { is = λ e. absurd (false≢true e) }) (λ c. search needs) (λ c κs. search needs)
+    (λ c. record { is = λ e. absurd (false≢true e) }) (λ c. search needs) (λ c. search needs) (λ c κs. search needs) (λ c. search needs)
+    (λ c κs. search needs) returns-3)

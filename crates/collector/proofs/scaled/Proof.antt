@@ -4,11 +4,6 @@ use borrow.Author.Needs.{needs}
 use Rattle.collector.proofs.scaled.Statement.{statement}
 use Rattle.collector.proofs.scaled.Tie as tie
 
-returns : tie.Need-returns
-returns c = scaled-zero (c .if1 .taken) (c .before .pre .right)
-
-returns-2 : tie.Need-returns-2
-returns-2 c = scaled-more (c .before .power .ensures) (c .product .ensures)
-
 pub scaled-spec : {M : Type 1} → statement M
-scaled-spec = tie.close (tie.spec returns (λ c κs. search needs) (λ c κs. search needs) returns-2)
+scaled-spec = tie.close (tie.spec (λ c. scaled-zero (c .if1 .taken) (c .before .pre .right)) (λ c κs. search needs) (λ c κs. search needs)
+    (λ c. scaled-more (c .before .power .ensures) (c .product .ensures)))

@@ -17,9 +17,6 @@ Inv-loop rows j m₀ m = (j < maxGenerators) × (m ≤ j) × Reach rows j m
 abbrev μ-loop : tie.MeasureT-loop
 μ-loop rows j m₀ m = m
 
-loop-holds : tie.Need-loop-holds Inv-loop μ-loop
-loop-holds c = (search needs, omega arith, reach-none)
-
 loop-again : tie.Need-loop-again Inv-loop μ-loop
 loop-again c =
     let empty = sym (c .before .empty .ensures) ∙ not-false _ (c .if1 .left) in
@@ -32,7 +29,5 @@ returns-2 c =
     subst (Reach (now (z .args .rows)) (z .args .j)) e (c .before .loop .inv .2)
 
 pub reached-spec : {M : Type 1} → statement M
-reached-spec =
-    tie.close
-    (tie.spec Inv-loop μ-loop loop-holds (λ c. search needs) (λ c κs. search needs) (λ c κs. search needs) (λ c. search needs) (λ c. search needs)
-    (λ c. search needs) loop-again returns-2)
+reached-spec = tie.close (tie.spec Inv-loop μ-loop (λ c. (search needs, omega arith, reach-none)) (λ c. search needs) (λ c κs. search needs)
+    (λ c κs. search needs) (λ c. search needs) (λ c. search needs) (λ c. search needs) loop-again returns-2)

@@ -17,9 +17,6 @@ Inv-loop rows n r₀ j₀ r j = (n ≤ maxGenerators) × (j ≤ n) × (length r 
 abbrev μ-loop : tie.MeasureT-loop
 μ-loop rows n r₀ j₀ r j = n - j
 
-loop-holds : tie.Need-loop-holds Inv-loop μ-loop
-loop-holds c = (search needs, search needs, search needs, quiet-none)
-
 loop-again : tie.Need-loop-again Inv-loop μ-loop
 loop-again c = (search needs, search needs, search needs, quiet-more (search needs) (c .before .before .loop .inv .3) (c .reached .ensures))
 
@@ -31,7 +28,5 @@ returns c =
     subst (λ j. Quiet j (now (z .args .rows)) (l .r)) e (l .inv .3)
 
 pub reaches-spec : {M : Type 1} → statement M
-reaches-spec =
-    tie.close
-    (tie.spec Inv-loop μ-loop loop-holds (λ c κs. search needs) (λ c. search needs) (λ c. search needs) (λ c. search needs) (λ c. search needs)
-    loop-again returns)
+reaches-spec = tie.close (tie.spec Inv-loop μ-loop (λ c. (search needs, search needs, search needs, quiet-none)) (λ c κs. search needs)
+    (λ c. search needs) (λ c. search needs) (λ c. search needs) (λ c. search needs) loop-again returns)

@@ -17,16 +17,10 @@ Inv-loop rows reach n c j₀ j = (n ≤ maxGenerators) × (c < j) × (j ≤ n) �
 abbrev μ-loop : tie.MeasureT-loop
 μ-loop rows reach n c j₀ j = n - j
 
-returns : tie.Need-returns Inv-loop μ-loop
-returns c = rise-none
-
 loop-holds : tie.Need-loop-holds Inv-loop μ-loop
 loop-holds c =
     let z = c .before .before in
     (search needs, search needs, search needs, rise-first (subst (Reach (now (z .args .rows)) (z .args .c)) (c .if1 .left) (z .pre .2)))
-
-returns-2 : tie.Need-returns-2 Inv-loop μ-loop
-returns-2 c = c .before .before .before .before .loop .inv .3
 
 loop-again : tie.Need-loop-again Inv-loop μ-loop
 loop-again c =
@@ -42,7 +36,6 @@ returns-3 c =
     subst (Rise (now (z .args .rows)) (z .args .c)) e (l .inv .3)
 
 pub risen-spec : {M : Type 1} → statement M
-risen-spec =
-    tie.close
-    (tie.spec Inv-loop μ-loop (λ c. search needs) (λ c. search needs) returns (λ c. search needs) loop-holds (λ c κs. search needs)
-    (λ c. search needs) (λ c κs. search needs) returns-2 (λ c. search needs) (λ c. search needs) loop-again returns-3)
+risen-spec = tie.close (tie.spec Inv-loop μ-loop (λ c. search needs) (λ c. search needs) (λ c. rise-none) (λ c. search needs) loop-holds
+    (λ c κs. search needs) (λ c. search needs) (λ c κs. search needs) (λ c. c .before .before .before .before .loop .inv .3) (λ c. search needs)
+    (λ c. search needs) loop-again returns-3)

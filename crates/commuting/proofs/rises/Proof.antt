@@ -17,9 +17,6 @@ Inv-loop rows reach n r₀ c₀ r c = (n ≤ maxGenerators) × (c ≤ n) × (len
 abbrev μ-loop : tie.MeasureT-loop
 μ-loop rows reach n r₀ c₀ r c = n - c
 
-loop-holds : tie.Need-loop-holds Inv-loop μ-loop
-loop-holds c = (search needs, search needs, search needs, central-none)
-
 risen-requires : tie.Need-risen-requires Inv-loop μ-loop
 risen-requires c κs =
     let z = c .before .before in
@@ -36,7 +33,5 @@ returns c =
     subst (λ m. Central m (now (z .args .rows)) (l .r)) e (l .inv .3)
 
 pub rises-spec : {M : Type 1} → statement M
-rises-spec =
-    tie.close
-    (tie.spec Inv-loop μ-loop loop-holds risen-requires (λ c. search needs) (λ c. search needs) (λ c. search needs) (λ c. search needs) loop-again
-    returns)
+rises-spec = tie.close (tie.spec Inv-loop μ-loop (λ c. (search needs, search needs, search needs, central-none)) risen-requires (λ c. search needs)
+    (λ c. search needs) (λ c. search needs) (λ c. search needs) loop-again returns)

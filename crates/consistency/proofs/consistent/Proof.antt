@@ -24,15 +24,6 @@ Inv-loop primes rows n reach rise h₀ i₀ h i = (i ≤ n) × TestAnswer n prim
 abbrev μ-loop : tie.MeasureT-loop
 μ-loop primes rows n reach rise h₀ i₀ h i = n - i
 
-reaches-requires : tie.Need-reaches-requires Inv-loop μ-loop
-reaches-requires c κs = c .pre .few
-
-rises-requires : tie.Need-rises-requires Inv-loop μ-loop
-rises-requires c κs = (c .before .before .pre .few, c .before .reaches .ensures)
-
-loop-holds : tie.Need-loop-holds Inv-loop μ-loop
-loop-holds c = (search needs, answer-none, refl)
-
 level-passes-requires : tie.Need-level-passes-requires Inv-loop μ-loop
 level-passes-requires c κs =
     let l = c .before .before .before .before in
@@ -62,7 +53,5 @@ returns-2 c =
     decides (subst (λ i. TestAnswer (z .args .n) (now (z .args .primes)) (now (z .args .rows)) (λ P. allBelow i (levelTest P)) true) e (l .inv .1))
 
 pub consistent-spec : {M : Type 1} → statement M
-consistent-spec =
-    tie.close
-    (tie.spec Inv-loop μ-loop reaches-requires rises-requires loop-holds level-passes-requires returns (λ c. search needs) (λ c. search needs)
-    loop-again returns-2)
+consistent-spec = tie.close (tie.spec Inv-loop μ-loop (λ c κs. c .pre .few) (λ c κs. (c .before .before .pre .few, c .before .reaches .ensures))
+    (λ c. (search needs, answer-none, refl)) level-passes-requires returns (λ c. search needs) (λ c. search needs) loop-again returns-2)

@@ -17,9 +17,6 @@ Inv-loop primes rows reach i h₀ k₀ h k = (k ≤ i) × (length h ≡ maxGener
 abbrev μ-loop : tie.MeasureT-loop
 μ-loop primes rows reach i h₀ k₀ h k = i - k
 
-loop-holds : tie.Need-loop-holds Inv-loop μ-loop
-loop-holds c = (search needs, c .pre .1, images-none)
-
 conjugate-requires : tie.Need-conjugate-requires Inv-loop μ-loop
 conjugate-requires c κs =
     let z = c .before .before .before in
@@ -41,7 +38,5 @@ returns c =
     (subst (Images (z .args .i) (now (z .args .primes)) (now (z .args .rows)) (l .h)) e (l .inv .2), l .inv .1)
 
 pub images-spec : {M : Type 1} → statement M
-images-spec =
-    tie.close
-    (tie.spec Inv-loop μ-loop loop-holds (λ c κs. search needs) conjugate-requires (λ c. search needs) (λ c. search needs) (λ c. search needs)
-    (λ c. search needs) loop-again returns)
+images-spec = tie.close (tie.spec Inv-loop μ-loop (λ c. (search needs, c .pre .1, images-none)) (λ c κs. search needs) conjugate-requires
+    (λ c. search needs) (λ c. search needs) (λ c. search needs) (λ c. search needs) loop-again returns)

@@ -16,9 +16,6 @@ Inv-loop primes rows reach rise h i j₀ j = (j ≤ i) × SettledBelow i primes 
 abbrev μ-loop : tie.MeasureT-loop
 μ-loop primes rows reach rise h i j₀ j = i - j
 
-loop-holds : tie.Need-loop-holds Inv-loop μ-loop
-loop-holds c = (search needs, settled-none)
-
 returns : tie.Need-returns Inv-loop μ-loop
 returns c =
     let l = c .before .before .before .loop in
@@ -34,6 +31,5 @@ returns-2 c =
     commutators-all (settled-all (l .inv .1) e)
 
 pub keeps-commutators-spec : {M : Type 1} → statement M
-keeps-commutators-spec =
-    tie.close
-    (tie.spec Inv-loop μ-loop loop-holds (λ c κs. search needs) returns (λ c. search needs) (λ c. search needs) loop-again returns-2)
+keeps-commutators-spec = tie.close (tie.spec Inv-loop μ-loop (λ c. (search needs, settled-none)) (λ c κs. search needs) returns (λ c. search needs)
+    (λ c. search needs) loop-again returns-2)

@@ -15,9 +15,6 @@ Inv-loop primes rows reach rise h i j k₀ k = (k ≤ j) × SettledBelow i prime
 abbrev μ-loop : tie.MeasureT-loop
 μ-loop primes rows reach rise h i j k₀ k = j - k
 
-loop-holds : tie.Need-loop-holds Inv-loop μ-loop
-loop-holds c = (search needs, settled-none)
-
 returns : tie.Need-returns Inv-loop μ-loop
 returns c =
     let l = c .before .before .before .loop in
@@ -33,6 +30,5 @@ returns-2 c =
     settled-all (l .inv .1) e
 
 pub keeps-commutators-of-spec : {M : Type 1} → statement M
-keeps-commutators-of-spec =
-    tie.close
-    (tie.spec Inv-loop μ-loop loop-holds (λ c κs. search needs) returns (λ c. search needs) (λ c. search needs) loop-again returns-2)
+keeps-commutators-of-spec = tie.close (tie.spec Inv-loop μ-loop (λ c. (search needs, settled-none)) (λ c κs. search needs) returns (λ c. search needs)
+    (λ c. search needs) loop-again returns-2)

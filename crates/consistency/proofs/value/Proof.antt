@@ -15,9 +15,6 @@ Inv-loop primes rows reach h i k x v₀ m₀ v m = (m ≤ k) × Value i primes r
 abbrev μ-loop : tie.MeasureT-loop
 μ-loop primes rows reach h i k x v₀ m₀ v m = k - m
 
-loop-holds : tie.Need-loop-holds Inv-loop μ-loop
-loop-holds c = (search needs, value-none (c .pre .0 .prepared))
-
 scaled-requires : tie.Need-scaled-requires Inv-loop μ-loop
 scaled-requires c κs =
     let z = c .before .before .before in
@@ -38,7 +35,5 @@ returns c =
     subst (λ m. Value (z .args .i) (now (z .args .primes)) (now (z .args .rows)) m (z .args .t7) (l .v)) e (l .inv .1)
 
 pub value-spec : {M : Type 1} → statement M
-value-spec =
-    tie.close
-    (tie.spec Inv-loop μ-loop loop-holds (λ c. search needs) (λ c. search needs) (λ c. search needs) (λ c. search needs) scaled-requires
-    (λ c. search needs) (λ c. search needs) loop-again returns)
+value-spec = tie.close (tie.spec Inv-loop μ-loop (λ c. (search needs, value-none (c .pre .0 .prepared))) (λ c. search needs) (λ c. search needs)
+    (λ c. search needs) (λ c. search needs) scaled-requires (λ c. search needs) (λ c. search needs) loop-again returns)

@@ -15,9 +15,6 @@ Inv-loop text at n kept₀ next₀ k₀ kept next k = ReadTo text at n k next ke
 abbrev μ-loop : tie.MeasureT-loop
 μ-loop text at n kept₀ next₀ k₀ kept next k = n - k
 
-loop-holds : tie.Need-loop-holds Inv-loop μ-loop
-loop-holds c = going-none (c .before .pre .0) (c .before .pre .1)
-
 returns : tie.Need-returns Inv-loop μ-loop
 returns c =
     going-fails (c .before .before .before .before .loop .inv) (omega arith) (c .before .before .value-behind .ensures .fails (c .enum-told .given .1))
@@ -46,7 +43,6 @@ returns-3 c =
     going-end (loop .inv) (omega arith) (omega arith) (byte-within (args .text .now) (loop .next) (omega arith))
 
 pub exponents-spec : {M : Type 1} → statement M
-exponents-spec =
-    tie.close
-    (tie.spec Inv-loop μ-loop loop-holds (λ c κs. omega arith) (λ c. search needs) (λ c. search needs) returns (λ c. omega arith) (λ c. omega arith)
-    (λ c. omega arith) (λ c. omega arith) (λ c. omega arith) loop-again (λ c κs. tt) returns-2 add-t19 returns-3)
+exponents-spec = tie.close (tie.spec Inv-loop μ-loop (λ c. going-none (c .before .pre .0) (c .before .pre .1)) (λ c κs. omega arith)
+    (λ c. search needs) (λ c. search needs) returns (λ c. omega arith) (λ c. omega arith) (λ c. omega arith) (λ c. omega arith) (λ c. omega arith)
+    loop-again (λ c κs. tt) returns-2 add-t19 returns-3)

@@ -20,9 +20,6 @@ loop-holds c =
     let r = c .before .pre in
     reading-none (r .0) (r .2) (r .3)
 
-head-requires : tie.Need-head-requires Inv-loop μ-loop
-head-requires c κs = omega (arith, c .before .before .before .pre)
-
 returns : tie.Need-returns Inv-loop μ-loop
 returns c =
     let h = c .before .before in
@@ -78,11 +75,7 @@ loop-again c =
     reading-more (l .loop .inv) below (h .head .ensures .stands _ _ (p .p .given .1)) w
     (c .before .keep .ensures) (c .before .before .before .before .still-prime .ensures) (c .next-pair .ensures)
 
-returns-3 : tie.Need-returns-3 Inv-loop μ-loop
-returns-3 c = reading-end (c .before .loop .inv) (omega arith)
-
 pub read-lines-spec : {M : Type 1} → statement M
-read-lines-spec =
-    tie.close
-    (tie.spec Inv-loop μ-loop loop-holds head-requires (λ c. search needs) (λ c. search needs) returns exponents-requires returns-2
-    still-prime-requires (λ c κs. tt) add-k next-pair-requires loop-less loop-again returns-3)
+read-lines-spec = tie.close (tie.spec Inv-loop μ-loop loop-holds (λ c κs. omega (arith, c .before .before .before .pre)) (λ c. search needs)
+    (λ c. search needs) returns exponents-requires returns-2 still-prime-requires (λ c κs. tt) add-k next-pair-requires loop-less loop-again
+    (λ c. reading-end (c .before .loop .inv) (omega arith)))

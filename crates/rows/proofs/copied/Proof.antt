@@ -17,9 +17,6 @@ Inv-loop k x₀ low q₀ x q = (k ≤ maxGenerators) × (q ≤ k) × (length x �
 abbrev μ-loop : tie.MeasureT-loop
 μ-loop k x₀ low q₀ x q = k - q
 
-loop-holds : tie.Need-loop-holds Inv-loop μ-loop
-loop-holds c = (search needs, search needs, search needs, mixed-none)
-
 loop-again : tie.Need-loop-again Inv-loop μ-loop
 loop-again c = (search needs, search needs, search needs, mixed-more (search needs) (c .before .loop .inv .3))
 
@@ -31,7 +28,5 @@ returns c =
     subst (λ q. Mixed (z .args .t2) (now (z .args .x)) q (l .x)) e (l .inv .3)
 
 pub copied-spec : {M : Type 1} → statement M
-copied-spec =
-    tie.close
-    (tie.spec Inv-loop μ-loop loop-holds (λ c. search needs) (λ c. search needs) (λ c. search needs) (λ c. search needs) (λ c. search needs)
-    (λ c. search needs) loop-again returns)
+copied-spec = tie.close (tie.spec Inv-loop μ-loop (λ c. (search needs, search needs, search needs, mixed-none)) (λ c. search needs)
+    (λ c. search needs) (λ c. search needs) (λ c. search needs) (λ c. search needs) (λ c. search needs) loop-again returns)

@@ -5,8 +5,5 @@ use borrow.Author.Needs.{needs}
 use Rattle.rows.proofs.empty.Statement.{statement}
 use Rattle.rows.proofs.empty.Tie as tie
 
-returns : tie.Need-returns
-returns c = c .same .ensures ∙ empty-is (c .before .args .i) (c .before .args .x)
-
 pub empty-spec : {M : Type 1} → statement M
-empty-spec = tie.close (tie.spec (λ c κs. search needs) returns)
+empty-spec = tie.close (tie.spec (λ c κs. search needs) (λ c. c .same .ensures ∙ empty-is (c .before .args .i) (c .before .args .x)))

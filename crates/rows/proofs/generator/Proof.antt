@@ -4,8 +4,5 @@ use borrow.Author.Needs.{needs}
 use Rattle.rows.proofs.generator.Statement.{statement}
 use Rattle.rows.proofs.generator.Tie as tie
 
-returns : tie.Need-returns
-returns c = generator-row (c .args .k) (search needs)
-
 pub generator-spec : {M : Type 1} → statement M
-generator-spec = tie.close (tie.spec (λ c. search needs) (λ c. search needs) returns)
+generator-spec = tie.close (tie.spec (λ c. search needs) (λ c. search needs) (λ c. generator-row (c .args .k) (search needs)))

@@ -7,9 +7,6 @@ use borrow.Author.Needs.{needs}
 use Rattle.rows.proofs.pair.Statement.{statement}
 use Rattle.rows.proofs.pair.Tie as tie
 
-mul-first : tie.Need-mul-first
-mul-first c = omega (arith, pair-small (c .args .j) (search needs))
-
 add-result : tie.Need-add-result
 add-result c = let a = c .before .args in omega (arith, pair-room (a .j) (a .i) (search needs) (search needs) (search needs))
 
@@ -29,4 +26,5 @@ returns-2 c =
     (e, omega (arith, e, pair-below (z .args .j) (z .args .i) (search needs) (search needs)))
 
 pub pair-spec : {M : Type 1} → statement M
-pair-spec = tie.close (tie.spec (λ c. search needs) mul-first add-result add-result-2 returns returns-2)
+pair-spec = tie.close (tie.spec (λ c. search needs) (λ c. omega (arith, pair-small (c .args .j) (search needs))) add-result add-result-2 returns
+    returns-2)

@@ -15,9 +15,6 @@ Inv-loop i x y k₀ k = (k ≤ i) × (i ≤ maxGenerators) × (sameForm i (toNF 
 abbrev μ-loop : tie.MeasureT-loop
 μ-loop i x y k₀ k = k
 
-loop-holds : tie.Need-loop-holds Inv-loop μ-loop
-loop-holds c = (search needs, search needs, refl)
-
 returns : tie.Need-returns Inv-loop μ-loop
 returns c =
     let z = c .before .before .before in
@@ -37,7 +34,5 @@ returns-2 c =
     sym (c .before .loop .inv .2 ∙ ap (λ k. sameForm k (toNF k (z .args .t2)) (toNF k (z .args .t3))) e ∙ same-none (z .args .t2) (z .args .t3))
 
 pub same-spec : {M : Type 1} → statement M
-same-spec =
-    tie.close
-    (tie.spec Inv-loop μ-loop loop-holds (λ c. search needs) (λ c. search needs) (λ c. search needs) (λ c. search needs) (λ c. search needs) returns
-    (λ c. search needs) loop-again returns-2)
+same-spec = tie.close (tie.spec Inv-loop μ-loop (λ c. (search needs, search needs, refl)) (λ c. search needs) (λ c. search needs) (λ c. search needs)
+    (λ c. search needs) (λ c. search needs) returns (λ c. search needs) loop-again returns-2)

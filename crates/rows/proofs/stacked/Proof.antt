@@ -16,9 +16,6 @@ Inv-loop k s low r₀ q₀ r q = (k < maxGenerators) × (q ≤ k) × (length r �
 abbrev μ-loop : tie.MeasureT-loop
 μ-loop k s low r₀ q₀ r q = k - q
 
-loop-holds : tie.Need-loop-holds Inv-loop μ-loop
-loop-holds c = (search needs, search needs, search needs, mixed-none)
-
 loop-again : tie.Need-loop-again Inv-loop μ-loop
 loop-again c = (search needs, search needs, search needs, mixed-more (search needs) (c .before .loop .inv .3))
 
@@ -29,7 +26,6 @@ returns c =
     mixed-stacked e (search needs) (l .inv .3)
 
 pub stacked-spec : {M : Type 1} → statement M
-stacked-spec =
-    tie.close
-    (tie.spec Inv-loop μ-loop loop-holds (λ c. search needs) (λ c. search needs) (λ c. search needs) (λ c. search needs) (λ c. search needs)
-    (λ c. search needs) loop-again (λ c. search needs) (λ c. search needs) returns)
+stacked-spec = tie.close (tie.spec Inv-loop μ-loop (λ c. (search needs, search needs, search needs, mixed-none)) (λ c. search needs)
+    (λ c. search needs) (λ c. search needs) (λ c. search needs) (λ c. search needs) (λ c. search needs) loop-again (λ c. search needs)
+    (λ c. search needs) returns)

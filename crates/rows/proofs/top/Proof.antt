@@ -16,9 +16,6 @@ Inv-loop i x k₀ k = (i ≤ maxGenerators) × (k ≤ i) × Top i x k
 abbrev μ-loop : tie.MeasureT-loop
 μ-loop i x k₀ k = k
 
-loop-holds : tie.Need-loop-holds Inv-loop μ-loop
-loop-holds c = (search needs, omega arith, top-none)
-
 loop-again : tie.Need-loop-again Inv-loop μ-loop
 loop-again c = (search needs, search needs, top-more (search needs) (c .if1 .left) (c .before .before .before .loop .inv .2))
 
@@ -29,7 +26,5 @@ returns-2 c =
     subst (Top (z .args .i) (now (z .args .x))) e (c .before .loop .inv .2)
 
 pub top-spec : {M : Type 1} → statement M
-top-spec =
-    tie.close
-    (tie.spec Inv-loop μ-loop loop-holds (λ c. search needs) (λ c. search needs) (λ c. search needs) (λ c. search needs) (λ c. search needs)
-    (λ c. search needs) loop-again returns-2)
+top-spec = tie.close (tie.spec Inv-loop μ-loop (λ c. (search needs, omega arith, top-none)) (λ c. search needs) (λ c. search needs)
+    (λ c. search needs) (λ c. search needs) (λ c. search needs) (λ c. search needs) loop-again returns-2)

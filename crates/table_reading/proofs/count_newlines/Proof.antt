@@ -12,9 +12,6 @@ Inv-loop text n₀ i₀ n i = CountedLines text i n
 abbrev μ-loop : tie.MeasureT-loop
 μ-loop text n₀ i₀ n i = length text - i
 
-loop-holds : tie.Need-loop-holds Inv-loop μ-loop
-loop-holds c = counted-none
-
 add-n : tie.Need-add-n Inv-loop μ-loop
 add-n c =
     let h = counted-more (c .before .before .before .loop .inv) (omega arith) (c .is-newline .ensures) in
@@ -23,10 +20,6 @@ add-n c =
 loop-again : tie.Need-loop-again Inv-loop μ-loop
 loop-again c = counted-more (c .before .before .before .loop .inv) (omega arith) (c .is-newline .ensures)
 
-returns : tie.Need-returns Inv-loop μ-loop
-returns c = counted-all (c .before .loop .inv) (omega arith)
-
 pub count-newlines-spec : {M : Type 1} → statement M
-count-newlines-spec =
-    tie.close
-    (tie.spec Inv-loop μ-loop loop-holds (λ c. omega arith) (λ c κs. tt) add-n (λ c. omega arith) (λ c. omega arith) loop-again returns)
+count-newlines-spec = tie.close (tie.spec Inv-loop μ-loop (λ c. counted-none) (λ c. omega arith) (λ c κs. tt) add-n (λ c. omega arith)
+    (λ c. omega arith) loop-again (λ c. counted-all (c .before .loop .inv) (omega arith)))

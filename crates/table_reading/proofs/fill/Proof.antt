@@ -13,12 +13,6 @@ Inv-loop text start words₀ at₀ k₀ words at k = Filling text start words₀
 abbrev μ-loop : tie.MeasureT-loop
 μ-loop text start words₀ at₀ k₀ words at k = length text - at
 
-loop-holds : tie.Need-loop-holds Inv-loop μ-loop
-loop-holds c = filling-none (c .before .before .pre)
-
-same-length : tie.Need-same-length Inv-loop μ-loop
-same-length c = filling-length (c .before .before .before .before .loop .inv)
-
 returns : tie.Need-returns Inv-loop μ-loop
 returns c =
     absurd (filling-known (c .before .before .before .before .loop .inv) (omega arith) (c .before .before .next-word .ensures .fails (c .enum-told .given .1)))
@@ -49,14 +43,7 @@ loop-again c =
     let w = v .before .before in
     filling-more (w .before .before .loop .inv) (omega arith) (w .next-word .ensures .stands _ _ (v .v .given .1))
 
-same-length-2 : tie.Need-same-length-2 Inv-loop μ-loop
-same-length-2 c = filling-length (c .before .loop .inv)
-
-returns-2 : tie.Need-returns-2 Inv-loop μ-loop
-returns-2 c = filling-end (c .before .loop .inv) (omega arith)
-
 pub fill-spec : {M : Type 1} → statement M
-fill-spec =
-    tie.close
-    (tie.spec Inv-loop μ-loop loop-holds (λ c κs. tt) (λ c. search needs) (λ c. search needs) same-length returns mul-words slice-write-words add-k
-    loop-less loop-again same-length-2 returns-2)
+fill-spec = tie.close (tie.spec Inv-loop μ-loop (λ c. filling-none (c .before .before .pre)) (λ c κs. tt) (λ c. search needs) (λ c. search needs)
+    (λ c. filling-length (c .before .before .before .before .loop .inv)) returns mul-words slice-write-words add-k loop-less loop-again
+    (λ c. filling-length (c .before .loop .inv)) (λ c. filling-end (c .before .loop .inv) (omega arith)))

@@ -13,9 +13,6 @@ Inv-loop text start at₀ k₀ at k = Forming text start at k
 abbrev μ-loop : tie.MeasureT-loop
 μ-loop text start at₀ k₀ at k = length text - at
 
-loop-holds : tie.Need-loop-holds Inv-loop μ-loop
-loop-holds c = forming-none (c .before .pre)
-
 returns : tie.Need-returns Inv-loop μ-loop
 returns c =
     forming-fails (c .before .before .before .before .loop .inv) (omega arith) (c .before .before .next-word .ensures .fails (c .enum-told .given .1))
@@ -29,11 +26,6 @@ loop-again : tie.Need-loop-again Inv-loop μ-loop
 loop-again c =
     forming-more (c .before .before .before .before .before .loop .inv) (c .before .before .before .next-word .ensures .stands _ _ (c .before .next .given .1))
 
-returns-2 : tie.Need-returns-2 Inv-loop μ-loop
-returns-2 c = forming-end (c .before .loop .inv) (omega arith)
-
 pub in-form-spec : {M : Type 1} → statement M
-in-form-spec =
-    tie.close
-    (tie.spec Inv-loop μ-loop loop-holds (λ c κs. tt) (λ c. search needs) (λ c. search needs) returns (λ c. omega arith) loop-less loop-again
-    returns-2)
+in-form-spec = tie.close (tie.spec Inv-loop μ-loop (λ c. forming-none (c .before .pre)) (λ c κs. tt) (λ c. search needs) (λ c. search needs) returns
+    (λ c. omega arith) loop-less loop-again (λ c. forming-end (c .before .loop .inv) (omega arith)))

@@ -4,11 +4,6 @@ use Rattle.numbers.proofs.Bools.{cond-eq, cond-ne}
 use Rattle.table_reading.proofs.is_newline.Statement.{statement}
 use Rattle.table_reading.proofs.is_newline.Tie as tie
 
-returns : tie.Need-returns
-returns c = sym (cond-eq (c .before .args .b) 10 1 0 (c .if1 .taken))
-
-returns-2 : tie.Need-returns-2
-returns-2 c = sym (cond-ne (c .before .args .b) 10 1 0 (c .if1 .left))
-
 pub is-newline-spec : {M : Type 1} → statement M
-is-newline-spec = tie.close (tie.spec returns returns-2)
+is-newline-spec = tie.close (tie.spec (λ c. sym (cond-eq (c .before .args .b) 10 1 0 (c .if1 .taken)))
+    (λ c. sym (cond-ne (c .before .args .b) 10 1 0 (c .if1 .left))))

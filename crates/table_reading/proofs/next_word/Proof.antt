@@ -8,9 +8,6 @@ use borrow.Author.Needs.{needs}
 use Rattle.table_reading.proofs.next_word.Statement.{statement}
 use Rattle.table_reading.proofs.next_word.Tie as tie
 
-returns : tie.Need-returns
-returns c = word-none _ (c .before .before .value .ensures .fails (c .enum-told .given .1))
-
 returns-2 : tie.Need-returns-2
 returns-2 c =
     let v = c .before .before .before .before in
@@ -31,7 +28,6 @@ returns-3 c =
     word-some _ (v .before .before .value .ensures .stands _ _ (v .v .given .1)) (omega arith) within
 
 pub next-word-spec : {M : Type 1} → statement M
-next-word-spec =
-    tie.close
-    (tie.spec (λ c κs. search needs) (λ c. search needs) (λ c. search needs) returns (λ c κs. search needs) (λ c κs. search needs) returns-2 add-t10
-    returns-3)
+next-word-spec = tie.close (tie.spec (λ c κs. search needs) (λ c. search needs) (λ c. search needs)
+    (λ c. word-none _ (c .before .before .value .ensures .fails (c .enum-told .given .1))) (λ c κs. search needs) (λ c κs. search needs) returns-2
+    add-t10 returns-3)

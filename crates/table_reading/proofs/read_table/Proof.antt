@@ -19,9 +19,6 @@ returns-2 c =
     let room = long (e .before .count-newlines .ensures) (e .enough .ensures) (not-false _ (i .if1 .left)) in
     read-unstarted _ _ room (λ h. true≢false (sym (c .before .starts .ensures .1 h) ∙ not-true _ (c .if2 .taken)))
 
-in-form-requires : tie.Need-in-form-requires
-in-form-requires c κs = starts-within (c .before .starts .ensures .0 (not-false _ (c .if2 .left)))
-
 returns-3 : tie.Need-returns-3
 returns-3 c =
     let i = c .before .before .before .before .before in
@@ -48,7 +45,5 @@ returns-4 c =
     read-done _ _ room (s .before .starts .ensures .0 (not-false _ (s .if2 .left))) (f .fill .ensures)
 
 pub read-table-spec : {M : Type 1} → statement M
-read-table-spec =
-    tie.close
-    (tie.spec (λ c κs. search needs) (λ c κs. search needs) returns (λ c. search needs) (λ c κs. search needs) returns-2 in-form-requires returns-3
-    fill-requires (λ c. search needs) returns-4)
+read-table-spec = tie.close (tie.spec (λ c κs. search needs) (λ c κs. search needs) returns (λ c. search needs) (λ c κs. search needs) returns-2
+    (λ c κs. starts-within (c .before .starts .ensures .0 (not-false _ (c .if2 .left)))) returns-3 fill-requires (λ c. search needs) returns-4)

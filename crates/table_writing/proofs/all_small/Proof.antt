@@ -15,9 +15,6 @@ Inv-loop words k₀ k = small (take k words) ≡ true
 abbrev μ-loop : tie.MeasureT-loop
 μ-loop words k₀ k = length words - k
 
-loop-holds : tie.Need-loop-holds Inv-loop μ-loop
-loop-holds c = small-none (c .args .words .now)
-
 returns : tie.Need-returns Inv-loop μ-loop
 returns c = let l = c .before .before .before in small-fails (l .before .args .words .now) (l .loop .k) (omega arith) (omega arith)
 
@@ -28,6 +25,5 @@ returns-2 : tie.Need-returns-2 Inv-loop μ-loop
 returns-2 c = let l = c .before in small-all (l .before .args .words .now) (l .loop .k) (omega arith) (l .loop .inv)
 
 pub all-small-spec : {M : Type 1} → statement M
-all-small-spec =
-    tie.close
-    (tie.spec Inv-loop μ-loop loop-holds (λ c. omega arith) (λ c. omega arith) returns (λ c. omega arith) (λ c. omega arith) loop-again returns-2)
+all-small-spec = tie.close (tie.spec Inv-loop μ-loop (λ c. small-none (c .args .words .now)) (λ c. omega arith) (λ c. omega arith) returns
+    (λ c. omega arith) (λ c. omega arith) loop-again returns-2)

@@ -12,9 +12,6 @@ Inv-loop words first have total₀ k₀ total k = MeasuredText words first k tot
 abbrev μ-loop : tie.MeasureT-loop
 μ-loop words first have total₀ k₀ total k = length words - k
 
-loop-holds : tie.Need-loop-holds Inv-loop μ-loop
-loop-holds c = measured-none
-
 returns : tie.Need-returns Inv-loop μ-loop
 returns c = measured-over (c .before .before .loop .inv) (c .before .before .before .before .args .have) (omega arith)
 
@@ -25,7 +22,5 @@ returns-2 : tie.Need-returns-2 Inv-loop μ-loop
 returns-2 c = measured-all (c .before .loop .inv) (c .before .before .before .args .have) (omega arith)
 
 pub fits-spec : {M : Type 1} → statement M
-fits-spec =
-    tie.close
-    (tie.spec Inv-loop μ-loop loop-holds returns (λ c. omega arith) (λ c. omega arith) (λ c κs. tt) (λ c. omega arith) (λ c. omega arith)
-    (λ c. omega arith) (λ c. omega arith) loop-again returns-2)
+fits-spec = tie.close (tie.spec Inv-loop μ-loop (λ c. measured-none) returns (λ c. omega arith) (λ c. omega arith) (λ c κs. tt) (λ c. omega arith)
+    (λ c. omega arith) (λ c. omega arith) (λ c. omega arith) loop-again returns-2)

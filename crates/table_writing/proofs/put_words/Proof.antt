@@ -13,12 +13,6 @@ Inv-loop out₀ at words next₀ k₀ out next k = WrittenTo words out₀ at k o
 abbrev μ-loop : tie.MeasureT-loop
 μ-loop out₀ at words next₀ k₀ out next k = length words - k
 
-loop-holds : tie.Need-loop-holds Inv-loop μ-loop
-loop-holds c = written-none (c .before .before .pre)
-
-put-value-requires : tie.Need-put-value-requires Inv-loop μ-loop
-put-value-requires c κs = omega (arith, written-room (c .before .before .before .loop .inv) (omega arith))
-
 put-byte-requires : tie.Need-put-byte-requires Inv-loop μ-loop
 put-byte-requires c κs =
     let v = c .before .before .before .before in
@@ -31,14 +25,7 @@ loop-again c =
     let l = v .before .before .before .before .loop in
     written-more (l .inv) (omega arith) (c .before .before .before .separator .ensures) (v .put-value .ensures) (c .before .before .put-byte .ensures)
 
-same-length : tie.Need-same-length Inv-loop μ-loop
-same-length c = wrote-length (c .before .loop .inv .wrote)
-
-returns : tie.Need-returns Inv-loop μ-loop
-returns c = written-all (c .before .loop .inv) (omega arith)
-
 pub put-words-spec : {M : Type 1} → statement M
-put-words-spec =
-    tie.close
-    (tie.spec Inv-loop μ-loop loop-holds (λ c. omega arith) (λ c. omega arith) put-value-requires (λ c κs. tt) put-byte-requires (λ c. omega arith)
-    (λ c. omega arith) loop-again same-length returns)
+put-words-spec = tie.close (tie.spec Inv-loop μ-loop (λ c. written-none (c .before .before .pre)) (λ c. omega arith) (λ c. omega arith)
+    (λ c κs. omega (arith, written-room (c .before .before .before .loop .inv) (omega arith))) (λ c κs. tt) put-byte-requires (λ c. omega arith)
+    (λ c. omega arith) loop-again (λ c. wrote-length (c .before .loop .inv .wrote)) (λ c. written-all (c .before .loop .inv) (omega arith)))

@@ -14,9 +14,6 @@ Inv-loop out₀ at s next₀ k₀ k-end out next k = (k ≤ length s) × Wrote o
 abbrev μ-loop : tie.MeasureT-loop
 μ-loop out₀ at s next₀ k₀ k-end out next k = length s - k
 
-loop-holds : tie.Need-loop-holds Inv-loop μ-loop
-loop-holds c = (omega arith, wrote-none _ _ (omega arith))
-
 put-byte-requires : tie.Need-put-byte-requires Inv-loop μ-loop
 put-byte-requires c κs =
     let args = c .before .before .before .before .before .before .args in
@@ -31,13 +28,9 @@ loop-again c =
     let put-byte = c .before .before .put-byte in
     (omega arith, wrote-next (args .s .now) (loop .k) (omega arith) (loop .inv .1) (put-byte .ensures))
 
-same-length : tie.Need-same-length Inv-loop μ-loop
-same-length c = wrote-length (c .before .loop .inv .1)
-
 returns : tie.Need-returns Inv-loop μ-loop
 returns c = wrote-as (c .before .loop .inv .1) (take-all (c .before .loop .k) (c .before .before .before .before .args .s .now) (omega arith))
 
 pub put-bytes-spec : {M : Type 1} → statement M
-put-bytes-spec =
-    tie.close
-    (tie.spec Inv-loop μ-loop loop-holds (λ c. omega arith) put-byte-requires (λ c. omega arith) (λ c. omega arith) loop-again same-length returns)
+put-bytes-spec = tie.close (tie.spec Inv-loop μ-loop (λ c. (omega arith, wrote-none _ _ (omega arith))) (λ c. omega arith) put-byte-requires
+    (λ c. omega arith) (λ c. omega arith) loop-again (λ c. wrote-length (c .before .loop .inv .1)) returns)

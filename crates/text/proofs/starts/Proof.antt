@@ -17,9 +17,6 @@ abbrev μ-loop : tie.MeasureT-loop
 returns : tie.Need-returns Inv-loop μ-loop
 returns c = (λ e. absurd (false≢true e), λ h. absurd (starts-short (c .before .args .text .now) (c .before .args .at) (c .before .args .s .now) (omega arith) h))
 
-loop-holds : tie.Need-loop-holds Inv-loop μ-loop
-loop-holds c = matched-none (omega arith)
-
 returns-2 : tie.Need-returns-2 Inv-loop μ-loop
 returns-2 c =
     (λ e. absurd (false≢true e), λ h. absurd (matched-other (c .before .before .before .before .loop .inv) (omega arith) (c .if2 .taken) h))
@@ -27,11 +24,7 @@ returns-2 c =
 loop-again : tie.Need-loop-again Inv-loop μ-loop
 loop-again c = matched-more (c .before .before .before .before .loop .inv) (omega arith) (c .if2 .left)
 
-returns-3 : tie.Need-returns-3 Inv-loop μ-loop
-returns-3 c = (λ e. matched-all (c .before .loop .inv) (omega arith), λ h. refl)
-
 pub starts-spec : {M : Type 1} → statement M
-starts-spec =
-    tie.close
-    (tie.spec Inv-loop μ-loop (λ c. omega arith) returns loop-holds (λ c. omega arith) (λ c. omega arith) (λ c. omega arith) returns-2
-    (λ c. omega arith) (λ c. omega arith) loop-again returns-3)
+starts-spec = tie.close (tie.spec Inv-loop μ-loop (λ c. omega arith) returns (λ c. matched-none (omega arith)) (λ c. omega arith) (λ c. omega arith)
+    (λ c. omega arith) returns-2 (λ c. omega arith) (λ c. omega arith) loop-again
+    (λ c. (λ e. matched-all (c .before .loop .inv) (omega arith), λ h. refl)))

@@ -13,24 +13,9 @@ Inv-loop text at v₀ i₀ d₀ v i d = Run text at v i d
 abbrev μ-loop : tie.MeasureT-loop
 μ-loop text at v₀ i₀ d₀ v i d = length text - i
 
-returns : tie.Need-returns Inv-loop μ-loop
-returns c = run-none (c .before .digit-at .ensures) (omega arith)
-
-add-i : tie.Need-add-i Inv-loop μ-loop
-add-i c = omega (arith, digit-within (c .before .digit-at .ensures) (omega arith))
-
 loop-holds : tie.Need-loop-holds Inv-loop μ-loop
 loop-holds c =
     run-one (c .before .before .digit-at .ensures) (omega arith) (c .digit-at2 .ensures)
-
-returns-2 : tie.Need-returns-2 Inv-loop μ-loop
-returns-2 c = run-past (c .before .before .loop .inv) (omega arith) (λ p. omega arith)
-
-returns-3 : tie.Need-returns-3 Inv-loop μ-loop
-returns-3 c = run-past (c .before .before .before .loop .inv) (omega arith) (λ p. omega arith)
-
-add-i-2 : tie.Need-add-i-2 Inv-loop μ-loop
-add-i-2 c = omega (arith, run-within (c .before .before .before .loop .inv) (omega arith))
 
 loop-less : tie.Need-loop-less Inv-loop μ-loop
 loop-less c =
@@ -40,11 +25,10 @@ loop-again : tie.Need-loop-again Inv-loop μ-loop
 loop-again c =
     run-more (c .before .before .before .before .loop .inv) (omega arith) (omega arith) (omega arith) (c .digit-at3 .ensures)
 
-returns-4 : tie.Need-returns-4 Inv-loop μ-loop
-returns-4 c = run-end (c .before .loop .inv) (omega arith)
-
 pub value-spec : {M : Type 1} → statement M
-value-spec =
-    tie.close
-    (tie.spec Inv-loop μ-loop (λ c κs. search needs) returns add-i (λ c κs. search needs) loop-holds returns-2 returns-3 (λ c. omega arith)
-    (λ c. omega arith) add-i-2 (λ c κs. search needs) loop-less loop-again returns-4)
+value-spec = tie.close (tie.spec Inv-loop μ-loop (λ c κs. search needs) (λ c. run-none (c .before .digit-at .ensures) (omega arith))
+    (λ c. omega (arith, digit-within (c .before .digit-at .ensures) (omega arith))) (λ c κs. search needs) loop-holds
+    (λ c. run-past (c .before .before .loop .inv) (omega arith) (λ p. omega arith))
+    (λ c. run-past (c .before .before .before .loop .inv) (omega arith) (λ p. omega arith)) (λ c. omega arith) (λ c. omega arith)
+    (λ c. omega (arith, run-within (c .before .before .before .loop .inv) (omega arith))) (λ c κs. search needs) loop-less loop-again
+    (λ c. run-end (c .before .loop .inv) (omega arith)))

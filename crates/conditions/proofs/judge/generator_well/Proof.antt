@@ -14,9 +14,6 @@ Inv-loop rows ps primes n j i₀ i = Tested (λ m. pairWell rows ps primes n j m
 abbrev μ-loop : tie.MeasureT-loop
 μ-loop rows ps primes n j i₀ i = suc j - i
 
-loop-holds : tie.Need-loop-holds Inv-loop μ-loop
-loop-holds c = tested-none
-
 returns : tie.Need-returns Inv-loop μ-loop
 returns c =
     let t = c .before .pair-well in
@@ -27,10 +24,6 @@ loop-again c =
     let t = c .before .pair-well in
     tested-more (c .before .before .before .loop .inv) (sym (t .ensures) ∙ not-false (t .result) (c .if1 .left))
 
-returns-2 : tie.Need-returns-2 Inv-loop μ-loop
-returns-2 c = tested-all (c .before .loop .inv) (omega arith)
-
 pub generator-well-spec : {M : Type 1} → statement M
-generator-well-spec =
-    tie.close
-    (tie.spec Inv-loop μ-loop loop-holds (λ c κs. omega arith) returns (λ c. omega arith) (λ c. omega arith) loop-again returns-2)
+generator-well-spec = tie.close (tie.spec Inv-loop μ-loop (λ c. tested-none) (λ c κs. omega arith) returns (λ c. omega arith) (λ c. omega arith)
+    loop-again (λ c. tested-all (c .before .loop .inv) (omega arith)))

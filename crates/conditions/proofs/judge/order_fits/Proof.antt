@@ -15,9 +15,6 @@ Inv-loop primes n order₀ j₀ order j = (order ≡ product primes j) × (order
 abbrev μ-loop : tie.MeasureT-loop
 μ-loop primes n order₀ j₀ order j = n - j
 
-loop-holds : tie.Need-loop-holds Inv-loop μ-loop
-loop-holds c = (sym (product-zero (c .args .primes .now)), omega arith, omega arith)
-
 mul-order : tie.Need-mul-order Inv-loop μ-loop
 mul-order c =
     omega (arith, mul-le-mul {n₁ = c .before .before .before .loop .order} {m₁ = c .wide .result} {n₂ = maxOrder} {m₂ = 4294967296} (omega arith) (omega arith))
@@ -43,7 +40,5 @@ returns-2 c =
     sym (order-within (a .primes .now) (c .before .loop .j) (a .n) (c .before .loop .order) (omega arith) (h .0) (h .1))
 
 pub order-fits-spec : {M : Type 1} → statement M
-order-fits-spec =
-    tie.close
-    (tie.spec Inv-loop μ-loop loop-holds (λ c. omega arith) (λ c. omega arith) (λ c κs. tt) mul-order returns (λ c. omega arith) (λ c. omega arith)
-    loop-again returns-2)
+order-fits-spec = tie.close (tie.spec Inv-loop μ-loop (λ c. (sym (product-zero (c .args .primes .now)), omega arith, omega arith)) (λ c. omega arith)
+    (λ c. omega arith) (λ c κs. tt) mul-order returns (λ c. omega arith) (λ c. omega arith) loop-again returns-2)

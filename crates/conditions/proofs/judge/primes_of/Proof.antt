@@ -12,18 +12,10 @@ Inv-loop ps n primes₀ j₀ primes j = Primes ps j primes
 abbrev μ-loop : tie.MeasureT-loop
 μ-loop ps n primes₀ j₀ primes j = n - j
 
-loop-holds : tie.Need-loop-holds Inv-loop μ-loop
-loop-holds c = primes-none
-
 loop-again : tie.Need-loop-again Inv-loop μ-loop
 loop-again c =
     primes-more (c .before .pair .result) (c .before .before .before .loop .inv) (omega arith) (c .before .pair .ensures .0)
 
-returns : tie.Need-returns Inv-loop μ-loop
-returns c = primes-all (c .before .loop .inv) (omega arith)
-
 pub primes-of-spec : {M : Type 1} → statement M
-primes-of-spec =
-    tie.close
-    (tie.spec Inv-loop μ-loop loop-holds (λ c κs. omega arith) (λ c. omega arith) (λ c. omega arith) (λ c. omega arith) (λ c. omega arith)
-    (λ c. omega arith) (λ c. omega arith) loop-again returns)
+primes-of-spec = tie.close (tie.spec Inv-loop μ-loop (λ c. primes-none) (λ c κs. omega arith) (λ c. omega arith) (λ c. omega arith) (λ c. omega arith)
+    (λ c. omega arith) (λ c. omega arith) (λ c. omega arith) loop-again (λ c. primes-all (c .before .loop .inv) (omega arith)))

@@ -15,9 +15,6 @@ Inv-loop row primes n j i k₀ k = Tested (λ m. entryWell (getD row m 0) (getD 
 abbrev μ-loop : tie.MeasureT-loop
 μ-loop row primes n j i k₀ k = n - k
 
-loop-holds : tie.Need-loop-holds Inv-loop μ-loop
-loop-holds c = tested-none
-
 returns : tie.Need-returns Inv-loop μ-loop
 unfolding rowWells
 returns c =
@@ -34,7 +31,5 @@ unfolding rowWells
 returns-2 c = tested-all (c .before .loop .inv) (omega arith)
 
 pub row-well-spec : {M : Type 1} → statement M
-row-well-spec =
-    tie.close
-    (tie.spec Inv-loop μ-loop loop-holds (λ c. omega arith) (λ c. omega arith) (λ c. omega arith) (λ c. omega arith) (λ c κs. tt) returns
-    (λ c. omega arith) (λ c. omega arith) loop-again returns-2)
+row-well-spec = tie.close (tie.spec Inv-loop μ-loop (λ c. tested-none) (λ c. omega arith) (λ c. omega arith) (λ c. omega arith) (λ c. omega arith)
+    (λ c κs. tt) returns (λ c. omega arith) (λ c. omega arith) loop-again returns-2)

@@ -15,9 +15,6 @@ Inv-loop rows ps primes n j₀ j = Tested (λ m. allBelow (suc m) (λ i. pairWel
 abbrev μ-loop : tie.MeasureT-loop
 μ-loop rows ps primes n j₀ j = n - j
 
-loop-holds : tie.Need-loop-holds Inv-loop μ-loop
-loop-holds c = tested-none
-
 returns : tie.Need-returns Inv-loop μ-loop
 returns c =
     let t = c .before .generator-well in
@@ -28,8 +25,6 @@ loop-again c =
     let t = c .before .generator-well in
     tested-more (c .before .before .before .loop .inv) (sym (t .ensures) ∙ not-false (t .result) (c .if1 .left))
 
-returns-2 : tie.Need-returns-2 Inv-loop μ-loop
-returns-2 c = tested-all (c .before .loop .inv) (omega arith)
-
 pub well-spec : {M : Type 1} → statement M
-well-spec = tie.close (tie.spec Inv-loop μ-loop loop-holds (λ c κs. omega arith) returns (λ c. omega arith) (λ c. omega arith) loop-again returns-2)
+well-spec = tie.close (tie.spec Inv-loop μ-loop (λ c. tested-none) (λ c κs. omega arith) returns (λ c. omega arith) (λ c. omega arith) loop-again
+    (λ c. tested-all (c .before .loop .inv) (omega arith)))

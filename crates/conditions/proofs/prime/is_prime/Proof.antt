@@ -12,15 +12,6 @@ Inv-loop p d₀ d = (2 ≤ d) × (2 ≤ p) × (d ≤ 31623) × Tried p d
 abbrev μ-loop : tie.MeasureT-loop
 μ-loop p d₀ d = 31623 - d
 
-returns : tie.Need-returns Inv-loop μ-loop
-returns c = sym (not-prime-small (c .before .args .p) (omega arith))
-
-loop-holds : tie.Need-loop-holds Inv-loop μ-loop
-loop-holds c = (omega arith, omega arith, omega arith, tried-none (c .before .args .p))
-
-mul-loop : tie.Need-mul-loop Inv-loop μ-loop
-mul-loop c = omega (arith, square-fits (c .loop .d) (omega arith))
-
 returns-2 : tie.Need-returns-2 Inv-loop μ-loop
 returns-2 c =
     let p = c .before .before .before .before .args .p in
@@ -43,6 +34,6 @@ returns-3 c =
     sym (prime-tried (c .before .before .before .args .p) (c .before .loop .d) (omega arith) (c .before .loop .inv .3) (omega arith))
 
 pub is-prime-spec : {M : Type 1} → statement M
-is-prime-spec =
-    tie.close
-    (tie.spec Inv-loop μ-loop returns loop-holds mul-loop (λ c. omega arith) returns-2 (λ c. omega arith) loop-less loop-again returns-3)
+is-prime-spec = tie.close (tie.spec Inv-loop μ-loop (λ c. sym (not-prime-small (c .before .args .p) (omega arith)))
+    (λ c. (omega arith, omega arith, omega arith, tried-none (c .before .args .p))) (λ c. omega (arith, square-fits (c .loop .d) (omega arith)))
+    (λ c. omega arith) returns-2 (λ c. omega arith) loop-less loop-again returns-3)

@@ -14,9 +14,6 @@ Inv-loop primes n r₀ j₀ r j = LevelOrders primes j r × (j ≤ n) × (n ≤ 
 abbrev μ-loop : tie.MeasureT-loop
 μ-loop primes n r₀ j₀ r j = n - j
 
-loop-holds : tie.Need-loop-holds Inv-loop μ-loop
-loop-holds c = (orders-none, omega arith, omega arith)
-
 mul-r-3 : tie.Need-mul-r-3 Inv-loop μ-loop
 mul-r-3 c =
     let z = c .before .before .before in
@@ -30,11 +27,7 @@ loop-again c =
     let e = product-turn ps (l .j) _ _ (l .inv .0 .each (l .j) (omega arith)) refl in
     (orders-more _ (l .inv .0) (omega arith) e, omega arith, omega arith)
 
-returns : tie.Need-returns Inv-loop μ-loop
-returns c = orders-all (c .before .loop .inv .0) (omega arith)
-
 pub level-orders-spec : {M : Type 1} → statement M
-level-orders-spec =
-    tie.close
-    (tie.spec Inv-loop μ-loop loop-holds (λ c. omega arith) (λ c. omega arith) (λ c. omega arith) (λ c. omega arith) mul-r-3 (λ c. omega arith)
-    (λ c. omega arith) (λ c. omega arith) (λ c. omega arith) (λ c. omega arith) loop-again returns)
+level-orders-spec = tie.close (tie.spec Inv-loop μ-loop (λ c. (orders-none, omega arith, omega arith)) (λ c. omega arith) (λ c. omega arith)
+    (λ c. omega arith) (λ c. omega arith) mul-r-3 (λ c. omega arith) (λ c. omega arith) (λ c. omega arith) (λ c. omega arith) (λ c. omega arith)
+    loop-again (λ c. orders-all (c .before .loop .inv .0) (omega arith)))
