@@ -156,12 +156,6 @@ turn-claims t = (turned-below t, turned.Post, copied.Asked, copied.Learnt)
 abbrev turned-claims : ℕ → turned-lts.Claims
 turned-claims t = (conjugate-below t, conjugate.Post, remaining.Asked, remaining.Learnt)
 
-carry-word-requires : (t : ℕ) → carry-lts.Need-word-requires (carry-claims t) (carry-at t) carry.Post
-carry-word-requires t c κs = (omega arith, omega (arith, c .pre .1 .0 .ranged .few))
-
-carry-top-requires : (t : ℕ) → carry-lts.Need-top-requires (carry-claims t) (carry-at t) carry.Post
-carry-top-requires t c κs = omega (arith, c .before .before .pre .1 .0 .ranged .few)
-
 carry-returns : (t : ℕ) → carry-lts.Need-returns (carry-claims t) (carry-at t) carry.Post
 carry-returns t c =
     let u = c .before .before .before in
@@ -197,9 +191,6 @@ conjugate-returns t c =
     let z = m .before .before in
     conjugate-still (z .pre .1) (m .moved .ensures) (c .if1 .taken)
 
-conjugate-sub-l : (t : ℕ) → conjugate-lts.Need-sub-l (conjugate-claims t) (conjugate-at t) conjugate.Post
-conjugate-sub-l t c = search needs
-
 conjugate-conjugate-requires : (t : ℕ) → conjugate-lts.Need-conjugate-requires (conjugate-claims t) (conjugate-at t) conjugate.Post
 conjugate-conjugate-requires t c κs =
     let m = c .before in
@@ -207,14 +198,8 @@ conjugate-conjugate-requires t c κs =
     let asked = lower-asks (z .pre .1) (m .moved .ensures) (c .if1 .left) in
     (omega (arith, z .pre .0, asked .level, m .moved .ensures .less, c .if1 .left), asked)
 
-conjugate-mul-z : (t : ℕ) → conjugate-lts.Need-mul-z (conjugate-claims t) (conjugate-at t) conjugate.Post
-conjugate-mul-z t c = search needs
-
-conjugate-array-write-z : (t : ℕ) → conjugate-lts.Need-array-write-z (conjugate-claims t) (conjugate-at t) conjugate.Post
-conjugate-array-write-z t c =
-    let m = c .before .before in
-    let z = m .before .before in
-    moved-within (z .pre .1) (m .moved .ensures) (c .before .if1 .left)
+conjugate-within : (t : ℕ) (e : conjugate-lts.Else1 (conjugate-claims t) (conjugate-at t) conjugate.Post) → e .before .moved .result - 1 < maxGenerators
+conjugate-within t e = let m = e .before in moved-within (m .before .before .pre .1) (m .moved .ensures) (e .if1 .left)
 
 conjugate-image-requires : (t : ℕ) → conjugate-lts.Need-image-requires (conjugate-claims t) (conjugate-at t) conjugate.Post
 conjugate-image-requires t c κs =
@@ -222,15 +207,6 @@ conjugate-image-requires t c κs =
     let z = m .before .before in
     let low = moved-level (z .pre .1) (m .moved .ensures) (c .before .if1 .left) in
     (omega (arith, z .pre .0), (z .pre .1 .prepared, omega (arith, z .pre .1 .level)))
-
-conjugate-mul-power : (t : ℕ) → conjugate-lts.Need-mul-power (conjugate-claims t) (conjugate-at t) conjugate.Post
-conjugate-mul-power t c = search needs
-
-conjugate-array-read-power : (t : ℕ) → conjugate-lts.Need-array-read-power (conjugate-claims t) (conjugate-at t) conjugate.Post
-conjugate-array-read-power t c =
-    let m = c .before .before .before in
-    let z = m .before .before in
-    moved-within (z .pre .1) (m .moved .ensures) (c .before .before .if1 .left)
 
 conjugate-power-requires : (t : ℕ) → conjugate-lts.Need-power-requires (conjugate-claims t) (conjugate-at t) conjugate.Post
 conjugate-power-requires t c κs =
@@ -250,21 +226,6 @@ conjugate-product-requires t c κs =
       product-asks (z .pre .1) (m .moved .ensures) (q .before .if1 .left) long (q .conjugate .ensures) (c .power .ensures),
     )
 
-conjugate-mul-stacked : (t : ℕ) → conjugate-lts.Need-mul-stacked (conjugate-claims t) (conjugate-at t) conjugate.Post
-conjugate-mul-stacked t c = search needs
-
-conjugate-array-read-stacked : (t : ℕ) → conjugate-lts.Need-array-read-stacked (conjugate-claims t) (conjugate-at t) conjugate.Post
-conjugate-array-read-stacked t c =
-    let m = c .before .before .before .before .before in
-    let z = m .before .before in
-    moved-within (z .pre .1) (m .moved .ensures) (c .before .before .before .before .if1 .left)
-
-conjugate-stacked-requires : (t : ℕ) → conjugate-lts.Need-stacked-requires (conjugate-claims t) (conjugate-at t) conjugate.Post
-conjugate-stacked-requires t c κs =
-    let m = c .before .before .before .before .before in
-    let z = m .before .before in
-    moved-within (z .pre .1) (m .moved .ensures) (c .before .before .before .before .if1 .left)
-
 conjugate-returns-2 : (t : ℕ) → conjugate-lts.Need-returns-2 (conjugate-claims t) (conjugate-at t) conjugate.Post
 conjugate-returns-2 t c =
     let q = c .before .before .before .before in
@@ -274,36 +235,18 @@ conjugate-returns-2 t c =
     conjugate-top (z .pre .1) (m .moved .ensures) (q .before .if1 .left) long (q .conjugate .ensures)
     (c .before .before .before .image .ensures) (c .before .before .power .ensures) (c .before .product .ensures) (c .stacked .ensures)
 
-image-word-requires : (t : ℕ) → image-lts.Need-word-requires (image-claims t) (image-at t) image.Post
-image-word-requires t c κs = (omega (arith, c .pre .1 .1), omega (arith, c .pre .1 .0 .ranged .few))
-
-image-mul-s : (t : ℕ) → image-lts.Need-mul-s (image-claims t) (image-at t) image.Post
-image-mul-s t c = search needs
-
-image-array-read-s : (t : ℕ) → image-lts.Need-array-read-s (image-claims t) (image-at t) image.Post
-image-array-read-s t c = let z = c .before in omega (arith, z .pre .1 .0 .ranged .few, z .pre .1 .1)
+image-within : (t : ℕ) (z : image-lts.Start (image-claims t) (image-at t) image.Post) → z .args .l < maxGenerators
+image-within t z = omega (arith, z .pre .1 .0 .ranged .few, z .pre .1 .1)
 
 image-add-s : (t : ℕ) → image-lts.Need-add-s (image-claims t) (image-at t) image.Post
 image-add-s t c = let z = c .before in omega (arith, image-fits (z .pre .1 .0) (z .pre .1 .1) (c .word .ensures))
-
-image-mul-p : (t : ℕ) → image-lts.Need-mul-p (image-claims t) (image-at t) image.Post
-image-mul-p t c = search needs
-
-image-element-copy-out-p : (t : ℕ) → image-lts.Need-element-copy-out-p (image-claims t) (image-at t) image.Post
-image-element-copy-out-p t c = let z = c .before in omega (arith, z .pre .1 .0 .ranged .few, z .pre .1 .1)
-
-image-mul-h : (t : ℕ) → image-lts.Need-mul-h (image-claims t) (image-at t) image.Post
-image-mul-h t c = search needs
-
-image-array-write-h : (t : ℕ) → image-lts.Need-array-write-h (image-claims t) (image-at t) image.Post
-image-array-write-h t c = let z = c .before .before .before in omega (arith, z .pre .1 .0 .ranged .few, z .pre .1 .1)
 
 image-returns : (t : ℕ) → image-lts.Need-returns (image-claims t) (image-at t) image.Post
 image-returns t c =
     let w = c .before .before in
     let z = w .before in
     let long : length (w .word .result) ≡ maxGenerators = search needs in
-    image-low (z .pre .1 .0 .ranged) (z .pre .1 .1) (w .word .ensures) (omega (arith, z .pre .1 .0 .ranged .few, z .pre .1 .1)) (c .if1 .taken)
+    image-low (z .pre .1 .0 .ranged) (z .pre .1 .1) (w .word .ensures) (omega (arith, image-within t z)) (c .if1 .taken)
 
 image-word-requires-2 : (t : ℕ) → image-lts.Need-word-requires-2 (image-claims t) (image-at t) image.Post
 image-word-requires-2 t c κs = let z = c .before .before .before in (omega arith, omega (arith, z .pre .1 .0 .ranged .few, z .pre .1 .1))
@@ -314,34 +257,19 @@ image-product-requires t c κs =
     let z = w .before in
     (omega (arith, z .pre .0, z .pre .1 .1), image-asks (z .pre .1 .0) (z .pre .1 .1) (w .word .ensures) (c .word2 .ensures))
 
-image-mul-v : (t : ℕ) → image-lts.Need-mul-v (image-claims t) (image-at t) image.Post
-image-mul-v t c = search needs
-
-image-array-write-v : (t : ℕ) → image-lts.Need-array-write-v (image-claims t) (image-at t) image.Post
-image-array-write-v t c = let z = c .before .before .before .before .before in omega (arith, z .pre .1 .0 .ranged .few, z .pre .1 .1)
-
 image-returns-2 : (t : ℕ) → image-lts.Need-returns-2 (image-claims t) (image-at t) image.Post
 image-returns-2 t c =
     let w = c .before .before .before .before in
     let z = w .before in
     let long : length (c .product .result) ≡ maxGenerators = search needs in
     image-high (z .pre .1 .0 .ranged) (z .pre .1 .1) (w .word .ensures) (c .before .word2 .ensures) (c .product .ensures)
-    (omega (arith, z .pre .1 .0 .ranged .few, z .pre .1 .1)) (c .before .before .if1 .left)
-
-multiply-top-requires : (t : ℕ) → multiply-lts.Need-top-requires (multiply-claims t) (multiply-at t) multiply.Post
-multiply-top-requires t c κs = c .pre .1 .0 .prepared .ranged .few
+    (omega (arith, image-within t z)) (c .before .before .if1 .left)
 
 multiply-returns : (t : ℕ) → multiply-lts.Need-returns (multiply-claims t) (multiply-at t) multiply.Post
 multiply-returns t c = let z = c .before .before in multiply-none (z .pre .1 .0) (c .before .top .ensures) (c .if1 .taken)
 
-multiply-sub-k : (t : ℕ) → multiply-lts.Need-sub-k (multiply-claims t) (multiply-at t) multiply.Post
-multiply-sub-k t c = search needs
-
-multiply-mul-b : (t : ℕ) → multiply-lts.Need-mul-b (multiply-claims t) (multiply-at t) multiply.Post
-multiply-mul-b t c = search needs
-
-multiply-element-copy-out-b : (t : ℕ) → multiply-lts.Need-element-copy-out-b (multiply-claims t) (multiply-at t) multiply.Post
-multiply-element-copy-out-b t c = let m = c .before in top-within (m .before .pre .1 .0) (m .top .ensures) (c .if1 .left)
+multiply-within : (t : ℕ) (e : multiply-lts.Else1 (multiply-claims t) (multiply-at t) multiply.Post) → e .before .top .result - 1 < maxGenerators
+multiply-within t e = let m = e .before in top-within (m .before .pre .1 .0) (m .top .ensures) (e .if1 .left)
 
 multiply-turn-requires : (t : ℕ) → multiply-lts.Need-turn-requires (multiply-claims t) (multiply-at t) multiply.Post
 multiply-turn-requires t c κs =
@@ -359,36 +287,12 @@ multiply-multiply-requires t c κs =
     let low = top-level (z .pre .1 .0) (m .top .ensures) some in
     (omega (arith, z .pre .0), multiply-asks (z .pre .1 .0) (m .top .ensures) some (z .pre .1 .1) (x .turn .ensures))
 
-multiply-mul-s : (t : ℕ) → multiply-lts.Need-mul-s (multiply-claims t) (multiply-at t) multiply.Post
-multiply-mul-s t c = search needs
-
-multiply-element-copy-out-s : (t : ℕ) → multiply-lts.Need-element-copy-out-s (multiply-claims t) (multiply-at t) multiply.Post
-multiply-element-copy-out-s t c =
-    let m = c .before .before .before .before .before .before in
-    top-within (m .before .pre .1 .0) (m .top .ensures) (c .before .before .before .before .before .if1 .left)
-
 multiply-add-s : (t : ℕ) → multiply-lts.Need-add-s (multiply-claims t) (multiply-at t) multiply.Post
 multiply-add-s t c =
     let x = c .before .before .before in
     let e = x .before .before .before in
     let z = e .before .before in
     omega (arith, sum-fits (z .pre .1 .0) (e .before .top .ensures) (e .if1 .left) (z .pre .1 .1) (x .turn .ensures) (c .before .multiply .ensures))
-
-multiply-mul-p : (t : ℕ) → multiply-lts.Need-mul-p (multiply-claims t) (multiply-at t) multiply.Post
-multiply-mul-p t c = search needs
-
-multiply-element-copy-out-p : (t : ℕ) → multiply-lts.Need-element-copy-out-p (multiply-claims t) (multiply-at t) multiply.Post
-multiply-element-copy-out-p t c =
-    let m = c .before .before .before .before .before .before .before in
-    top-within (m .before .pre .1 .0) (m .top .ensures) (c .before .before .before .before .before .before .if1 .left)
-
-multiply-mul-x : (t : ℕ) → multiply-lts.Need-mul-x (multiply-claims t) (multiply-at t) multiply.Post
-multiply-mul-x t c = search needs
-
-multiply-element-write-x : (t : ℕ) → multiply-lts.Need-element-write-x (multiply-claims t) (multiply-at t) multiply.Post
-multiply-element-write-x t c =
-    let e = c .before .before .before .before .before .before .before .before in
-    top-within (e .before .before .pre .1 .0) (e .before .top .ensures) (e .if1 .left)
 
 multiply-returns-2 : (t : ℕ) → multiply-lts.Need-returns-2 (multiply-claims t) (multiply-at t) multiply.Post
 multiply-returns-2 t c =
@@ -407,15 +311,6 @@ multiply-carry-requires t c κs =
     let low = top-level (z .pre .1 .0) (e .before .top .ensures) (e .if1 .left) in
     (omega (arith, z .pre .0), carry-asks (z .pre .1 .0) (e .before .top .ensures) (e .if1 .left) (z .pre .1 .1) (x .turn .ensures) (q .multiply .ensures))
 
-multiply-mul-x-2 : (t : ℕ) → multiply-lts.Need-mul-x-2 (multiply-claims t) (multiply-at t) multiply.Post
-multiply-mul-x-2 t c = search needs
-
-multiply-element-write-x-2 : (t : ℕ) → multiply-lts.Need-element-write-x-2 (multiply-claims t) (multiply-at t) multiply.Post
-multiply-element-write-x-2 t c =
-    let q = c .before .before .before .before .before in
-    let e = q .before .before .before .before .before in
-    top-within (e .before .before .pre .1 .0) (e .before .top .ensures) (e .if1 .left)
-
 multiply-returns-3 : (t : ℕ) → multiply-lts.Need-returns-3 (multiply-claims t) (multiply-at t) multiply.Post
 multiply-returns-3 t c =
     let q = c .before .before .before .before .before in
@@ -431,17 +326,8 @@ power-Inv-loop primes rows reach i e x m r₀ n₀ r n = (n ≤ e) × Power i pr
 abbrev power-μ-loop : power-lts.MeasureT-loop
 power-μ-loop primes rows reach i e x m r₀ n₀ r n = e - n
 
-power-returns : (t : ℕ) → power-lts.Need-returns (power-claims t) (power-at t) power.Post power-Inv-loop power-μ-loop
-power-returns t c = power-first (c .if1 .taken) (c .before .pre .1 .1)
-
-power-top-requires : (t : ℕ) → power-lts.Need-top-requires (power-claims t) (power-at t) power.Post power-Inv-loop power-μ-loop
-power-top-requires t c κs = c .before .before .pre .1 .0 .ranged .few
-
 power-alone-requires : (t : ℕ) → power-lts.Need-alone-requires (power-claims t) (power-at t) power.Post power-Inv-loop power-μ-loop
 power-alone-requires t c κs = omega (arith, c .top .ensures .less, c .before .before .before .pre .1 .0 .ranged .few)
-
-power-sub-multiple : (t : ℕ) → power-lts.Need-sub-multiple (power-claims t) (power-at t) power.Post power-Inv-loop power-μ-loop
-power-sub-multiple t c = omega (arith, c .before .alone .ensures .is (c .if2 .taken) .0)
 
 power-multiple-requires : (t : ℕ) → power-lts.Need-multiple-requires (power-claims t) (power-at t) power.Post power-Inv-loop power-μ-loop
 power-multiple-requires t c κs =
@@ -461,12 +347,6 @@ power-product-requires t c κs =
     let z = c .before .before .before .before .before .before .before in
     (omega (arith, z .pre .0), record { prepared = z .pre .1 .0; left = z .pre .1 .1; right = c .before .loop .inv .1 .small })
 
-power-add-n : (t : ℕ) → power-lts.Need-add-n (power-claims t) (power-at t) power.Post power-Inv-loop power-μ-loop
-power-add-n t c = search needs
-
-power-loop-less : (t : ℕ) → power-lts.Need-loop-less (power-claims t) (power-at t) power.Post power-Inv-loop power-μ-loop
-power-loop-less t c = search needs
-
 power-loop-again : (t : ℕ) → power-lts.Need-loop-again (power-claims t) (power-at t) power.Post power-Inv-loop power-μ-loop
 power-loop-again t c = (search needs, powering-more (c .before .before .loop .inv .1) (c .product .ensures))
 
@@ -480,15 +360,6 @@ power-returns-3 t c =
 product-multiply-requires : (t : ℕ) → product-lts.Need-multiply-requires (product-claims t) (product-at t) product.Post
 product-multiply-requires t c κs = let z = c .before .before in (omega (arith, z .pre .0), (z .pre .1, search needs))
 
-product-returns : (t : ℕ) → product-lts.Need-returns (product-claims t) (product-at t) product.Post
-product-returns t c = c .multiply .ensures .product
-
-turn-mul-if1 : (t : ℕ) → turn-lts.Need-mul-if1 (turn-claims t) (turn-at t) turn.Post
-turn-mul-if1 t c = search needs
-
-turn-element-copy-out-if1 : (t : ℕ) → turn-lts.Need-element-copy-out-if1 (turn-claims t) (turn-at t) turn.Post
-turn-element-copy-out-if1 t c = omega (arith, c .pre .1 .0 .ranged .few)
-
 turn-returns : (t : ℕ) → turn-lts.Need-returns (turn-claims t) (turn-at t) turn.Post
 turn-returns t c = let z = c .before .before in turn-still (z .pre .1 .0) (c .if1 .taken) (z .pre .1 .1)
 
@@ -498,43 +369,22 @@ turn-turned-requires t c κs = let z = c .before .before .before in (omega (arit
 turn-copied-requires : (t : ℕ) → turn-lts.Need-copied-requires (turn-claims t) (turn-at t) turn.Post
 turn-copied-requires t c κs = let z = c .before .before .before .before .before in (omega (arith, z .pre .1 .0 .ranged .few), z .pre .1 .2)
 
-turn-returns-2 : (t : ℕ) → turn-lts.Need-returns-2 (turn-claims t) (turn-at t) turn.Post
-turn-returns-2 t c = turn-copied (c .before .before .turned .ensures) (c .copied .ensures)
-
 abbrev turned-Inv-loop : turned-lts.InvT-loop
 turned-Inv-loop primes rows reach i x b c₀ n₀ left₀ c n left = Turning i b primes rows x c n left
 
 abbrev turned-μ-loop : turned-lts.MeasureT-loop
 turned-μ-loop primes rows reach i x b c₀ n₀ left₀ c n left = left
 
-turned-mul-if1 : (t : ℕ) → turned-lts.Need-mul-if1 (turned-claims t) (turned-at t) turned.Post turned-Inv-loop turned-μ-loop
-turned-mul-if1 t c = search needs
-
-turned-element-copy-out-if1 : (t : ℕ) → turned-lts.Need-element-copy-out-if1 (turned-claims t) (turned-at t) turned.Post turned-Inv-loop turned-μ-loop
-turned-element-copy-out-if1 t c = omega (arith, c .pre .1 .0 .ranged .few)
-
 turned-returns : (t : ℕ) → turned-lts.Need-returns (turned-claims t) (turned-at t) turned.Post turned-Inv-loop turned-μ-loop
 turned-returns t c = let z = c .before .before in turned-still (z .pre .1 .0) (c .if1 .taken) (z .pre .1 .1)
-
-turned-loop-holds : (t : ℕ) → turned-lts.Need-loop-holds (turned-claims t) (turned-at t) turned.Post turned-Inv-loop turned-μ-loop
-turned-loop-holds t c = turning-start (c .before .before .pre .1 .1)
 
 turned-conjugate-requires : (t : ℕ) → turned-lts.Need-conjugate-requires (turned-claims t) (turned-at t) turned.Post turned-Inv-loop turned-μ-loop
 turned-conjugate-requires t c κs =
     let z = c .before .before .before .before in
     (omega (arith, z .pre .0), record { prepared = z .pre .1 .0; level = omega arith; small = c .before .loop .inv .small })
 
-turned-add-n : (t : ℕ) → turned-lts.Need-add-n (turned-claims t) (turned-at t) turned.Post turned-Inv-loop turned-μ-loop
-turned-add-n t c = omega (arith, c .before .before .loop .inv .total)
-
-turned-sub-remaining : (t : ℕ) → turned-lts.Need-sub-remaining (turned-claims t) (turned-at t) turned.Post turned-Inv-loop turned-μ-loop
-turned-sub-remaining t c = search needs
-
 turned-remaining-requires : (t : ℕ) → turned-lts.Need-remaining-requires (turned-claims t) (turned-at t) turned.Post turned-Inv-loop turned-μ-loop
 turned-remaining-requires t c κs = (omega (arith, c .before .before .before .before .before .pre .1 .0 .ranged .few), omega arith)
-
-turned-loop-less : (t : ℕ) → turned-lts.Need-loop-less (turned-claims t) (turned-at t) turned.Post turned-Inv-loop turned-μ-loop
-turned-loop-less t c = search needs
 
 turned-loop-again : (t : ℕ) → turned-lts.Need-loop-again (turned-claims t) (turned-at t) turned.Post turned-Inv-loop turned-μ-loop
 turned-loop-again t c =
@@ -544,126 +394,34 @@ turned-returns-2 : (t : ℕ) → turned-lts.Need-returns-2 (turned-claims t) (tu
 turned-returns-2 t c = let l = c .before .loop in let over : l .left ≡ 0 = omega arith in turned-done over (l .inv)
 
 pub +carry+conjugate+image+multiply+power+product+turn+turned-spec : {M : Type 1} → statement M
-+carry+conjugate+image+multiply+power+product+turn+turned-spec =
-    close
-    μ-carry
-    μ-conjugate
-    μ-image
-    μ-multiply
-    μ-power
-    μ-product
-    μ-turn
-    μ-turned
-    (λ t. carry-lts.spec (carry-claims t)
-    (carry-at t)
-    carry.Post
-    (carry-word-requires t)
-    (carry-top-requires t)
-    (carry-returns t)
-    (carry-product-requires t)
-    (carry-copied-requires t)
++carry+conjugate+image+multiply+power+product+turn+turned-spec = close μ-carry μ-conjugate μ-image μ-multiply μ-power μ-product μ-turn μ-turned
+    (λ t. carry-lts.spec (carry-claims t) (carry-at t) carry.Post (λ c κs. (omega arith, omega (arith, c .pre .1 .0 .ranged .few)))
+    (λ c κs. omega (arith, c .before .before .pre .1 .0 .ranged .few)) (carry-returns t) (carry-product-requires t) (carry-copied-requires t)
     (carry-returns-2 t))
-    (λ t. conjugate-lts.spec (conjugate-claims t)
-    (conjugate-at t)
-    conjugate.Post
-    (conjugate-moved-requires t)
-    (conjugate-returns t)
-    (conjugate-sub-l t)
-    (conjugate-conjugate-requires t)
-    (conjugate-mul-z t)
-    (conjugate-array-write-z t)
-    (conjugate-image-requires t)
-    (conjugate-mul-power t)
-    (conjugate-array-read-power t)
-    (conjugate-power-requires t)
-    (conjugate-product-requires t)
-    (conjugate-mul-stacked t)
-    (conjugate-array-read-stacked t)
-    (conjugate-stacked-requires t)
+    (λ t. conjugate-lts.spec (conjugate-claims t) (conjugate-at t) conjugate.Post (conjugate-moved-requires t) (conjugate-returns t)
+    (λ c. search needs) (conjugate-conjugate-requires t) (λ c. search needs) (λ c. conjugate-within t (c .before)) (conjugate-image-requires t)
+    (λ c. search needs) (λ c. conjugate-within t (c .before .before)) (conjugate-power-requires t) (conjugate-product-requires t) (λ c. search needs)
+    (λ c. conjugate-within t (c .before .before .before .before)) (λ c κs. conjugate-within t (c .before .before .before .before))
     (conjugate-returns-2 t))
-    (λ t. image-lts.spec (image-claims t)
-    (image-at t)
-    image.Post
-    (image-word-requires t)
-    (image-mul-s t)
-    (image-array-read-s t)
-    (image-add-s t)
-    (image-mul-p t)
-    (image-element-copy-out-p t)
-    (image-mul-h t)
-    (image-array-write-h t)
-    (image-returns t)
-    (image-word-requires-2 t)
-    (image-product-requires t)
-    (image-mul-v t)
-    (image-array-write-v t)
-    (image-returns-2 t))
-    (λ t. multiply-lts.spec (multiply-claims t)
-    (multiply-at t)
-    multiply.Post
-    (multiply-top-requires t)
-    (multiply-returns t)
-    (multiply-sub-k t)
-    (multiply-mul-b t)
-    (multiply-element-copy-out-b t)
-    (multiply-turn-requires t)
-    (multiply-multiply-requires t)
-    (multiply-mul-s t)
-    (multiply-element-copy-out-s t)
-    (multiply-add-s t)
-    (multiply-mul-p t)
-    (multiply-element-copy-out-p t)
-    (multiply-mul-x t)
-    (multiply-element-write-x t)
-    (multiply-returns-2 t)
-    (multiply-carry-requires t)
-    (multiply-mul-x-2 t)
-    (multiply-element-write-x-2 t)
+    (λ t. image-lts.spec (image-claims t) (image-at t) image.Post (λ c κs. (omega (arith, c .pre .1 .1), omega (arith, c .pre .1 .0 .ranged .few)))
+    (λ c. search needs) (λ c. image-within t (c .before)) (image-add-s t) (λ c. search needs) (λ c. image-within t (c .before)) (λ c. search needs)
+    (λ c. image-within t (c .before .before .before)) (image-returns t) (image-word-requires-2 t) (image-product-requires t) (λ c. search needs)
+    (λ c. image-within t (c .before .before .before .before .before)) (image-returns-2 t))
+    (λ t. multiply-lts.spec (multiply-claims t) (multiply-at t) multiply.Post (λ c κs. c .pre .1 .0 .prepared .ranged .few) (multiply-returns t)
+    (λ c. search needs) (λ c. search needs) (multiply-within t) (multiply-turn-requires t) (multiply-multiply-requires t) (λ c. search needs)
+    (λ c. multiply-within t (c .before .before .before .before .before)) (multiply-add-s t) (λ c. search needs)
+    (λ c. multiply-within t (c .before .before .before .before .before .before)) (λ c. search needs)
+    (λ c. multiply-within t (c .before .before .before .before .before .before .before .before)) (multiply-returns-2 t) (multiply-carry-requires t)
+    (λ c. search needs) (λ c. let q = c .before .before .before .before .before in multiply-within t (q .before .before .before .before .before))
     (multiply-returns-3 t))
-    (λ t. power-lts.spec (power-claims t)
-    (power-at t)
-    power.Post
-    power-Inv-loop
-    power-μ-loop
-    (power-returns t)
-    (power-top-requires t)
-    (power-alone-requires t)
-    (power-sub-multiple t)
-    (power-multiple-requires t)
-    (power-returns-2 t)
-    (power-loop-holds t)
-    (power-product-requires t)
-    (power-add-n t)
-    (power-loop-less t)
-    (power-loop-again t)
-    (power-returns-3 t))
-    (λ t. product-lts.spec (product-claims t)
-    (product-at t)
-    product.Post
-    (product-multiply-requires t)
-    (product-returns t))
-    (λ t. turn-lts.spec (turn-claims t)
-    (turn-at t)
-    turn.Post
-    (turn-mul-if1 t)
-    (turn-element-copy-out-if1 t)
-    (turn-returns t)
-    (turn-turned-requires t)
-    (turn-copied-requires t)
-    (turn-returns-2 t))
-    λ t. turned-lts.spec (turned-claims t)
-    (turned-at t)
-    turned.Post
-    turned-Inv-loop
-    turned-μ-loop
-    (turned-mul-if1 t)
-    (turned-element-copy-out-if1 t)
-    (turned-returns t)
-    (turned-loop-holds t)
-    (turned-conjugate-requires t)
-    (turned-add-n t)
-    (turned-sub-remaining t)
-    (turned-remaining-requires t)
-    (turned-loop-less t)
-    (turned-loop-again t)
-    (turned-returns-2 t)
+    (λ t. power-lts.spec (power-claims t) (power-at t) power.Post power-Inv-loop power-μ-loop
+    (λ c. power-first (c .if1 .taken) (c .before .pre .1 .1)) (λ c κs. c .before .before .pre .1 .0 .ranged .few) (power-alone-requires t)
+    (λ c. omega (arith, c .before .alone .ensures .is (c .if2 .taken) .0)) (power-multiple-requires t) (power-returns-2 t) (power-loop-holds t)
+    (power-product-requires t) (λ c. search needs) (λ c. search needs) (power-loop-again t) (power-returns-3 t))
+    (λ t. product-lts.spec (product-claims t) (product-at t) product.Post (product-multiply-requires t) (λ c. c .multiply .ensures .product))
+    (λ t. turn-lts.spec (turn-claims t) (turn-at t) turn.Post (λ c. search needs) (λ c. omega (arith, c .pre .1 .0 .ranged .few)) (turn-returns t)
+    (turn-turned-requires t) (turn-copied-requires t) (λ c. turn-copied (c .before .before .turned .ensures) (c .copied .ensures)))
+    λ t. turned-lts.spec (turned-claims t) (turned-at t) turned.Post turned-Inv-loop turned-μ-loop (λ c. search needs)
+    (λ c. omega (arith, c .pre .1 .0 .ranged .few)) (turned-returns t) (λ c. turning-start (c .before .before .pre .1 .1))
+    (turned-conjugate-requires t) (λ c. omega (arith, c .before .before .loop .inv .total)) (λ c. search needs) (turned-remaining-requires t)
+    (λ c. search needs) (turned-loop-again t) (turned-returns-2 t)
