@@ -6,9 +6,6 @@ use borrow.Author.Needs.{needs}
 use Rattle.case_calls.proofs.build_sevens.Statement.{statement}
 use Rattle.case_calls.proofs.build_sevens.Tie as tie
 
-slice-aggregate-mix-words : tie.Need-slice-aggregate-mix-words
-slice-aggregate-mix-words c = sym (c .before .before .build-first .kept .1 .0 ∙ length-replicate {0} {A = ℕ} 786240 7)
-
 pub build-sevens-spec : {M : Type 1} → statement M
-build-sevens-spec = tie.close (tie.spec (λ c. sym (length-replicate {0} {A = ℕ} 786240 7)) (λ c κs. search needs) slice-aggregate-mix-words
-    (λ c κs. search needs) (λ c. search needs))
+build-sevens-spec = tie.close (tie.spec (λ c. sym (length-replicate {0} {A = ℕ} 786240 7)) (λ c κs. search needs)
+    (λ c. sym (c .before .before .build-first .kept .1 .0 ∙ length-replicate {0} {A = ℕ} 786240 7)) (λ c κs. search needs) (λ c. search needs))

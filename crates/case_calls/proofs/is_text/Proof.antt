@@ -4,8 +4,6 @@ use borrow.Author.Needs.{needs}
 use Rattle.case_calls.proofs.is_text.Statement.{statement}
 use Rattle.case_calls.proofs.is_text.Tie as tie
 
-returns-2 : tie.Need-returns-2
-returns-2 c = (λ e. (c .before .if1 .left, c .starts .ensures .0 e), λ p. c .starts .ensures .1 (p .1))
-
 pub is-text-spec : {M : Type 1} → statement M
-is-text-spec = tie.close (tie.spec (λ c. (λ e. absurd (false≢true e), λ p. absurd (c .if1 .taken (p .0)))) (λ c κs. search needs) returns-2)
+is-text-spec = tie.close (tie.spec (λ c. (λ e. absurd (false≢true e), λ p. absurd (c .if1 .taken (p .0)))) (λ c κs. search needs)
+    (λ c. (λ e. (c .before .if1 .left, c .starts .ensures .0 e), λ p. c .starts .ensures .1 (p .1))))

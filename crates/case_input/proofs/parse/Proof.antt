@@ -14,9 +14,6 @@ Inv-loop s words₀ k₀ i₀ words k i = Parsing s words₀ words k i × (lengt
 abbrev μ-loop : tie.MeasureT-loop
 μ-loop s words₀ k₀ i₀ words k i = length s - i
 
-word-behind-requires : tie.Need-word-behind-requires Inv-loop μ-loop
-word-behind-requires c κs = omega (arith, c .before .before .before .before .before .before .loop .inv .0 .few)
-
 loop-again : tie.Need-loop-again Inv-loop μ-loop
 loop-again c =
     let loop = c .before .before .before .before .before .before .before .loop in
@@ -24,5 +21,6 @@ loop-again c =
     (parsing-more (loop .inv .0) (omega arith) (add .ensures) (c .word-behind .ensures), add .kept .0 ∙ loop .inv .1)
 
 pub parse-spec : {M : Type 1} → statement M
-parse-spec = tie.close (tie.spec Inv-loop μ-loop (λ c. (parsing-none, refl)) (λ c. search needs) (λ c κs. search needs) word-behind-requires
-    (λ c. search needs) (λ c. search needs) loop-again (λ c. c .before .loop .inv .1) (λ c. parsing-all (c .before .loop .inv .0) (omega arith)))
+parse-spec = tie.close (tie.spec Inv-loop μ-loop (λ c. (parsing-none, refl)) (λ c. search needs) (λ c κs. search needs)
+    (λ c κs. omega (arith, c .before .before .before .before .before .before .loop .inv .0 .few)) (λ c. search needs) (λ c. search needs) loop-again
+    (λ c. c .before .loop .inv .1) (λ c. parsing-all (c .before .loop .inv .0) (omega arith)))

@@ -9,8 +9,6 @@ use Rattle.consistency.proofs.fixes_power.Tie as tie
 conjugate-requires : tie.Need-conjugate-requires
 conjugate-requires c κs = let z = c .before in record { prepared = z .pre; level = omega arith; small = power-word-small (z .pre) (c .word .ensures) }
 
-returns : tie.Need-returns
-returns c = power-fixed (c .before .before .word .ensures) (c .before .conjugate .ensures) (c .same .ensures)
-
 pub fixes-power-spec : {M : Type 1} → statement M
-fixes-power-spec = tie.close (tie.spec (λ c κs. search needs) conjugate-requires (λ c κs. search needs) returns)
+fixes-power-spec = tie.close (tie.spec (λ c κs. search needs) conjugate-requires (λ c κs. search needs)
+    (λ c. power-fixed (c .before .before .word .ensures) (c .before .conjugate .ensures) (c .same .ensures)))

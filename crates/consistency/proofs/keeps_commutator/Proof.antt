@@ -23,9 +23,6 @@ product-requires-3 c κs =
     let z = c .before .before .before .before .before .before in
     record { prepared = prepared-lower (z .pre .0 .prepared); left = z .pre .0 .images .small (z .args .j) (z .pre .2); right = c .product2 .ensures .small }
 
-same-requires : tie.Need-same-requires
-same-requires c κs = omega (arith, c .before .before .before .before .before .before .before .pre .0 .prepared .ranged .few)
-
 returns : tie.Need-returns
 returns c =
     let v = c .before .before .before in
@@ -35,7 +32,6 @@ returns c =
     (c .before .before .product2 .ensures) (c .before .product3 .ensures) (c .same .ensures)
 
 pub keeps-commutator-spec : {M : Type 1} → statement M
-keeps-commutator-spec =
-    tie.close
-    (tie.spec (λ c. search needs) (λ c. search needs) (λ c. search needs) (λ c. search needs) product-requires (λ c κs. search needs)
-    (λ c. search needs) (λ c κs. search needs) product-requires-2 product-requires-3 same-requires returns)
+keeps-commutator-spec = tie.close (tie.spec (λ c. search needs) (λ c. search needs) (λ c. search needs) (λ c. search needs) product-requires
+    (λ c κs. search needs) (λ c. search needs) (λ c κs. search needs) product-requires-2 product-requires-3
+    (λ c κs. omega (arith, c .before .before .before .before .before .before .before .pre .0 .prepared .ranged .few)) returns)

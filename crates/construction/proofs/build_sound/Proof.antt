@@ -8,14 +8,8 @@ use Rattle.construction.proofs.Built.{given, sized-short, sized-done}
 use Rattle.construction.proofs.build_sound.Statement.{statement}
 use Rattle.construction.proofs.build_sound.Tie as tie
 
-measure-requires : tie.Need-measure-requires
-measure-requires c κs = let S = c .before .before .before .pre .1 in (wide S, measurable S)
-
 returns : tie.Need-returns
 returns c = sized-short (c .before .measure .ensures) (now (c .before .before .before .before .before .args .words)) (omega arith)
-
-cast-build-levels : tie.Need-cast-build-levels
-cast-build-levels c = omega (arith, wide (c .before .before .before .before .before .before .before .pre .1))
 
 build-levels-requires : tie.Need-build-levels-requires
 build-levels-requires c κs =
@@ -29,4 +23,6 @@ returns-2 c =
     sized-done (m .measure .ensures) (now (z .args .words)) (omega arith) (c .before .before .build-levels .ensures)
 
 pub build-sound-spec : {M : Type 1} → statement M
-build-sound-spec = tie.close (tie.spec measure-requires returns cast-build-levels build-levels-requires (λ c. search needs) returns-2)
+build-sound-spec = tie.close (tie.spec (λ c κs. let S = c .before .before .before .pre .1 in (wide S, measurable S)) returns
+    (λ c. omega (arith, wide (c .before .before .before .before .before .before .before .pre .1))) build-levels-requires (λ c. search needs)
+    returns-2)

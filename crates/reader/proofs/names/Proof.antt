@@ -21,9 +21,6 @@ abbrev μ-loop : tie.MeasureT-loop
 returns : tie.Need-returns Inv-loop μ-loop
 returns c = names-unstarted (λ h. true≢false (sym (c .before .starts .ensures .1 h) ∙ not-true (c .before .starts .result) (c .if1 .taken)))
 
-loop-holds : tie.Need-loop-holds Inv-loop μ-loop
-loop-holds c = names-none (c .before .starts .ensures .0 (not-false (c .before .starts .result) (c .if1 .left)))
-
 returns-2 : tie.Need-returns-2 Inv-loop μ-loop
 returns-2 c =
     names-fails (c .before .before .before .before .before .loop .inv) (omega arith) (c .before .before .next-name .ensures .fails (c .enum-told .given .1))
@@ -49,9 +46,6 @@ loop-again c =
     let k = v .before .before in
     names-more (k .before .before .before .loop .inv) (k .next-name .ensures .stands _ _ (v .v .given .1)) (c .if3 .left)
 
-returns-4 : tie.Need-returns-4 Inv-loop μ-loop
-returns-4 c = names-stops (c .before .before .before .loop .inv) (λ q. omega arith) (λ l q. omega arith)
-
 returns-5 : tie.Need-returns-5 Inv-loop μ-loop
 returns-5 c = names-stops (c .before .before .before .before .before .loop .inv) (λ q. omega arith) (λ l q. omega arith)
 
@@ -66,7 +60,7 @@ returns-6 c =
     names-end (l .loop .inv) (omega arith) (omega arith) (byte-within (l .before .before .before .before .before .args .text .now) (l .loop .at) (omega arith))
 
 pub names-spec : {M : Type 1} → statement M
-names-spec =
-    tie.close
-    (tie.spec Inv-loop μ-loop (λ c. search needs) (λ c κs. search needs) returns loop-holds (λ c κs. tt) (λ c κs. tt) (λ c. search needs)
-    (λ c. search needs) returns-2 add-if3 returns-3 loop-less loop-again returns-4 (λ c κs. tt) returns-5 add-t16 returns-6)
+names-spec = tie.close (tie.spec Inv-loop μ-loop (λ c. search needs) (λ c κs. search needs) returns
+    (λ c. names-none (c .before .starts .ensures .0 (not-false (c .before .starts .result) (c .if1 .left)))) (λ c κs. tt) (λ c κs. tt)
+    (λ c. search needs) (λ c. search needs) returns-2 add-if3 returns-3 loop-less loop-again
+    (λ c. names-stops (c .before .before .before .loop .inv) (λ q. omega arith) (λ l q. omega arith)) (λ c κs. tt) returns-5 add-t16 returns-6)

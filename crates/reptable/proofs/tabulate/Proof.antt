@@ -14,12 +14,6 @@ returns c =
     let z = c .before .before .before .before .before .before .before in
     refused (z .args .out .now) (length-replicate {0} {A = ℕ} 8192 0) (c .if1 .taken) (c .before .before .before .build .ensures)
 
-mul-words : tie.Need-mul-words
-mul-words c = omega (arith, lines-within (c .if1 .left) (c .before .before .before .build .ensures))
-
-array-share-prefix-words : tie.Need-array-share-prefix-words
-array-share-prefix-words c = omega (arith, lines-within (c .if1 .left) (c .before .before .before .build .ensures))
-
 slice-aggregate-write-table : tie.Need-slice-aggregate-write-table
 slice-aggregate-write-table c = sym (length-take-le _ _ (omega (arith, lines-within (c .before .if1 .left) (c .before .before .before .before .build .ensures))))
 
@@ -31,7 +25,7 @@ returns-2 c =
     written (length-replicate {0} {A = ℕ} 8192 0) (z .pre) (e .if1 .left) (e .before .before .before .build .ensures) (w .write-table .ensures)
 
 pub tabulate-spec : {M : Type 1} → statement M
-tabulate-spec =
-    tie.close
-    (tie.spec (λ c. search needs) (λ c κs. search needs) returns mul-words array-share-prefix-words slice-aggregate-write-table
-    (λ c κs. search needs) (λ c. search needs) returns-2)
+tabulate-spec = tie.close (tie.spec (λ c. search needs) (λ c κs. search needs) returns
+    (λ c. omega (arith, lines-within (c .if1 .left) (c .before .before .before .build .ensures)))
+    (λ c. omega (arith, lines-within (c .if1 .left) (c .before .before .before .build .ensures))) slice-aggregate-write-table (λ c κs. search needs)
+    (λ c. search needs) returns-2)

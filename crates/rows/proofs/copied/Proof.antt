@@ -17,9 +17,6 @@ Inv-loop k x₀ low q₀ x q = (k ≤ maxGenerators) × (q ≤ k) × (length x �
 abbrev μ-loop : tie.MeasureT-loop
 μ-loop k x₀ low q₀ x q = k - q
 
-loop-again : tie.Need-loop-again Inv-loop μ-loop
-loop-again c = (search needs, search needs, search needs, mixed-more (search needs) (c .before .loop .inv .3))
-
 returns : tie.Need-returns Inv-loop μ-loop
 returns c =
     let z = c .before .before in
@@ -29,4 +26,5 @@ returns c =
 
 pub copied-spec : {M : Type 1} → statement M
 copied-spec = tie.close (tie.spec Inv-loop μ-loop (λ c. (search needs, search needs, search needs, mixed-none)) (λ c. search needs)
-    (λ c. search needs) (λ c. search needs) (λ c. search needs) (λ c. search needs) (λ c. search needs) loop-again returns)
+    (λ c. search needs) (λ c. search needs) (λ c. search needs) (λ c. search needs) (λ c. search needs)
+    (λ c. (search needs, search needs, search needs, mixed-more (search needs) (c .before .loop .inv .3))) returns)

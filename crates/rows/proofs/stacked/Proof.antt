@@ -16,9 +16,6 @@ Inv-loop k s low r₀ q₀ r q = (k < maxGenerators) × (q ≤ k) × (length r �
 abbrev μ-loop : tie.MeasureT-loop
 μ-loop k s low r₀ q₀ r q = k - q
 
-loop-again : tie.Need-loop-again Inv-loop μ-loop
-loop-again c = (search needs, search needs, search needs, mixed-more (search needs) (c .before .loop .inv .3))
-
 returns : tie.Need-returns Inv-loop μ-loop
 returns c =
     let l = c .before .loop in
@@ -27,5 +24,6 @@ returns c =
 
 pub stacked-spec : {M : Type 1} → statement M
 stacked-spec = tie.close (tie.spec Inv-loop μ-loop (λ c. (search needs, search needs, search needs, mixed-none)) (λ c. search needs)
-    (λ c. search needs) (λ c. search needs) (λ c. search needs) (λ c. search needs) (λ c. search needs) loop-again (λ c. search needs)
-    (λ c. search needs) returns)
+    (λ c. search needs) (λ c. search needs) (λ c. search needs) (λ c. search needs) (λ c. search needs)
+    (λ c. (search needs, search needs, search needs, mixed-more (search needs) (c .before .loop .inv .3))) (λ c. search needs) (λ c. search needs)
+    returns)

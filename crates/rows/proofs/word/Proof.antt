@@ -7,8 +7,6 @@ use borrow.Author.Needs.{needs}
 use Rattle.rows.proofs.word.Statement.{statement}
 use Rattle.rows.proofs.word.Tie as tie
 
-returns : tie.Need-returns
-returns c = ap (λ k. getD (now (c .before .before .args .rows)) k []) (c .before .pair .ensures .0)
-
 pub word-spec : {M : Type 1} → statement M
-word-spec = tie.close (tie.spec (λ c κs. search needs) (λ c. search needs) (λ c. search needs) returns)
+word-spec = tie.close (tie.spec (λ c κs. search needs) (λ c. search needs) (λ c. search needs)
+    (λ c. ap (λ k. getD (now (c .before .before .args .rows)) k []) (c .before .pair .ensures .0)))

@@ -17,9 +17,7 @@ add-n c =
     let h = counted-more (c .before .before .before .loop .inv) (omega arith) (c .is-newline .ensures) in
     omega (arith, h .few, h .within)
 
-loop-again : tie.Need-loop-again Inv-loop μ-loop
-loop-again c = counted-more (c .before .before .before .loop .inv) (omega arith) (c .is-newline .ensures)
-
 pub count-newlines-spec : {M : Type 1} → statement M
 count-newlines-spec = tie.close (tie.spec Inv-loop μ-loop (λ c. counted-none) (λ c. omega arith) (λ c κs. tt) add-n (λ c. omega arith)
-    (λ c. omega arith) loop-again (λ c. counted-all (c .before .loop .inv) (omega arith)))
+    (λ c. omega arith) (λ c. counted-more (c .before .before .before .loop .inv) (omega arith) (c .is-newline .ensures))
+    (λ c. counted-all (c .before .loop .inv) (omega arith)))

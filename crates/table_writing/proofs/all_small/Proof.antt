@@ -21,9 +21,7 @@ returns c = let l = c .before .before .before in small-fails (l .before .args .w
 loop-again : tie.Need-loop-again Inv-loop μ-loop
 loop-again c = let l = c .before .before .before in small-more (l .before .args .words .now) (l .loop .k) (omega arith) (l .loop .inv) (omega arith)
 
-returns-2 : tie.Need-returns-2 Inv-loop μ-loop
-returns-2 c = let l = c .before in small-all (l .before .args .words .now) (l .loop .k) (omega arith) (l .loop .inv)
-
 pub all-small-spec : {M : Type 1} → statement M
 all-small-spec = tie.close (tie.spec Inv-loop μ-loop (λ c. small-none (c .args .words .now)) (λ c. omega arith) (λ c. omega arith) returns
-    (λ c. omega arith) (λ c. omega arith) loop-again returns-2)
+    (λ c. omega arith) (λ c. omega arith) loop-again
+    (λ c. let l = c .before in small-all (l .before .args .words .now) (l .loop .k) (omega arith) (l .loop .inv)))

@@ -15,12 +15,8 @@ abbrev μ-loop : tie.MeasureT-loop
 returns : tie.Need-returns Inv-loop μ-loop
 returns c = measured-over (c .before .before .loop .inv) (c .before .before .before .before .args .have) (omega arith)
 
-loop-again : tie.Need-loop-again Inv-loop μ-loop
-loop-again c = measured-more (c .before .before .before .before .loop .inv) (omega arith) (c .width .ensures .0)
-
-returns-2 : tie.Need-returns-2 Inv-loop μ-loop
-returns-2 c = measured-all (c .before .loop .inv) (c .before .before .before .args .have) (omega arith)
-
 pub fits-spec : {M : Type 1} → statement M
 fits-spec = tie.close (tie.spec Inv-loop μ-loop (λ c. measured-none) returns (λ c. omega arith) (λ c. omega arith) (λ c κs. tt) (λ c. omega arith)
-    (λ c. omega arith) (λ c. omega arith) (λ c. omega arith) loop-again returns-2)
+    (λ c. omega arith) (λ c. omega arith) (λ c. omega arith)
+    (λ c. measured-more (c .before .before .before .before .loop .inv) (omega arith) (c .width .ensures .0))
+    (λ c. measured-all (c .before .loop .inv) (c .before .before .before .args .have) (omega arith)))

@@ -8,9 +8,6 @@ use borrow.Author.Needs.{needs}
 use Rattle.table_writing.proofs.write_table.Statement.{statement}
 use Rattle.table_writing.proofs.write_table.Tie as tie
 
-returns-2 : tie.Need-returns-2
-returns-2 c = write-large _ _ (sym (c .before .all-small .ensures) ∙ not-true _ (c .if2 .taken))
-
 returns-3 : tie.Need-returns-3
 returns-3 c =
     let s = c .before .before in
@@ -38,5 +35,6 @@ returns-4 c =
     write-done _ _ (s .before .before .if1 .left) few (p .put-bytes .ensures) (c .before .before .put-words .ensures)
 
 pub write-table-spec : {M : Type 1} → statement M
-write-table-spec = tie.close (tie.spec (λ c. write-part _ _ (c .if1 .taken)) (λ c κs. search needs) returns-2 (λ c κs. search needs) returns-3
-    (λ c. search needs) put-bytes-requires put-words-requires (λ c. search needs) returns-4)
+write-table-spec = tie.close (tie.spec (λ c. write-part _ _ (c .if1 .taken)) (λ c κs. search needs)
+    (λ c. write-large _ _ (sym (c .before .all-small .ensures) ∙ not-true _ (c .if2 .taken))) (λ c κs. search needs) returns-3 (λ c. search needs)
+    put-bytes-requires put-words-requires (λ c. search needs) returns-4)

@@ -5,8 +5,6 @@ use lib.ListN.{List·getD-eq-default}
 use Rattle.text.proofs.byte_at.Statement.{statement}
 use Rattle.text.proofs.byte_at.Tie as tie
 
-returns-2 : tie.Need-returns-2
-returns-2 c = sym (List·getD-eq-default (c .before .args .text .now) 0 {n = c .before .args .at} (search needs))
-
 pub byte-at-spec : {M : Type 1} → statement M
-byte-at-spec = tie.close (tie.spec (λ c. search needs) (λ c. search needs) returns-2)
+byte-at-spec = tie.close (tie.spec (λ c. search needs) (λ c. search needs)
+    (λ c. sym (List·getD-eq-default (c .before .args .text .now) 0 {n = c .before .args .at} (search needs))))

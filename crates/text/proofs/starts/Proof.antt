@@ -21,10 +21,8 @@ returns-2 : tie.Need-returns-2 Inv-loop μ-loop
 returns-2 c =
     (λ e. absurd (false≢true e), λ h. absurd (matched-other (c .before .before .before .before .loop .inv) (omega arith) (c .if2 .taken) h))
 
-loop-again : tie.Need-loop-again Inv-loop μ-loop
-loop-again c = matched-more (c .before .before .before .before .loop .inv) (omega arith) (c .if2 .left)
-
 pub starts-spec : {M : Type 1} → statement M
 starts-spec = tie.close (tie.spec Inv-loop μ-loop (λ c. omega arith) returns (λ c. matched-none (omega arith)) (λ c. omega arith) (λ c. omega arith)
-    (λ c. omega arith) returns-2 (λ c. omega arith) (λ c. omega arith) loop-again
+    (λ c. omega arith) returns-2 (λ c. omega arith) (λ c. omega arith)
+    (λ c. matched-more (c .before .before .before .before .loop .inv) (omega arith) (c .if2 .left))
     (λ c. (λ e. matched-all (c .before .loop .inv) (omega arith), λ h. refl)))

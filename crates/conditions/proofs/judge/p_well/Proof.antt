@@ -4,11 +4,6 @@ use Rattle.conditions.proofs.Conditions.{p-power, p-commutator}
 use Rattle.conditions.proofs.judge.p_well.Statement.{statement}
 use Rattle.conditions.proofs.judge.p_well.Tie as tie
 
-returns : tie.Need-returns
-returns c = let a = c .before .args in sym (p-power (a .p) (a .j) (a .i) (c .if1 .taken))
-
-returns-2 : tie.Need-returns-2
-returns-2 c = let a = c .before .args in sym (p-commutator (a .p) (a .j) (a .i) (c .if1 .left))
-
 pub p-well-spec : {M : Type 1} → statement M
-p-well-spec = tie.close (tie.spec returns returns-2)
+p-well-spec = tie.close (tie.spec (λ c. let a = c .before .args in sym (p-power (a .p) (a .j) (a .i) (c .if1 .taken)))
+    (λ c. let a = c .before .args in sym (p-commutator (a .p) (a .j) (a .i) (c .if1 .left))))

@@ -18,9 +18,6 @@ Inv-loop primes n order₀ elements₀ j₀ order elements j =
 abbrev μ-loop : tie.MeasureT-loop
 μ-loop primes n order₀ elements₀ j₀ order elements j = n - j
 
-loop-holds : tie.Need-loop-holds Inv-loop μ-loop
-loop-holds c = (sym (product-zero (c .args .primes .now)), sym (sum-zero _), omega arith, omega arith, omega arith)
-
 mul-order-2 : tie.Need-mul-order-2 Inv-loop μ-loop
 mul-order-2 c =
     let z = c .before .before .before in
@@ -60,7 +57,6 @@ returns c =
     }
 
 pub measure-spec : {M : Type 1} → statement M
-measure-spec =
-    tie.close
-    (tie.spec Inv-loop μ-loop loop-holds (λ c. omega arith) (λ c. omega arith) mul-order-2 add-elements (λ c. omega arith) (λ c. omega arith)
-    loop-again (λ c. omega arith) mul-t12 mul-t13 returns)
+measure-spec = tie.close (tie.spec Inv-loop μ-loop
+    (λ c. (sym (product-zero (c .args .primes .now)), sym (sum-zero _), omega arith, omega arith, omega arith)) (λ c. omega arith) (λ c. omega arith)
+    mul-order-2 add-elements (λ c. omega arith) (λ c. omega arith) loop-again (λ c. omega arith) mul-t12 mul-t13 returns)
