@@ -15,9 +15,6 @@ Inv-loop words s i d o f k₀ k = Tested (λ k. allBelow (f .deg) (columnActs wo
 abbrev μ-loop : tie.MeasureT-loop
 μ-loop words s i d o f k₀ k = i - k
 
-loop-holds : tie.Need-loop-holds Inv-loop μ-loop
-loop-holds c = tested-none
-
 generator-acts-requires : tie.Need-generator-acts-requires Inv-loop μ-loop
 generator-acts-requires c κs = let z = c .before .before .before in (z .pre .0, omega arith)
 
@@ -31,10 +28,6 @@ loop-again c =
     let t = c .before .generator-acts in
     tested-more (c .before .before .before .loop .inv) (sym (t .ensures) ∙ not-false (t .result) (c .if1 .left))
 
-returns-2 : tie.Need-returns-2 Inv-loop μ-loop
-returns-2 c = tested-all (c .before .loop .inv) (omega arith)
-
 pub block-acts-spec : {M : Type 1} → statement M
-block-acts-spec =
-    tie.close
-    (tie.spec Inv-loop μ-loop loop-holds generator-acts-requires returns (λ c. omega arith) (λ c. omega arith) loop-again returns-2)
+block-acts-spec = tie.close (tie.spec Inv-loop μ-loop (λ c. tested-none) generator-acts-requires returns (λ c. omega arith) (λ c. omega arith)
+    loop-again (λ c. tested-all (c .before .loop .inv) (omega arith)))

@@ -14,9 +14,6 @@ Inv-loop words s d o f k deg c₀ c = Tested (columnActs words d o f k) c
 abbrev μ-loop : tie.MeasureT-loop
 μ-loop words s d o f k deg c₀ c = deg - c
 
-loop-holds : tie.Need-loop-holds Inv-loop μ-loop
-loop-holds c = tested-none
-
 column-acts-requires : tie.Need-column-acts-requires Inv-loop μ-loop
 column-acts-requires c κs = let z = c .before .before .before in (z .pre .0, z .pre .1, omega arith)
 
@@ -30,10 +27,6 @@ loop-again c =
     let t = c .before .column-acts in
     tested-more (c .before .before .before .loop .inv) (sym (t .ensures) ∙ not-false (t .result) (c .if1 .left))
 
-returns-2 : tie.Need-returns-2 Inv-loop μ-loop
-returns-2 c = tested-all (c .before .loop .inv) (omega arith)
-
 pub generator-acts-spec : {M : Type 1} → statement M
-generator-acts-spec =
-    tie.close
-    (tie.spec Inv-loop μ-loop loop-holds column-acts-requires returns (λ c. omega arith) (λ c. omega arith) loop-again returns-2)
+generator-acts-spec = tie.close (tie.spec Inv-loop μ-loop (λ c. tested-none) column-acts-requires returns (λ c. omega arith) (λ c. omega arith)
+    loop-again (λ c. tested-all (c .before .loop .inv) (omega arith)))

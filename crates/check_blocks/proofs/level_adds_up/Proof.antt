@@ -66,9 +66,6 @@ following-requires c κs =
     let F = l .loop .inv .0 in
     (z .pre .0, record { i = z .args .i; r = l .loop .r; here = F; more = omega (arith, F .listed, c .if2 .left, n) })
 
-loop-less : tie.Need-loop-less Inv-loop μ-loop
-loop-less c = omega (arith, c .before .before .before .before .loop .inv .0 .listed)
-
 loop-again : tie.Need-loop-again Inv-loop μ-loop
 loop-again c =
     let e = c .before .before in
@@ -85,7 +82,5 @@ loop-again c =
     )
 
 pub level-adds-up-spec : {M : Type 1} → statement M
-level-adds-up-spec =
-    tie.close
-    (tie.spec Inv-loop μ-loop count-of-requires found-requires (λ c κs. search needs) loop-holds (λ c κs. search needs) returns add-r returns-2
-    following-requires loop-less loop-again)
+level-adds-up-spec = tie.close (tie.spec Inv-loop μ-loop count-of-requires found-requires (λ c κs. search needs) loop-holds (λ c κs. search needs)
+    returns add-r returns-2 following-requires (λ c. omega (arith, c .before .before .before .before .loop .inv .0 .listed)) loop-again)

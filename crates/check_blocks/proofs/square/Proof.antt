@@ -13,8 +13,6 @@ mul-result c =
     let e = ap₂ (λ (a b : ℕ). a * b) (c .before .up .ensures) (c .up2 .ensures) in
     omega (arith, e, mul-le-mul {n₁ = d} {m₁ = d} {n₂ = 4294967295} {m₂ = 4294967295} (omega arith) (omega arith))
 
-returns : tie.Need-returns
-returns c = ap₂ (λ (a b : ℕ). a * b) (c .before .up .ensures) (c .up2 .ensures)
-
 pub square-spec : {M : Type 1} → statement M
-square-spec = tie.close (tie.spec (λ c κs. search needs) (λ c κs. search needs) mul-result returns)
+square-spec = tie.close (tie.spec (λ c κs. search needs) (λ c κs. search needs) mul-result
+    (λ c. ap₂ (λ (a b : ℕ). a * b) (c .before .up .ensures) (c .up2 .ensures)))

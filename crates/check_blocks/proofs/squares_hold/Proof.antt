@@ -19,12 +19,6 @@ abbrev μ-loop : tie.MeasureT-loop
 loop-holds : tie.Need-loop-holds Inv-loop μ-loop
 loop-holds c = let a = c .before .args in adds-known (a .s) (now (a .orders)) (now (a .words))
 
-add-level-adds-up-2 : tie.Need-add-level-adds-up-2 Inv-loop μ-loop
-add-level-adds-up-2 c = omega (arith, c .up .ensures)
-
-mul-level-adds-up : tie.Need-mul-level-adds-up Inv-loop μ-loop
-mul-level-adds-up c = omega (arith, c .up .ensures)
-
 element-copy-out-level-adds-up : tie.Need-element-copy-out-level-adds-up Inv-loop μ-loop
 element-copy-out-level-adds-up c = let z = c .before .before .before .before in omega (arith, c .up .ensures, z .pre .few)
 
@@ -56,7 +50,6 @@ returns-2 c =
     adds-holds (a .s) (now (a .orders)) (now (a .words)) (l .loop .inv) (omega arith)
 
 pub squares-hold-spec : {M : Type 1} → statement M
-squares-hold-spec =
-    tie.close
-    (tie.spec Inv-loop μ-loop loop-holds (λ c. omega arith) (λ c κs. search needs) add-level-adds-up-2 mul-level-adds-up
-    element-copy-out-level-adds-up level-adds-up-requires returns (λ c. omega arith) (λ c. omega arith) loop-again returns-2)
+squares-hold-spec = tie.close (tie.spec Inv-loop μ-loop loop-holds (λ c. omega arith) (λ c κs. search needs) (λ c. omega (arith, c .up .ensures))
+    (λ c. omega (arith, c .up .ensures)) element-copy-out-level-adds-up level-adds-up-requires returns (λ c. omega arith) (λ c. omega arith)
+    loop-again returns-2)

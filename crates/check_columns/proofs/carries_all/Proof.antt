@@ -95,9 +95,6 @@ commutes-requires c κs =
       R .narrow,
     )
 
-returns : tie.Need-returns Inv-loop μ-loop
-returns c = λ e. absurd (false≢true e)
-
 pair-requires : tie.Need-pair-requires Inv-loop μ-loop
 pair-requires c κs =
     let up3 = c .before .before in
@@ -127,9 +124,6 @@ carries-requires c κs =
       z .pre .2,
       R .narrow,
     )
-
-returns-2 : tie.Need-returns-2 Inv-loop μ-loop
-returns-2 c = λ e. absurd (false≢true e)
 
 loop-again : tie.Need-loop-again Inv-loop μ-loop
 loop-again c =
@@ -162,8 +156,7 @@ returns-3 c = λ e.
     rising-all (lo .loop .inv) (omega arith)
 
 pub carries-all-spec : {M : Type 1} → statement M
-carries-all-spec =
-    tie.close
-    (tie.spec Inv-loop μ-loop add-j loop-holds target-requires (λ c κs. search needs) add-rep-at rep-at-requires (λ c κs. search needs)
-    (λ c κs. search needs) mul-if1 element-copy-out-if1 commutes-requires returns pair-requires (λ c. search needs) (λ c. search needs)
-    carries-requires returns-2 (λ c. search needs) (λ c. omega arith) loop-again returns-3)
+carries-all-spec = tie.close (tie.spec Inv-loop μ-loop add-j loop-holds target-requires (λ c κs. search needs) add-rep-at rep-at-requires
+    (λ c κs. search needs) (λ c κs. search needs) mul-if1 element-copy-out-if1 commutes-requires (λ c. λ e. absurd (false≢true e)) pair-requires
+    (λ c. search needs) (λ c. search needs) carries-requires (λ c. λ e. absurd (false≢true e)) (λ c. search needs) (λ c. omega arith) loop-again
+    returns-3)

@@ -15,17 +15,11 @@ Inv-loop words s d e i j v deg o₀ o = Carrying s words d e i j [] v o
 abbrev μ-loop : tie.MeasureT-loop
 μ-loop words s d e i j v deg o₀ o = deg - o
 
-loop-holds : tie.Need-loop-holds Inv-loop μ-loop
-loop-holds c = carrying-none
-
 commutes-at-requires : tie.Need-commutes-at-requires Inv-loop μ-loop
 commutes-at-requires c κs =
     let z = c .before .before .before in
     let (K, L, e, i, j, v, n, d) = z .pre in
     (K, L, e, omega (arith, i, j), j, omega arith)
-
-returns : tie.Need-returns Inv-loop μ-loop
-returns c = λ e. absurd (false≢true e)
 
 add-o : tie.Need-add-o Inv-loop μ-loop
 add-o c =
@@ -50,4 +44,5 @@ returns-2 c = λ e.
     carrying-all (lo .loop .inv) (omega arith)
 
 pub commutes-spec : {M : Type 1} → statement M
-commutes-spec = tie.close (tie.spec Inv-loop μ-loop loop-holds commutes-at-requires returns add-o loop-less loop-again returns-2)
+commutes-spec = tie.close (tie.spec Inv-loop μ-loop (λ c. carrying-none) commutes-at-requires (λ c. λ e. absurd (false≢true e)) add-o loop-less
+    loop-again returns-2)

@@ -39,9 +39,6 @@ character-requires c κs =
     let z = at-clear .before .before .before .before in
     (record { part = z .args .part; parted = z .pre .0; allowed = allowed-own (at-loop .loop .inv .0 .allowed) }, omega arith)
 
-returns : tie.Need-returns Inv-loop μ-loop
-returns c = λ x. absurd (false≢true x)
-
 loop-again : tie.Need-loop-again Inv-loop μ-loop
 loop-again c =
     let at-character = c .before .before .before in
@@ -81,7 +78,5 @@ returns-2 c =
     }
 
 pub all-characters-spec : {M : Type 1} → statement M
-all-characters-spec =
-    tie.close
-    (tie.spec Inv-loop μ-loop (λ c κs. search needs) mark-requires loop-holds character-requires (λ c. search needs) returns (λ c. search needs)
-    (λ c. omega arith) loop-again same-length-2 returns-2)
+all-characters-spec = tie.close (tie.spec Inv-loop μ-loop (λ c κs. search needs) mark-requires loop-holds character-requires (λ c. search needs)
+    (λ c. λ x. absurd (false≢true x)) (λ c. search needs) (λ c. omega arith) loop-again same-length-2 returns-2)

@@ -25,18 +25,12 @@ line-is-requires c κs =
     let q = image-room P 0 (z .pre .0 .parted .counted .some) in
     (omega (arith, ap (λ n. z .args .k * n) (c .up .ensures), q), omega arith, omega (arith, P .here, P .few))
 
-returns : tie.Need-returns
-returns c = λ x. absurd (false≢true x)
-
 two-at-requires : tie.Need-two-at-requires
 two-at-requires c κs =
     let at-up = c .before .before in
     let z = at-up .before .before .before in
     let q = image-room (placed (z .pre .0 .parted) (z .pre .1)) 0 (z .pre .0 .parted .counted .some) in
     (omega (arith, ap (λ n. z .args .k * n) (at-up .up .ensures), q), omega arith)
-
-returns-2 : tie.Need-returns-2
-returns-2 c = λ x. absurd (false≢true x)
 
 word-at-requires : tie.Need-word-at-requires
 word-at-requires c κs =
@@ -45,18 +39,12 @@ word-at-requires c κs =
     let q = image-room (placed (z .pre .0 .parted) (z .pre .1)) 0 (z .pre .0 .parted .counted .some) in
     (omega (arith, ap (λ n. z .args .k * n) (at-up .up .ensures), q), omega arith)
 
-returns-3 : tie.Need-returns-3
-returns-3 c = λ x. absurd (false≢true x)
-
 word-at-requires-2 : tie.Need-word-at-requires-2
 word-at-requires-2 c κs =
     let at-up = c .before .before .before .before .before .before in
     let z = at-up .before .before .before in
     let q = image-room (placed (z .pre .0 .parted) (z .pre .1)) 0 (z .pre .0 .parted .counted .some) in
     (omega (arith, ap (λ n. z .args .k * n) (at-up .up .ensures), q), omega arith)
-
-returns-4 : tie.Need-returns-4
-returns-4 c = λ x. absurd (false≢true x)
 
 images-ok-requires : tie.Need-images-ok-requires
 images-ok-requires c κs =
@@ -103,7 +91,6 @@ returns-5 c =
     }
 
 pub character-spec : {M : Type 1} → statement M
-character-spec =
-    tie.close
-    (tie.spec (λ c κs. search needs) mul-at line-is-requires returns two-at-requires returns-2 word-at-requires returns-3 word-at-requires-2
-    (λ c κs. search needs) (λ c κs. search needs) (λ c. search needs) returns-4 images-ok-requires (λ c. search needs) returns-5)
+character-spec = tie.close (tie.spec (λ c κs. search needs) mul-at line-is-requires (λ c. λ x. absurd (false≢true x)) two-at-requires
+    (λ c. λ x. absurd (false≢true x)) word-at-requires (λ c. λ x. absurd (false≢true x)) word-at-requires-2 (λ c κs. search needs)
+    (λ c κs. search needs) (λ c. search needs) (λ c. λ x. absurd (false≢true x)) images-ok-requires (λ c. search needs) returns-5)

@@ -11,30 +11,15 @@ use Rattle.check_first.proofs.Marks.{product-positive}
 use Rattle.check_first.proofs.characters.Statement.{statement}
 use Rattle.check_first.proofs.characters.Tie as tie
 
-returns : tie.Need-returns
-returns c = λ x. absurd (false≢true x)
-
-returns-2 : tie.Need-returns-2
-returns-2 c = λ x. absurd (false≢true x)
-
-returns-3 : tie.Need-returns-3
-returns-3 c = λ x. absurd (false≢true x)
-
 mul-if4 : tie.Need-mul-if4
 mul-if4 c =
     let at-wide = c .before .before in
     omega (arith, product-fits (at-wide .wide .result) (c .wide2 .result) (at-wide .wide .ensures .1) (c .wide2 .ensures .1))
 
-returns-4 : tie.Need-returns-4
-returns-4 c = λ x. absurd (false≢true x)
-
 mul-if5 : tie.Need-mul-if5
 mul-if5 c =
     let at-wide = c .before .before .before .before .before in
     omega (arith, product-fits (at-wide .wide .result) (c .wide3 .result) (at-wide .wide .ensures .1) (c .wide3 .ensures .1))
-
-returns-5 : tie.Need-returns-5
-returns-5 c = λ x. absurd (false≢true x)
 
 parted : (e : tie.Else5) → let w = e .before .before .before .before .before in
     let at-if2 = w .before .before .before .before .before in
@@ -58,9 +43,6 @@ parted e =
       small = omega (arith, at-if2 .if2 .left, at-up .up .ensures);
     }
 
-small-characters-requires : tie.Need-small-characters-requires
-small-characters-requires c κs = (parted (c .before .before), search needs)
-
 returns-6 : tie.Need-returns-6
 returns-6 c =
     let e = c .before .before .before in
@@ -80,8 +62,7 @@ returns-7 c =
     λ x. subst (Characters _ _ _) (at-wide .wide .ensures .0) (c .before .before .all-characters .ensures x)
 
 pub characters-spec : {M : Type 1} → statement M
-characters-spec =
-    tie.close
-    (tie.spec returns (λ c κs. search needs) returns-2 (λ c κs. search needs) returns-3 (λ c κs. search needs) (λ c. search needs)
-    (λ c κs. search needs) mul-if4 (λ c κs. search needs) returns-4 (λ c κs. search needs) mul-if5 returns-5 small-characters-requires returns-6
-    all-characters-requires (λ c. search needs) returns-7)
+characters-spec = tie.close (tie.spec (λ c. λ x. absurd (false≢true x)) (λ c κs. search needs) (λ c. λ x. absurd (false≢true x))
+    (λ c κs. search needs) (λ c. λ x. absurd (false≢true x)) (λ c κs. search needs) (λ c. search needs) (λ c κs. search needs) mul-if4
+    (λ c κs. search needs) (λ c. λ x. absurd (false≢true x)) (λ c κs. search needs) mul-if5 (λ c. λ x. absurd (false≢true x))
+    (λ c κs. (parted (c .before .before), search needs)) returns-6 all-characters-requires (λ c. search needs) returns-7)

@@ -14,9 +14,6 @@ pair-requires c κs =
     let z = c .before in
     omega (arith, c .up .ensures, z .pre .1)
 
-returns : tie.Need-returns
-returns c = (omega arith, λ n. absurd (n refl))
-
 add-result : tie.Need-add-result
 add-result c =
     let at-up2 = c .before in
@@ -34,7 +31,5 @@ returns-2 c =
     (omega (arith, c .if1 .left, at-up2 .up2 .ensures), λ n. omega (arith, word))
 
 pub conjugate-spec : {M : Type 1} → statement M
-conjugate-spec =
-    tie.close
-    (tie.spec (λ c κs. search needs) pair-requires (λ c. search needs) (λ c. search needs) (λ c. search needs) (λ c κs. search needs) returns
-    add-result returns-2)
+conjugate-spec = tie.close (tie.spec (λ c κs. search needs) pair-requires (λ c. search needs) (λ c. search needs) (λ c. search needs)
+    (λ c κs. search needs) (λ c. (omega arith, λ n. absurd (n refl))) add-result returns-2)

@@ -24,9 +24,6 @@ mul-at c =
     let q = image-room (z .pre .0) 0 (z .pre .0 .counted .some) in
     omega (arith, ap (λ n. z .args .k * n) (c .up .ensures), q, z .good)
 
-loop-holds : tie.Need-loop-holds Inv-loop μ-loop
-loop-holds c = reaching-none
-
 add-l : tie.Need-add-l Inv-loop μ-loop
 add-l c =
     let at-loop = c .before .before in
@@ -46,9 +43,6 @@ line-is-requires c κs =
       omega (arith, z .pre .0 .here, z .pre .0 .few),
     )
 
-returns : tie.Need-returns Inv-loop μ-loop
-returns c = λ x. absurd (false≢true x)
-
 two-at-requires : tie.Need-two-at-requires Inv-loop μ-loop
 two-at-requires c κs =
     let at-up2 = c .before .before in
@@ -57,9 +51,6 @@ two-at-requires c κs =
     let z = at-up .before .before in
     let q = image-room (z .pre .0) (at-loop .loop .j) (omega arith) in
     (omega (arith, ap (λ n. z .args .k * n) (at-up .up .ensures), at-up2 .up2 .ensures, q), omega arith)
-
-returns-2 : tie.Need-returns-2 Inv-loop μ-loop
-returns-2 c = λ x. absurd (false≢true x)
 
 word-at-requires : tie.Need-word-at-requires Inv-loop μ-loop
 word-at-requires c κs =
@@ -70,17 +61,11 @@ word-at-requires c κs =
     let q = image-room (z .pre .0) (at-loop .loop .j) (omega arith) in
     (omega (arith, ap (λ n. z .args .k * n) (at-up .up .ensures), at-up2 .up2 .ensures, q), omega arith)
 
-returns-3 : tie.Need-returns-3 Inv-loop μ-loop
-returns-3 c = λ x. absurd (false≢true x)
-
 conjugate-requires : tie.Need-conjugate-requires Inv-loop μ-loop
 conjugate-requires c κs =
     let at-loop = c .before .before .before .before .before .before .before .before .before in
     let z = at-loop .before .before .before in
     (at-loop .loop .inv .from, omega (arith, z .pre .0 .counted .few))
-
-returns-4 : tie.Need-returns-4 Inv-loop μ-loop
-returns-4 c = λ x. absurd (false≢true x)
 
 led-to-requires : tie.Need-led-to-requires Inv-loop μ-loop
 led-to-requires c κs =
@@ -99,9 +84,6 @@ led-to-requires c κs =
       z .pre .2,
       z .pre .0 .small,
     )
-
-returns-5 : tie.Need-returns-5 Inv-loop μ-loop
-returns-5 c = λ x. absurd (false≢true x)
 
 loop-again : tie.Need-loop-again Inv-loop μ-loop
 loop-again c =
@@ -134,8 +116,7 @@ returns-6 c =
     λ x. reaching-all (at-loop .loop .inv) (omega arith)
 
 pub images-ok-spec : {M : Type 1} → statement M
-images-ok-spec =
-    tie.close
-    (tie.spec Inv-loop μ-loop (λ c κs. search needs) mul-at loop-holds (λ c κs. search needs) add-l line-is-requires returns two-at-requires
-    returns-2 word-at-requires returns-3 conjugate-requires returns-4 led-to-requires returns-5 (λ c. search needs) (λ c. omega arith) loop-again
-    returns-6)
+images-ok-spec = tie.close (tie.spec Inv-loop μ-loop (λ c κs. search needs) mul-at (λ c. reaching-none) (λ c κs. search needs) add-l line-is-requires
+    (λ c. λ x. absurd (false≢true x)) two-at-requires (λ c. λ x. absurd (false≢true x)) word-at-requires (λ c. λ x. absurd (false≢true x))
+    conjugate-requires (λ c. λ x. absurd (false≢true x)) led-to-requires (λ c. λ x. absurd (false≢true x)) (λ c. search needs) (λ c. omega arith)
+    loop-again returns-6)

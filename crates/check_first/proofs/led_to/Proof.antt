@@ -17,9 +17,6 @@ word-at-requires c κs =
     let z = c .before in
     (z .pre .0, omega arith)
 
-returns : tie.Need-returns
-returns c = λ e. absurd (false≢true e)
-
 mul-word-at : tie.Need-mul-word-at
 mul-word-at c =
     let at-up = c .before in
@@ -79,6 +76,5 @@ returns-3 c =
     record { listed = omega (arith, at-if1 .if1 .left, t); image = eqb-true _ _ x ∙ f }
 
 pub led-to-spec : {M : Type 1} → statement M
-led-to-spec =
-    tie.close
-    (tie.spec word-at-requires (λ c κs. search needs) returns mul-word-at word-at-requires-2 returns-2 mul-result rem-result returns-3)
+led-to-spec = tie.close (tie.spec word-at-requires (λ c κs. search needs) (λ c. λ e. absurd (false≢true e)) mul-word-at word-at-requires-2 returns-2
+    mul-result rem-result returns-3)

@@ -11,16 +11,10 @@ use Rattle.check_first.proofs.First.{character-opened}
 use Rattle.check_first.proofs.level_one.Statement.{statement}
 use Rattle.check_first.proofs.level_one.Tie as tie
 
-returns : tie.Need-returns
-returns c = λ x. absurd (false≢true x)
-
 characters-requires : tie.Need-characters-requires
 characters-requires c κs =
     let z = c .before .before .before .before .before in
     z .pre
-
-returns-2 : tie.Need-returns-2
-returns-2 c = λ x. absurd (false≢true x)
 
 heads-behind-requires : tie.Need-heads-behind-requires
 heads-behind-requires c κs =
@@ -34,9 +28,6 @@ heads-behind-requires c κs =
       subst (Opened (a .s) (ordersIn (now (a .orders))) (now (a .words))) (sym (c .up .ensures))
           (character-opened C (λ l. omega (arith, at-if1 .if1 .left))),
     )
-
-returns-3 : tie.Need-returns-3
-returns-3 c = λ x. absurd (false≢true x)
 
 count-of-requires : tie.Need-count-of-requires
 count-of-requires c κs =
@@ -79,7 +70,6 @@ returns-4 c =
     }
 
 pub level-one-spec : {M : Type 1} → statement M
-level-one-spec =
-    tie.close
-    (tie.spec (λ c. search needs) returns characters-requires (λ c. search needs) returns-2 (λ c κs. search needs) heads-behind-requires
-    (λ c. search needs) returns-3 count-of-requires (λ c κs. search needs) (λ c. search needs) returns-4)
+level-one-spec = tie.close (tie.spec (λ c. search needs) (λ c. λ x. absurd (false≢true x)) characters-requires (λ c. search needs)
+    (λ c. λ x. absurd (false≢true x)) (λ c κs. search needs) heads-behind-requires (λ c. search needs) (λ c. λ x. absurd (false≢true x))
+    count-of-requires (λ c κs. search needs) (λ c. search needs) returns-4)

@@ -22,16 +22,10 @@ add-if1 c =
     let z = c .before .before in
     omega (arith, z .pre .2)
 
-returns : tie.Need-returns
-returns c = λ e. absurd (false≢true e)
-
 two-at-requires-2 : tie.Need-two-at-requires-2
 two-at-requires-2 c κs =
     let z = c .before .before .before in
     (z .pre .0, omega arith)
-
-mul-result : tie.Need-mul-result
-mul-result c = omega (arith, c .wide .ensures .1)
 
 add-result : tie.Need-add-result
 add-result c =
@@ -57,6 +51,5 @@ returns-2 c =
     }
 
 pub line-is-spec : {M : Type 1} → statement M
-line-is-spec =
-    tie.close
-    (tie.spec two-at-requires mul-if1 add-if1 returns two-at-requires-2 (λ c. search needs) (λ c κs. search needs) mul-result add-result returns-2)
+line-is-spec = tie.close (tie.spec two-at-requires mul-if1 add-if1 (λ c. λ e. absurd (false≢true e)) two-at-requires-2 (λ c. search needs)
+    (λ c κs. search needs) (λ c. omega (arith, c .wide .ensures .1)) add-result returns-2)

@@ -16,9 +16,6 @@ Inv-loop free₀ p e₀ free e = Allowed (length free₀) e 1 free × (e ≤ p)
 abbrev μ-loop : tie.MeasureT-loop
 μ-loop free₀ p e₀ free e = p - e
 
-loop-holds : tie.Need-loop-holds Inv-loop μ-loop
-loop-holds c = (c .pre .0, omega arith)
-
 slice-write-free : tie.Need-slice-write-free Inv-loop μ-loop
 slice-write-free c =
     let at-loop = c .before in
@@ -47,6 +44,5 @@ returns c =
     subst (λ k. Allowed (length (now (z .args .free))) k 1 (l .free)) q (l .inv .0)
 
 pub set-first-spec : {M : Type 1} → statement M
-set-first-spec =
-    tie.close
-    (tie.spec Inv-loop μ-loop loop-holds slice-write-free (λ c. search needs) (λ c. omega arith) loop-again same-length returns)
+set-first-spec = tie.close (tie.spec Inv-loop μ-loop (λ c. (c .pre .0, omega arith)) slice-write-free (λ c. search needs) (λ c. omega arith)
+    loop-again same-length returns)

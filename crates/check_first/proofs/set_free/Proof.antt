@@ -17,9 +17,6 @@ Inv-loop free₀ p part e₀ k₀ free e k = Allowed (length free₀) k part fre
 abbrev μ-loop : tie.MeasureT-loop
 μ-loop free₀ p part e₀ k₀ free e k = p - k
 
-loop-holds : tie.Need-loop-holds Inv-loop μ-loop
-loop-holds c = (c .pre .0, omega arith, omega arith)
-
 slice-write-free : tie.Need-slice-write-free Inv-loop μ-loop
 slice-write-free c =
     let at-loop = c .before in
@@ -58,6 +55,5 @@ returns c =
     subst (λ k. Allowed (length (now (z .args .free))) k (z .args .part) (l .free)) q (l .inv .0)
 
 pub set-free-spec : {M : Type 1} → statement M
-set-free-spec =
-    tie.close
-    (tie.spec Inv-loop μ-loop loop-holds slice-write-free add-e (λ c. search needs) (λ c. omega arith) loop-again same-length returns)
+set-free-spec = tie.close (tie.spec Inv-loop μ-loop (λ c. (c .pre .0, omega arith, omega arith)) slice-write-free add-e (λ c. search needs)
+    (λ c. omega arith) loop-again same-length returns)

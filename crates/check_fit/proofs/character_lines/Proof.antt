@@ -16,9 +16,6 @@ Inv-loop firsts₀ many n l₀ r₀ firsts l r = CharacterLines n r firsts × (l
 abbrev μ-loop : tie.MeasureT-loop
 μ-loop firsts₀ many n l₀ r₀ firsts l r = many - r
 
-loop-holds : tie.Need-loop-holds Inv-loop μ-loop
-loop-holds c = (characters-none, omega arith, refl, omega arith)
-
 mul-firsts : tie.Need-mul-firsts Inv-loop μ-loop
 mul-firsts c =
     let z = c .before .before in
@@ -63,6 +60,5 @@ returns c =
     (subst (λ k. CharacterLines (z .args .n) k (l .firsts)) q (l .inv .0), l .inv .2)
 
 pub character-lines-spec : {M : Type 1} → statement M
-character-lines-spec =
-    tie.close
-    (tie.spec Inv-loop μ-loop loop-holds mul-firsts slice-write-firsts add-l (λ c. search needs) (λ c. omega arith) loop-again same-length returns)
+character-lines-spec = tie.close (tie.spec Inv-loop μ-loop (λ c. (characters-none, omega arith, refl, omega arith)) mul-firsts slice-write-firsts
+    add-l (λ c. search needs) (λ c. omega arith) loop-again same-length returns)

@@ -22,20 +22,11 @@ element-copy-out-if1 c =
     let z = c .before .before .before .before .before in
     omega (arith, c .up .ensures, z .pre .0 .few)
 
-returns : tie.Need-returns
-returns c = none-counted
-
-returns-2 : tie.Need-returns-2
-returns-2 c = none-counted
-
 level-one-requires : tie.Need-level-one-requires
 level-one-requires c κs =
     let at-if1 = c .before .before .before .before in
     let z = at-if1 .before .before .before .before .before .before .before .before in
     (z .pre .0, z .pre .1)
-
-returns-3 : tie.Need-returns-3
-returns-3 c = none-counted
 
 starts : (e : tie.Else3) → let at-level-one = e .before .before .before in
     let at-if1 = at-level-one .before .before .before .before .before in
@@ -65,16 +56,12 @@ passes e h =
 returns-4 : tie.Need-returns-4
 returns-4 c = let e = c .before .before in passes e (up-to-one (starts e))
 
-levels-fit-requires : tie.Need-levels-fit-requires
-levels-fit-requires c κs = starts (c .before .before .before .before .before)
-
 returns-5 : tie.Need-returns-5
 returns-5 c =
     let at-levels-fit = c .before .before .before .before .before .before in
     passes (at-levels-fit .before .before .before .before .before .before) (at-levels-fit .levels-fit .ensures)
 
 pub lent-levels-spec : {M : Type 1} → statement M
-lent-levels-spec =
-    tie.close
-    (tie.spec (λ c κs. search needs) mul-if1 element-copy-out-if1 returns returns-2 (λ c. search needs) level-one-requires (λ c. search needs)
-    returns-3 (λ c. search needs) returns-4 levels-fit-requires (λ c. search needs) (λ c. search needs) (λ c. search needs) returns-5)
+lent-levels-spec = tie.close (tie.spec (λ c κs. search needs) mul-if1 element-copy-out-if1 (λ c. none-counted) (λ c. none-counted) (λ c. search needs)
+    level-one-requires (λ c. search needs) (λ c. none-counted) (λ c. search needs) returns-4
+    (λ c κs. starts (c .before .before .before .before .before)) (λ c. search needs) (λ c. search needs) (λ c. search needs) returns-5)

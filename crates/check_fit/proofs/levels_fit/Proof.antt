@@ -8,9 +8,6 @@ use Rattle.check_fit.proofs.Levels.{level-one}
 use Rattle.check_fit.proofs.levels_fit.Statement.{statement}
 use Rattle.check_fit.proofs.levels_fit.Tie as tie
 
-returns : tie.Need-returns
-returns c = up-to-one (c .before .before .before .before .before .before .before .pre)
-
 character-lines-requires : tie.Need-character-lines-requires
 character-lines-requires c κs =
     let at-up = c .before .before in
@@ -39,7 +36,6 @@ returns-2 c =
     at-upper-levels-fit .upper-levels-fit .ensures .0
 
 pub levels-fit-spec : {M : Type 1} → statement M
-levels-fit-spec =
-    tie.close
-    (tie.spec (λ c. search needs) (λ c κs. search needs) returns character-lines-requires upper-levels-fit-requires same-length (λ c. search needs)
-    (λ c. search needs) returns-2)
+levels-fit-spec = tie.close (tie.spec (λ c. search needs) (λ c κs. search needs)
+    (λ c. up-to-one (c .before .before .before .before .before .before .before .pre)) character-lines-requires upper-levels-fit-requires same-length
+    (λ c. search needs) (λ c. search needs) returns-2)

@@ -53,9 +53,6 @@ add-o c =
     (c .if2 .left) in
     omega (arith, h, a .fits, a .good)
 
-loop-less : tie.Need-loop-less Inv-loop μ-loop
-loop-less c = omega (arith, c .before .before .if1 .taken, c .if2 .left)
-
 loop-again : tie.Need-loop-again Inv-loop μ-loop
 loop-again c =
     let k = c .before .before .before .before in
@@ -76,4 +73,5 @@ returns-2 c =
     sym (cutting-all L R (wholeBlock L R) (loop .o) (loop .inv) (omega (arith, c .if1 .left)))
 
 pub blocks-ok-spec : {M : Type 1} → statement M
-blocks-ok-spec = tie.close (tie.spec Inv-loop μ-loop loop-holds block-requires returns add-o loop-less loop-again returns-2)
+blocks-ok-spec = tie.close (tie.spec Inv-loop μ-loop loop-holds block-requires returns add-o
+    (λ c. omega (arith, c .before .before .if1 .taken, c .if2 .left)) loop-again returns-2)

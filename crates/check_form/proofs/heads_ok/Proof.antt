@@ -7,11 +7,5 @@ use Rattle.check_form.proofs.heads_ok.Tie as tie
 returns : tie.Need-returns
 returns c = let z = c .before .before in sym (z .pre .1 .heads (omega (arith, c .if1 .taken)))
 
-heads-requires : tie.Need-heads-requires
-heads-requires c κs = c .before .before .pre .0
-
-returns-2 : tie.Need-returns-2
-returns-2 c = c .heads .ensures
-
 pub heads-ok-spec : {M : Type 1} → statement M
-heads-ok-spec = tie.close (tie.spec returns heads-requires returns-2)
+heads-ok-spec = tie.close (tie.spec returns (λ c κs. c .before .before .pre .0) (λ c. c .heads .ensures))

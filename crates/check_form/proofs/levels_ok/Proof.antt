@@ -61,11 +61,6 @@ loop-again c =
       tested-more (loop .inv .1) (sym (level-ok .ensures) ∙ not-false (level-ok .result) (c .if2 .left)),
     )
 
-returns-2 : tie.Need-returns-2 Inv-loop μ-loop
-returns-2 c = tested-all (c .before .before .loop .inv .1) (omega (arith, c .if1 .left))
-
 pub levels-ok-spec : {M : Type 1} → statement M
-levels-ok-spec =
-    tie.close
-    (tie.spec Inv-loop μ-loop count-of-requires loop-holds add-count-of count-of-requires-2 level-ok-requires returns (λ c. omega arith)
-    (λ c. omega arith) loop-again returns-2)
+levels-ok-spec = tie.close (tie.spec Inv-loop μ-loop count-of-requires loop-holds add-count-of count-of-requires-2 level-ok-requires returns
+    (λ c. omega arith) (λ c. omega arith) loop-again (λ c. tested-all (c .before .before .loop .inv .1) (omega (arith, c .if1 .left))))

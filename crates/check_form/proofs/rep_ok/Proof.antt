@@ -8,9 +8,6 @@ use Rattle.check_form.proofs.Form.{body-matrices, body-blocks, body-ref
 use Rattle.check_form.proofs.rep_ok.Statement.{statement}
 use Rattle.check_form.proofs.rep_ok.Tie as tie
 
-matrices-ok-requires : tie.Need-matrices-ok-requires
-matrices-ok-requires c κs = c .before .pre .2 .room
-
 returns : tie.Need-returns
 returns c =
     let a = c .before .before .before in
@@ -84,7 +81,5 @@ returns-4 c =
     (sym (refs-equal .ensures) ∙ not-false (refs-equal .result) (c .before .if3 .left))
 
 pub rep-ok-spec : {M : Type 1} → statement M
-rep-ok-spec =
-    tie.close
-    (tie.spec matrices-ok-requires returns blocks-ok-requires returns-2 add-refs-equal refs-equal-requires returns-3 add-targets-ok
-    targets-ok-requires returns-4)
+rep-ok-spec = tie.close (tie.spec (λ c κs. c .before .pre .2 .room) returns blocks-ok-requires returns-2 add-refs-equal refs-equal-requires returns-3
+    add-targets-ok targets-ok-requires returns-4)

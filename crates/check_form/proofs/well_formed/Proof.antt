@@ -6,9 +6,6 @@ use Rattle.check_form.proofs.Form.{form-heads, form-whole, form-levels}
 use Rattle.check_form.proofs.well_formed.Statement.{statement}
 use Rattle.check_form.proofs.well_formed.Tie as tie
 
-heads-ok-requires : tie.Need-heads-ok-requires
-heads-ok-requires c κs = c .before .pre
-
 returns : tie.Need-returns
 returns c =
     let a = c .before .before .before in
@@ -31,4 +28,4 @@ returns-2 c =
     (c .levels-ok .result) (c .levels-ok .ensures)
 
 pub well-formed-spec : {M : Type 1} → statement M
-well-formed-spec = tie.close (tie.spec heads-ok-requires returns levels-ok-requires returns-2)
+well-formed-spec = tie.close (tie.spec (λ c κs. c .before .pre) returns levels-ok-requires returns-2)

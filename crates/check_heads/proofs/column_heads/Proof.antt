@@ -23,15 +23,6 @@ add-place c =
     let z = at-wide .before .before in
     omega (arith, z .pre .0, at-wide .wide .ensures .1)
 
-mul-end : tie.Need-mul-end Inv-loop μ-loop
-mul-end c = omega (arith, c .wide3 .ensures .1)
-
-add-end : tie.Need-add-end Inv-loop μ-loop
-add-end c = omega (arith, c .wide3 .ensures .1, c .before .wide2 .ensures .1)
-
-loop-holds : tie.Need-loop-holds Inv-loop μ-loop
-loop-holds c = columned-none refl (c .before .wide2 .ensures .0)
-
 add-kind : tie.Need-add-kind Inv-loop μ-loop
 add-kind c =
     let at-loop = c .before in
@@ -70,9 +61,6 @@ add-at c =
     (omega (arith, at-wide3 .wide3 .ensures .0, at-wide2 .wide2 .ensures .0, at-head .before .loop-test .taken)) in
     omega (arith, room, z .good, at-wide2 .wide2 .ensures .1)
 
-loop-less : tie.Need-loop-less Inv-loop μ-loop
-loop-less c = omega (arith, c .before .before .loop-test .taken)
-
 loop-again : tie.Need-loop-again Inv-loop μ-loop
 loop-again c =
     let at-head = c .before in
@@ -93,7 +81,7 @@ returns-2 c =
     (omega (arith, at-wide3 .wide3 .ensures .0, at-wide2 .wide2 .ensures .0, c .loop-test .left))
 
 pub column-heads-spec : {M : Type 1} → statement M
-column-heads-spec =
-    tie.close
-    (tie.spec Inv-loop μ-loop (λ c κs. search needs) mul-place add-place (λ c κs. search needs) (λ c κs. search needs) mul-end add-end loop-holds
-    add-kind head-is-requires returns add-at loop-less loop-again returns-2)
+column-heads-spec = tie.close (tie.spec Inv-loop μ-loop (λ c κs. search needs) mul-place add-place (λ c κs. search needs) (λ c κs. search needs)
+    (λ c. omega (arith, c .wide3 .ensures .1)) (λ c. omega (arith, c .wide3 .ensures .1, c .before .wide2 .ensures .1))
+    (λ c. columned-none refl (c .before .wide2 .ensures .0)) add-kind head-is-requires returns add-at
+    (λ c. omega (arith, c .before .before .loop-test .taken)) loop-again returns-2)

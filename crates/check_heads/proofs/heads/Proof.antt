@@ -11,8 +11,5 @@ heads-behind-requires c κs =
     let a = z .args in
     (z .pre, opened-none (a .s) (ordersIn (now (a .orders))) (now (a .words)))
 
-returns : tie.Need-returns
-returns c = c .heads-behind .ensures
-
 pub heads-spec : {M : Type 1} → statement M
-heads-spec = tie.close (tie.spec heads-behind-requires returns)
+heads-spec = tie.close (tie.spec heads-behind-requires (λ c. c .heads-behind .ensures))

@@ -32,9 +32,6 @@ returns c =
     first-other (now (a .words)) (a .p) (a .d .line) (a .d .deg) (a .n) (z .pre .1) (z .pre .2)
     (at-wide .wide .ensures .0 ∙ at-word .word-at .ensures) (c .if1 .taken)
 
-loop-holds : tie.Need-loop-holds Inv-loop μ-loop
-loop-holds c = (omega arith, tested-none)
-
 column-heads-requires : tie.Need-column-heads-requires Inv-loop μ-loop
 column-heads-requires c κs =
     let at-loop = c .before in
@@ -76,7 +73,5 @@ returns-3 c =
     tested-all (at-loop .loop .inv .1) {n = a .d .deg} (c .loop-test .left) ∙ columns-are (now (a .words)) (a .p) (a .d .line) (a .d .deg) (a .n)
 
 pub rep-heads-spec : {M : Type 1} → statement M
-rep-heads-spec =
-    tie.close
-    (tie.spec Inv-loop μ-loop word-at-requires (λ c κs. search needs) returns loop-holds column-heads-requires returns-2 add-at (λ c. search needs)
-    (λ c. search needs) loop-again returns-3)
+rep-heads-spec = tie.close (tie.spec Inv-loop μ-loop word-at-requires (λ c κs. search needs) returns (λ c. (omega arith, tested-none))
+    column-heads-requires returns-2 add-at (λ c. search needs) (λ c. search needs) loop-again returns-3)

@@ -14,8 +14,6 @@ mul-result c =
     let h = product-fits (up .result) (c .up2 .result) (omega (arith, up .ensures, a .fits)) (omega (arith, c .up2 .ensures, a .fits)) in
     omega (arith, h)
 
-returns : tie.Need-returns
-returns c = ap₂ (λ x y. x * y) (c .before .up .ensures) (c .up2 .ensures)
-
 pub times-spec : {M : Type 1} → statement M
-times-spec = tie.close (tie.spec (λ c κs. search needs) (λ c κs. search needs) mul-result returns)
+times-spec = tie.close (tie.spec (λ c κs. search needs) (λ c κs. search needs) mul-result
+    (λ c. ap₂ (λ x y. x * y) (c .before .up .ensures) (c .up2 .ensures)))

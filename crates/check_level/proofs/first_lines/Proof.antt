@@ -32,9 +32,6 @@ sub-if1 c =
     let z = c .before .before .before in
     z .pre .4
 
-returns : tie.Need-returns Inv-loop μ-loop
-returns c = not-noted
-
 found-requires : tie.Need-found-requires Inv-loop μ-loop
 found-requires c κs =
     let z = c .before .before .before .before in
@@ -174,8 +171,6 @@ loop-again c =
     )
 
 pub first-lines-spec : {M : Type 1} → statement M
-first-lines-spec =
-    tie.close
-    (tie.spec Inv-loop μ-loop count-of-requires sub-if1 returns found-requires (λ c κs. search needs) loop-holds run-lines-requires
-    (λ c κs. search needs) sub-k div-if2 same-length returns-2 mul-left sub-left same-length-2 returns-3 same-length-3 returns-4
+first-lines-spec = tie.close (tie.spec Inv-loop μ-loop count-of-requires sub-if1 (λ c. not-noted) found-requires (λ c κs. search needs) loop-holds
+    run-lines-requires (λ c κs. search needs) sub-k div-if2 same-length returns-2 mul-left sub-left same-length-2 returns-3 same-length-3 returns-4
     representation-requires loop-less loop-again)

@@ -28,12 +28,6 @@ Inv-loop words firsts rows s g marks₀ slots₀ part above r₀ marks slots r =
 abbrev μ-loop : tie.MeasureT-loop
 μ-loop words firsts rows s g marks₀ slots₀ part above r₀ marks slots r = above - r
 
-returns : tie.Need-returns Inv-loop μ-loop
-returns c = λ e. absurd (false≢true e)
-
-returns-2 : tie.Need-returns-2 Inv-loop μ-loop
-returns-2 c = λ e. absurd (false≢true e)
-
 loop-holds : tie.Need-loop-holds Inv-loop μ-loop
 loop-holds c =
     let at-if1 = c .before .before .before in
@@ -72,9 +66,6 @@ same-length-2 c =
     let at-loop = c .before .before .before .before .before in
     at-loop .loop .inv .4
 
-returns-3 : tie.Need-returns-3 Inv-loop μ-loop
-returns-3 c = λ e. absurd (false≢true e)
-
 claim-requires : tie.Need-claim-requires Inv-loop μ-loop
 claim-requires c κs =
     let at-rep-at = c .before .before .before .before in
@@ -86,9 +77,6 @@ claim-requires c κs =
       found-fits (high-at (z .pre) r (omega arith) (at-rep-at .rep-at .ensures) refl) (z .args .g .top) (z .pre .level .1),
       omega (arith, at-if2 .if2 .left),
     )
-
-returns-4 : tie.Need-returns-4 Inv-loop μ-loop
-returns-4 c = λ e. absurd (false≢true e)
 
 loop-again : tie.Need-loop-again Inv-loop μ-loop
 loop-again c = (
@@ -152,8 +140,7 @@ returns-5 c =
     }
 
 pub level-compares-spec : {M : Type 1} → statement M
-level-compares-spec =
-    tie.close
-    (tie.spec Inv-loop μ-loop returns (λ c. search needs) returns-2 loop-holds add-rep-at rep-at-requires rep-passes-requires same-length
-    same-length-2 returns-3 claim-requires (λ c. search needs) (λ c. search needs) returns-4 (λ c. search needs) (λ c. omega arith) loop-again
-    same-length-5 same-length-6 returns-5)
+level-compares-spec = tie.close (tie.spec Inv-loop μ-loop (λ c. λ e. absurd (false≢true e)) (λ c. search needs) (λ c. λ e. absurd (false≢true e))
+    loop-holds add-rep-at rep-at-requires rep-passes-requires same-length same-length-2 (λ c. λ e. absurd (false≢true e)) claim-requires
+    (λ c. search needs) (λ c. search needs) (λ c. λ e. absurd (false≢true e)) (λ c. search needs) (λ c. omega arith) loop-again same-length-5
+    same-length-6 returns-5)

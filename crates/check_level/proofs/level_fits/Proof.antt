@@ -11,9 +11,6 @@ compares-requires c κs =
     let z = c .before .before .before .before .before .before in
     z .pre .0
 
-returns : tie.Need-returns
-returns c = λ e. absurd (false≢true e)
-
 level-relates-requires : tie.Need-level-relates-requires
 level-relates-requires c κs =
     let at-compares = c .before .before .before .before .before in
@@ -29,7 +26,5 @@ returns-2 c =
     (c .level-relates .ensures e)
 
 pub level-fits-spec : {M : Type 1} → statement M
-level-fits-spec =
-    tie.close
-    (tie.spec compares-requires (λ c. search needs) (λ c. search needs) returns level-relates-requires (λ c. search needs) (λ c. search needs)
-    returns-2)
+level-fits-spec = tie.close (tie.spec compares-requires (λ c. search needs) (λ c. search needs) (λ c. λ e. absurd (false≢true e))
+    level-relates-requires (λ c. search needs) (λ c. search needs) returns-2)

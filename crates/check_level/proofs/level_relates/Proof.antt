@@ -33,9 +33,6 @@ add-if1 c =
 returns : tie.Need-returns Inv-loop μ-loop
 returns c = λ e. record { each = λ r l. record { each = λ j a b. absurd (omega (arith, c .if1 .taken)) } }
 
-loop-holds : tie.Need-loop-holds Inv-loop μ-loop
-loop-holds c = λ q l. absurd (omega arith)
-
 add-rep-at : tie.Need-add-rep-at Inv-loop μ-loop
 add-rep-at c =
     let at-loop = c .before .before in
@@ -94,9 +91,6 @@ carries-all-requires c κs =
       z .pre .2,
     )
 
-returns-2 : tie.Need-returns-2 Inv-loop μ-loop
-returns-2 c = λ e. absurd (false≢true e)
-
 loop-again : tie.Need-loop-again Inv-loop μ-loop
 loop-again c =
     let at-carries-all = c .before in
@@ -123,7 +117,6 @@ returns-3 c =
     λ e. record { each = λ r l. at-loop .loop .inv r (omega arith) }
 
 pub level-relates-spec : {M : Type 1} → statement M
-level-relates-spec =
-    tie.close
-    (tie.spec Inv-loop μ-loop add-if1 returns loop-holds add-rep-at rep-at-requires word-at-requires (λ c κs. search needs) add-rep-at-2
-    rep-at-requires-2 carries-all-requires returns-2 (λ c. search needs) (λ c. omega arith) loop-again returns-3)
+level-relates-spec = tie.close (tie.spec Inv-loop μ-loop add-if1 returns (λ c. λ q l. absurd (omega arith)) add-rep-at rep-at-requires
+    word-at-requires (λ c κs. search needs) add-rep-at-2 rep-at-requires-2 carries-all-requires (λ c. λ e. absurd (false≢true e)) (λ c. search needs)
+    (λ c. omega arith) loop-again returns-3)

@@ -32,9 +32,6 @@ sub-step c =
     let at-matrix-line = c .before in
     omega (arith, at-matrix-line .matrix-line .ensures)
 
-loop-holds : tie.Need-loop-holds Inv-loop μ-loop
-loop-holds c = λ s i A st. running-none A _
-
 word-at-requires : tie.Need-word-at-requires Inv-loop μ-loop
 word-at-requires c κs =
     let at-loop = c .before in
@@ -141,7 +138,5 @@ returns-2 c =
     running-all (z .pre) _ (at-loop .loop .inv (z .args .s) (z .args .i) (z .pre) step) (omega arith)
 
 pub run-lines-spec : {M : Type 1} → statement M
-run-lines-spec =
-    tie.close
-    (tie.spec Inv-loop μ-loop matrix-line-requires sub-step loop-holds word-at-requires same-length returns cast-firsts add-firsts mul-firsts
-    slice-write-firsts add-line add-q loop-less loop-again same-length-2 returns-2)
+run-lines-spec = tie.close (tie.spec Inv-loop μ-loop matrix-line-requires sub-step (λ c. λ s i A st. running-none A _) word-at-requires same-length
+    returns cast-firsts add-firsts mul-firsts slice-write-firsts add-line add-q loop-less loop-again same-length-2 returns-2)

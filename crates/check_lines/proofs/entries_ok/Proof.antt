@@ -15,9 +15,6 @@ Inv-loop words at d m c₀ c = Tested (λ (k : ℕ). entryOk m d (entryIn words 
 abbrev μ-loop : tie.MeasureT-loop
 μ-loop words at d m c₀ c = d - c
 
-loop-holds : tie.Need-loop-holds Inv-loop μ-loop
-loop-holds c = tested-none
-
 add-entry-ok : tie.Need-add-entry-ok Inv-loop μ-loop
 add-entry-ok c =
     let a = c .before .before .before .before in
@@ -42,11 +39,6 @@ loop-again c =
     let e = rw (c .before .before .up .ensures) at (entry-ok .ensures) in
     tested-more (k .loop .inv) (sym e ∙ not-false (entry-ok .result) (c .if1 .left))
 
-returns-2 : tie.Need-returns-2 Inv-loop μ-loop
-returns-2 c = tested-all (c .before .loop .inv) (omega arith)
-
 pub entries-ok-spec : {M : Type 1} → statement M
-entries-ok-spec =
-    tie.close
-    (tie.spec Inv-loop μ-loop loop-holds (λ c κs. omega arith) add-entry-ok entry-ok-requires returns (λ c. omega arith) (λ c. omega arith)
-    loop-again returns-2)
+entries-ok-spec = tie.close (tie.spec Inv-loop μ-loop (λ c. tested-none) (λ c κs. omega arith) add-entry-ok entry-ok-requires returns
+    (λ c. omega arith) (λ c. omega arith) loop-again (λ c. tested-all (c .before .loop .inv) (omega arith)))

@@ -15,9 +15,6 @@ Inv-loop words at d r c₀ c = Missed (λ (k : ℕ). eqb (entryIn words (at + k)
 abbrev μ-loop : tie.MeasureT-loop
 μ-loop words at d r c₀ c = d - c
 
-loop-holds : tie.Need-loop-holds Inv-loop μ-loop
-loop-holds c = missed-none
-
 add-word-at : tie.Need-add-word-at Inv-loop μ-loop
 add-word-at c =
     let a = c .before .before .before .before in
@@ -40,11 +37,6 @@ loop-again c =
     let e = rw (c .before .before .up .ensures) at (c .before .word-at .ensures) in
     missed-more (k .loop .inv) (ne-eqb _ _ (λ h. c .if1 .left (e ∙ h)))
 
-returns-2 : tie.Need-returns-2 Inv-loop μ-loop
-returns-2 c = missed-all (c .before .loop .inv) (omega arith)
-
 pub has-row-spec : {M : Type 1} → statement M
-has-row-spec =
-    tie.close
-    (tie.spec Inv-loop μ-loop loop-holds (λ c κs. omega arith) add-word-at word-at-requires returns (λ c. omega arith) (λ c. omega arith) loop-again
-    returns-2)
+has-row-spec = tie.close (tie.spec Inv-loop μ-loop (λ c. missed-none) (λ c κs. omega arith) add-word-at word-at-requires returns (λ c. omega arith)
+    (λ c. omega arith) loop-again (λ c. missed-all (c .before .loop .inv) (omega arith)))

@@ -16,9 +16,6 @@ Inv-loop words d n m g₀ g = Tested (λ (k : ℕ). valid m (d .deg) (generatorI
 abbrev μ-loop : tie.MeasureT-loop
 μ-loop words d n m g₀ g = n - g
 
-loop-holds : tie.Need-loop-holds Inv-loop μ-loop
-loop-holds c = tested-none
-
 matrix-line-requires : tie.Need-matrix-line-requires Inv-loop μ-loop
 matrix-line-requires c κs =
     let a = c .before .before .before in
@@ -44,10 +41,6 @@ loop-again c =
     let e = rw (c .before .before .matrix-line .ensures) at (matrix-ok .ensures) in
     tested-more (k .loop .inv) (sym e ∙ not-false (matrix-ok .result) (c .if1 .left))
 
-returns-2 : tie.Need-returns-2 Inv-loop μ-loop
-returns-2 c = tested-all (c .before .loop .inv) (omega arith)
-
 pub matrices-ok-spec : {M : Type 1} → statement M
-matrices-ok-spec =
-    tie.close
-    (tie.spec Inv-loop μ-loop loop-holds matrix-line-requires matrix-ok-requires returns (λ c. omega arith) (λ c. omega arith) loop-again returns-2)
+matrices-ok-spec = tie.close (tie.spec Inv-loop μ-loop (λ c. tested-none) matrix-line-requires matrix-ok-requires returns (λ c. omega arith)
+    (λ c. omega arith) loop-again (λ c. tested-all (c .before .loop .inv) (omega arith)))

@@ -15,9 +15,6 @@ Inv-loop words at k x c₀ c = Tested (λ (j : ℕ). eqb (wordAt words (at + j) 
 abbrev μ-loop : tie.MeasureT-loop
 μ-loop words at k x c₀ c = k - c
 
-loop-holds : tie.Need-loop-holds Inv-loop μ-loop
-loop-holds c = tested-none
-
 add-word-at : tie.Need-add-word-at Inv-loop μ-loop
 add-word-at c =
     let a = c .before .before .before .before in
@@ -40,11 +37,6 @@ loop-again c =
     let e = rw (c .before .before .up .ensures) at (c .before .word-at .ensures) in
     tested-more (k .loop .inv) (eq-eqb _ _ (sym e ∙ c .if1 .left))
 
-returns-2 : tie.Need-returns-2 Inv-loop μ-loop
-returns-2 c = tested-all (c .before .loop .inv) (omega arith)
-
 pub refs-are-spec : {M : Type 1} → statement M
-refs-are-spec =
-    tie.close
-    (tie.spec Inv-loop μ-loop loop-holds (λ c κs. omega arith) add-word-at word-at-requires returns (λ c. omega arith) (λ c. omega arith) loop-again
-    returns-2)
+refs-are-spec = tie.close (tie.spec Inv-loop μ-loop (λ c. tested-none) (λ c κs. omega arith) add-word-at word-at-requires returns (λ c. omega arith)
+    (λ c. omega arith) loop-again (λ c. tested-all (c .before .loop .inv) (omega arith)))

@@ -27,9 +27,6 @@ matrix-line-requires-2 c κs =
     let a = c .before .before in
     omega (arith, a .pre .1, a .good)
 
-loop-holds : tie.Need-loop-holds Inv-loop μ-loop
-loop-holds c = tested-none
-
 add-word-at : tie.Need-add-word-at Inv-loop μ-loop
 add-word-at c =
     let k = c .before .before .before .before .before in
@@ -77,11 +74,7 @@ loop-again c =
     let y = ref-read (now (a .args .words)) (a .args .d) 0 (k2 .before .matrix-line2 .ensures) (up .ensures) (c .before .word-at2 .ensures) in
     tested-more (k2 .loop .inv) (eq-eqb _ _ (sym x ∙ c .if2 .left ∙ y))
 
-returns-2 : tie.Need-returns-2 Inv-loop μ-loop
-returns-2 c = tested-all (c .before .before .loop .inv) (omega arith)
-
 pub refs-as-spec : {M : Type 1} → statement M
-refs-as-spec =
-    tie.close
-    (tie.spec Inv-loop μ-loop matrix-line-requires matrix-line-requires-2 loop-holds (λ c κs. omega arith) add-word-at word-at-requires add-word-at-2
-    word-at-requires-2 returns (λ c. omega arith) (λ c. omega arith) loop-again returns-2)
+refs-as-spec = tie.close (tie.spec Inv-loop μ-loop matrix-line-requires matrix-line-requires-2 (λ c. tested-none) (λ c κs. omega arith) add-word-at
+    word-at-requires add-word-at-2 word-at-requires-2 returns (λ c. omega arith) (λ c. omega arith) loop-again
+    (λ c. tested-all (c .before .before .loop .inv) (omega arith)))

@@ -15,9 +15,6 @@ Inv-loop words d n g₀ g = Tested (refsAs words d) g
 abbrev μ-loop : tie.MeasureT-loop
 μ-loop words d n g₀ g = n - g
 
-loop-holds : tie.Need-loop-holds Inv-loop μ-loop
-loop-holds c = tested-none
-
 refs-as-requires : tie.Need-refs-as-requires Inv-loop μ-loop
 refs-as-requires c κs =
     let a = c .before .before .before in
@@ -35,8 +32,6 @@ loop-again c =
     let refs-as = c .before .refs-as in
     tested-more (k .loop .inv) (sym (refs-as .ensures) ∙ not-false (refs-as .result) (c .if1 .left))
 
-returns-2 : tie.Need-returns-2 Inv-loop μ-loop
-returns-2 c = tested-all (c .before .loop .inv) (omega arith)
-
 pub refs-equal-spec : {M : Type 1} → statement M
-refs-equal-spec = tie.close (tie.spec Inv-loop μ-loop loop-holds refs-as-requires returns (λ c. omega arith) (λ c. omega arith) loop-again returns-2)
+refs-equal-spec = tie.close (tie.spec Inv-loop μ-loop (λ c. tested-none) refs-as-requires returns (λ c. omega arith) (λ c. omega arith) loop-again
+    (λ c. tested-all (c .before .loop .inv) (omega arith)))

@@ -14,9 +14,6 @@ Inv-loop words at d r₀ r = Tested (hasRow words at d) r
 abbrev μ-loop : tie.MeasureT-loop
 μ-loop words at d r₀ r = d - r
 
-loop-holds : tie.Need-loop-holds Inv-loop μ-loop
-loop-holds c = tested-none
-
 has-row-requires : tie.Need-has-row-requires Inv-loop μ-loop
 has-row-requires c κs =
     let a = c .before .before .before in
@@ -34,8 +31,6 @@ loop-again c =
     let has-row = c .before .has-row in
     tested-more (k .loop .inv) (sym (has-row .ensures) ∙ not-false (has-row .result) (c .if1 .left))
 
-returns-2 : tie.Need-returns-2 Inv-loop μ-loop
-returns-2 c = tested-all (c .before .loop .inv) (omega arith)
-
 pub rows-found-spec : {M : Type 1} → statement M
-rows-found-spec = tie.close (tie.spec Inv-loop μ-loop loop-holds has-row-requires returns (λ c. omega arith) (λ c. omega arith) loop-again returns-2)
+rows-found-spec = tie.close (tie.spec Inv-loop μ-loop (λ c. tested-none) has-row-requires returns (λ c. omega arith) (λ c. omega arith) loop-again
+    (λ c. tested-all (c .before .loop .inv) (omega arith)))

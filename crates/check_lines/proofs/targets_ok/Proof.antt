@@ -47,10 +47,6 @@ loop-again c =
     let e = above-is (targetOk (now (a .args .words)) (a .args .d) (a .args .many)) (a .args .i) (loop .j) (loop .inv .0) in
     (omega arith, tested-more (loop .inv .1) (e ∙ sym (target-ok .ensures) ∙ not-false (target-ok .result) (c .if1 .left)))
 
-returns-2 : tie.Need-returns-2 Inv-loop μ-loop
-returns-2 c = tested-all (c .before .loop .inv .1) (omega arith)
-
 pub targets-ok-spec : {M : Type 1} → statement M
-targets-ok-spec =
-    tie.close
-    (tie.spec Inv-loop μ-loop loop-holds target-ok-requires returns (λ c. omega arith) (λ c. omega arith) loop-again returns-2)
+targets-ok-spec = tie.close (tie.spec Inv-loop μ-loop loop-holds target-ok-requires returns (λ c. omega arith) (λ c. omega arith) loop-again
+    (λ c. tested-all (c .before .loop .inv .1) (omega arith)))

@@ -6,9 +6,6 @@ use native.Mathlib.Omega.{arith}
 use Rattle.check_lines.proofs.two_at.Statement.{statement}
 use Rattle.check_lines.proofs.two_at.Tie as tie
 
-mul-result : tie.Need-mul-result
-mul-result c = omega (arith, c .wide2 .ensures .1)
-
 add-result : tie.Need-add-result
 add-result c =
     let at-wide = c .before .before in
@@ -25,7 +22,5 @@ returns c =
     }
 
 pub two-at-spec : {M : Type 1} → statement M
-two-at-spec =
-    tie.close
-    (tie.spec (λ c κs. search needs) (λ c κs. search needs) (λ c. search needs) (λ c κs. search needs) (λ c κs. search needs) mul-result add-result
-    returns)
+two-at-spec = tie.close (tie.spec (λ c κs. search needs) (λ c κs. search needs) (λ c. search needs) (λ c κs. search needs) (λ c κs. search needs)
+    (λ c. omega (arith, c .wide2 .ensures .1)) add-result returns)

@@ -39,9 +39,6 @@ found-requires c κs =
     let W = formed .whole in
     (W, omega arith, omega arith, whole-some (z .args .s) (now (z .args .words)) W (z .args .i + 1) (omega arith) (omega arith))
 
-loop-holds : tie.Need-loop-holds Inv-loop μ-loop
-loop-holds c = (c .found .ensures, passed-none, c .before .count-of .ensures)
-
 own-requires : tie.Need-own-requires Inv-loop μ-loop
 own-requires c κs =
     let z = c .before .before .before .before .before in
@@ -96,7 +93,6 @@ loop-again c =
     )
 
 pub all-own-spec : {M : Type 1} → statement M
-all-own-spec =
-    tie.close
-    (tie.spec Inv-loop μ-loop start-of-requires add-count-of count-of-requires add-found found-requires loop-holds own-requires returns add-r
-    returns-2 following-requires loop-less loop-again)
+all-own-spec = tie.close (tie.spec Inv-loop μ-loop start-of-requires add-count-of count-of-requires add-found found-requires
+    (λ c. (c .found .ensures, passed-none, c .before .count-of .ensures)) own-requires returns add-r returns-2 following-requires loop-less
+    loop-again)

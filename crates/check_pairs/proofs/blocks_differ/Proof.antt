@@ -14,9 +14,6 @@ Inv-loop words s i p near d deg o₀ count₀ o count = Walked (levelAt (s .gens
 abbrev μ-loop : tie.MeasureT-loop
 μ-loop words s i p near d deg o₀ count₀ o count = deg - o
 
-loop-holds : tie.Need-loop-holds Inv-loop μ-loop
-loop-holds c = line-none (c .before .pre .1)
-
 fresh-at-requires : tie.Need-fresh-at-requires Inv-loop μ-loop
 fresh-at-requires c κs = let l = c .before in line-there (l .before .before .pre .1) (l .loop .inv) (omega arith)
 
@@ -38,9 +35,6 @@ add-o c =
 add-count : tie.Need-add-count Inv-loop μ-loop
 add-count c = let l = c .before .before .before .before in omega (arith, l .loop .inv .few)
 
-loop-less : tie.Need-loop-less Inv-loop μ-loop
-loop-less c = omega (arith, c .width .ensures .1)
-
 loop-again : tie.Need-loop-again Inv-loop μ-loop
 loop-again c =
     let l = c .before .before .before .before in
@@ -51,6 +45,5 @@ returns-2 : tie.Need-returns-2 Inv-loop μ-loop
 returns-2 c = let l = c .before in line-all (l .before .before .pre .1) (l .before .before .args .p) (l .loop .inv) (omega arith)
 
 pub blocks-differ-spec : {M : Type 1} → statement M
-blocks-differ-spec =
-    tie.close
-    (tie.spec Inv-loop μ-loop loop-holds fresh-at-requires returns width-requires add-o add-count loop-less loop-again returns-2)
+blocks-differ-spec = tie.close (tie.spec Inv-loop μ-loop (λ c. line-none (c .before .pre .1)) fresh-at-requires returns width-requires add-o add-count
+    (λ c. omega (arith, c .width .ensures .1)) loop-again returns-2)

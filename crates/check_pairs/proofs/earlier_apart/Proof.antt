@@ -28,9 +28,6 @@ found-requires c κs =
     let top = z .pre .placed .level in
     (W, omega arith, omega (arith, top), whole-some (z .args .s) (now (z .args .words)) W (z .args .i + 1) (omega arith) (omega (arith, top)))
 
-loop-holds : tie.Need-loop-holds Inv-loop μ-loop
-loop-holds c = (c .found .ensures, passed-none)
-
 apart-requires : tie.Need-apart-requires Inv-loop μ-loop
 apart-requires c κs =
     let l = c .before in
@@ -67,11 +64,6 @@ loop-again c =
       passed-more passing told (not-false (t .result) (c .before .if1 .left)),
     )
 
-returns-2 : tie.Need-returns-2 Inv-loop μ-loop
-returns-2 c = record { is = passed-all (c .before .loop .inv .1) (omega arith) }
-
 pub earlier-apart-spec : {M : Type 1} → statement M
-earlier-apart-spec =
-    tie.close
-    (tie.spec Inv-loop μ-loop add-found found-requires loop-holds apart-requires returns following-requires (λ c. omega arith) (λ c. omega arith)
-    loop-again returns-2)
+earlier-apart-spec = tie.close (tie.spec Inv-loop μ-loop add-found found-requires (λ c. (c .found .ensures, passed-none)) apart-requires returns
+    following-requires (λ c. omega arith) (λ c. omega arith) loop-again (λ c. record { is = passed-all (c .before .loop .inv .1) (omega arith) }))

@@ -4,14 +4,6 @@ use Rattle.check_pairs.proofs.Blocks.{line-first, line-narrow}
 use Rattle.check_pairs.proofs.first_width.Statement.{statement}
 use Rattle.check_pairs.proofs.first_width.Tie as tie
 
-returns : tie.Need-returns
-returns c = (line-narrow (c .before .before .before .pre .1) (c .if1 .taken), omega arith)
-
-width-requires : tie.Need-width-requires
-width-requires c κs = line-first (c .before .before .before .pre .1)
-
-returns-2 : tie.Need-returns-2
-returns-2 c = c .width .ensures
-
 pub first-width-spec : {M : Type 1} → statement M
-first-width-spec = tie.close (tie.spec returns width-requires returns-2)
+first-width-spec = tie.close (tie.spec (λ c. (line-narrow (c .before .before .before .pre .1) (c .if1 .taken), omega arith))
+    (λ c κs. line-first (c .before .before .before .pre .1)) (λ c. c .width .ensures))

@@ -15,9 +15,6 @@ add-word-at c = let z = c .before .before .before in omega (arith, z .pre, z .go
 word-at-requires : tie.Need-word-at-requires
 word-at-requires c κs = let z = c .before .before .before in (omega (arith, z .pre, c .before .up .ensures), omega arith)
 
-free-of-requires : tie.Need-free-of-requires
-free-of-requires c κs = omega (arith, c .before .before .before .before .pre)
-
 returns : tie.Need-returns
 returns c =
     let l = c .before in
@@ -27,4 +24,5 @@ returns c =
     c .free-of .ensures ∙ fresh-is T (z .args .d) (z .args .o) x
 
 pub fresh-at-spec : {M : Type 1} → statement M
-fresh-at-spec = tie.close (tie.spec (λ c κs. search needs) add-word-at word-at-requires free-of-requires returns)
+fresh-at-spec = tie.close (tie.spec (λ c κs. search needs) add-word-at word-at-requires
+    (λ c κs. omega (arith, c .before .before .before .before .pre)) returns)

@@ -18,9 +18,6 @@ count-of-requires c κs = let (F, l) = c .before .pre in (F .1 .whole, omega (ar
 first-clash-requires : tie.Need-first-clash-requires
 first-clash-requires c κs = let (F, l) = c .before .before .pre in (F .1 .whole, l)
 
-all-own-requires : tie.Need-all-own-requires
-all-own-requires c κs = c .before .before .before .before .pre
-
 returns : tie.Need-returns
 returns c =
     let t = c .before .before in
@@ -39,10 +36,6 @@ suspect-apart-requires c κs =
     let e = ap (λ k. length (levelAt (a .s .gens) (now (a .words)) k)) (add-one (a .i)) in
     (z .pre .0, z .pre .1, omega (arith, t .first-clash .ensures .within, c .if1 .left, n, e))
 
-returns-2 : tie.Need-returns-2
-returns-2 c = c .suspect-apart .ensures
-
 pub level-separated-spec : {M : Type 1} → statement M
-level-separated-spec =
-    tie.close
-    (tie.spec add-count-of count-of-requires first-clash-requires all-own-requires returns suspect-apart-requires returns-2)
+level-separated-spec = tie.close (tie.spec add-count-of count-of-requires first-clash-requires (λ c κs. c .before .before .before .before .pre)
+    returns suspect-apart-requires (λ c. c .suspect-apart .ensures))

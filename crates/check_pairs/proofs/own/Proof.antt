@@ -8,9 +8,6 @@ use Rattle.check_pairs.proofs.Blocks.{line-one, line-inside, line-block
 use Rattle.check_pairs.proofs.own.Statement.{statement}
 use Rattle.check_pairs.proofs.own.Tie as tie
 
-first-width-requires : tie.Need-first-width-requires
-first-width-requires c κs = c .before .pre
-
 returns : tie.Need-returns
 returns c = let w = c .before in let z = w .before .before in line-one (z .pre .1) (z .args .p) (w .first-width .ensures .0) (c .if1 .taken)
 
@@ -48,4 +45,4 @@ returns-3 c =
     (c .blocks-differ .ensures)
 
 pub own-spec : {M : Type 1} → statement M
-own-spec = tie.close (tie.spec first-width-requires returns matrix-line-requires word-at-requires returns-2 blocks-differ-requires returns-3)
+own-spec = tie.close (tie.spec (λ c κs. c .before .pre) returns matrix-line-requires word-at-requires returns-2 blocks-differ-requires returns-3)

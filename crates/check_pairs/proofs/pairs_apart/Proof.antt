@@ -23,9 +23,6 @@ add-count-of c = let z = c .before .before in omega (arith, z .pre .1, z .pre .0
 count-of-requires : tie.Need-count-of-requires Inv-loop μ-loop
 count-of-requires c κs = let (F, l) = c .before .before .pre in (F .1 .whole, omega (arith, l))
 
-loop-holds : tie.Need-loop-holds Inv-loop μ-loop
-loop-holds c = passed-none
-
 stands-apart-requires : tie.Need-stands-apart-requires Inv-loop μ-loop
 stands-apart-requires c κs =
     let l = c .before in
@@ -55,7 +52,5 @@ returns-2 c =
     level-holds (a .s) (now (a .words)) (a .i) (a .p) (l .loop .inv) (omega (arith, n))
 
 pub pairs-apart-spec : {M : Type 1} → statement M
-pairs-apart-spec =
-    tie.close
-    (tie.spec Inv-loop μ-loop start-of-requires add-count-of count-of-requires loop-holds stands-apart-requires returns (λ c. omega arith)
-    (λ c. omega arith) loop-again returns-2)
+pairs-apart-spec = tie.close (tie.spec Inv-loop μ-loop start-of-requires add-count-of count-of-requires (λ c. passed-none) stands-apart-requires
+    returns (λ c. omega arith) (λ c. omega arith) loop-again returns-2)

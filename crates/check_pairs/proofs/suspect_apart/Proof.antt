@@ -9,9 +9,6 @@ use Rattle.check_pairs.proofs.suspect_apart.Tie as tie
 start-of-requires : tie.Need-start-of-requires
 start-of-requires c κs = let (F, l, h) = c .before .pre in (F .1 .whole, omega (arith, l))
 
-stands-apart-requires : tie.Need-stands-apart-requires
-stands-apart-requires c κs = c .before .before .pre
-
 returns : tie.Need-returns
 returns c =
     let t = c .before .stands-apart in
@@ -22,8 +19,6 @@ returns c =
 pairs-apart-requires : tie.Need-pairs-apart-requires
 pairs-apart-requires c κs = let (F, l, h) = c .before .before .before .before .pre in (F, l)
 
-returns-2 : tie.Need-returns-2
-returns-2 c = c .pairs-apart .ensures
-
 pub suspect-apart-spec : {M : Type 1} → statement M
-suspect-apart-spec = tie.close (tie.spec start-of-requires stands-apart-requires returns pairs-apart-requires returns-2)
+suspect-apart-spec = tie.close (tie.spec start-of-requires (λ c κs. c .before .before .pre) returns pairs-apart-requires
+    (λ c. c .pairs-apart .ensures))

@@ -33,9 +33,6 @@ found-requires c κs =
     let W = posed .formed .whole in
     (W, l, h, whole-some (z .args .s) (now (z .args .words)) W (z .args .i) l h)
 
-loop-holds : tie.Need-loop-holds Inv-loop μ-loop
-loop-holds c = (c .found .ensures, passed-none)
-
 holds-requires : tie.Need-holds-requires Inv-loop μ-loop
 holds-requires c κs =
     let (P, posed) = c .before .before .before .before .pre .0 in
@@ -78,9 +75,6 @@ following-requires c κs =
     let F = l .loop .inv .0 in
     (z .pre .0 .1 .formed .whole, record { i = z .args .i; r = l .loop .r; here = F; more = omega (arith, F .listed, c .if2 .left, n) })
 
-loop-less : tie.Need-loop-less Inv-loop μ-loop
-loop-less c = omega (arith, c .before .before .before .before .loop .inv .0 .listed)
-
 loop-again : tie.Need-loop-again Inv-loop μ-loop
 loop-again c =
     let o = c .before .before in
@@ -99,7 +93,5 @@ loop-again c =
     )
 
 pub holds-on-spec : {M : Type 1} → statement M
-holds-on-spec =
-    tie.close
-    (tie.spec Inv-loop μ-loop count-of-requires found-requires loop-holds holds-requires returns add-r returns-2 following-requires loop-less
-    loop-again)
+holds-on-spec = tie.close (tie.spec Inv-loop μ-loop count-of-requires found-requires (λ c. (c .found .ensures, passed-none)) holds-requires returns
+    add-r returns-2 following-requires (λ c. omega (arith, c .before .before .before .before .loop .inv .0 .listed)) loop-again)

@@ -18,9 +18,6 @@ Inv-loop words at src n x u y₀ k₀ y k = SummedLines words at src k x u y × 
 abbrev μ-loop : tie.MeasureT-loop
 μ-loop words at src n x u y₀ k₀ y k = n - k
 
-loop-holds : tie.Need-loop-holds Inv-loop μ-loop
-loop-holds c = (summed-none, omega arith)
-
 mul-a : tie.Need-mul-a Inv-loop μ-loop
 mul-a c =
     let z = c .before .before .before .before in
@@ -30,9 +27,6 @@ element-copy-out-a : tie.Need-element-copy-out-a Inv-loop μ-loop
 element-copy-out-a c =
     let z = c .before .before .before .before in
     omega (arith, z .pre .2, c .up .ensures)
-
-returns : tie.Need-returns Inv-loop μ-loop
-returns c = λ e. absurd (omega (arith, e))
 
 add-line-same : tie.Need-add-line-same Inv-loop μ-loop
 add-line-same c =
@@ -51,9 +45,6 @@ line-same-requires c κs =
     let at-up = c .before .before in
     let z = at-up .before .before .before .before in
     (omega (arith, z .pre .0, at-up .up .ensures), omega (arith, z .pre .1, at-up .up .ensures))
-
-returns-2 : tie.Need-returns-2 Inv-loop μ-loop
-returns-2 c = λ e. absurd (omega (arith, e))
 
 add-word-at : tie.Need-add-word-at Inv-loop μ-loop
 add-word-at c =
@@ -109,8 +100,7 @@ returns-3 c = λ e.
     summed-all (l .inv .0) (omega (arith, l .inv .1))
 
 pub lines-value-spec : {M : Type 1} → statement M
-lines-value-spec =
-    tie.close
-    (tie.spec Inv-loop μ-loop loop-holds (λ c κs. search needs) mul-a element-copy-out-a returns add-line-same add-line-same-2 line-same-requires
-    returns-2 (λ c κs. search needs) add-word-at word-at-requires (λ c κs. search needs) mul-y add-y (λ c. search needs) (λ c. omega arith)
-    loop-again returns-3)
+lines-value-spec = tie.close (tie.spec Inv-loop μ-loop (λ c. (summed-none, omega arith)) (λ c κs. search needs) mul-a element-copy-out-a
+    (λ c. λ e. absurd (omega (arith, e))) add-line-same add-line-same-2 line-same-requires (λ c. λ e. absurd (omega (arith, e)))
+    (λ c κs. search needs) add-word-at word-at-requires (λ c κs. search needs) mul-y add-y (λ c. search needs) (λ c. omega arith) loop-again
+    returns-3)

@@ -27,9 +27,6 @@ single-value-requires c κs =
     let (S, (r, G)) = z .pre in
     (S, found-inside (S .whole) (S .short) G, at-if1 .if1 .taken)
 
-returns : tie.Need-returns
-returns c = λ e. absurd (false≢true e)
-
 single-power-requires : tie.Need-single-power-requires
 single-power-requires c κs =
     let at-single-value = c .before in
@@ -69,9 +66,6 @@ rep-fits-requires c κs =
     let (S, (r, G)) = z .pre in
     (S, found-inside (S .whole) (S .short) G)
 
-returns-3 : tie.Need-returns-3
-returns-3 c = λ e. absurd (false≢true e)
-
 power-at-requires : tie.Need-power-at-requires
 power-at-requires c κs =
     let at-if3 = c .before in
@@ -99,7 +93,6 @@ returns-4 c =
     )
 
 pub rep-passes-spec : {M : Type 1} → statement M
-rep-passes-spec =
-    tie.close
-    (tie.spec (λ c κs. search needs) pair-requires (λ c. search needs) (λ c. search needs) single-value-requires returns single-power-requires
-    returns-2 rep-fits-requires returns-3 (λ c. search needs) (λ c. search needs) power-at-requires returns-4)
+rep-passes-spec = tie.close (tie.spec (λ c κs. search needs) pair-requires (λ c. search needs) (λ c. search needs) single-value-requires
+    (λ c. λ e. absurd (false≢true e)) single-power-requires returns-2 rep-fits-requires (λ c. λ e. absurd (false≢true e)) (λ c. search needs)
+    (λ c. search needs) power-at-requires returns-4)

@@ -28,9 +28,6 @@ word-at-requires c κs =
     let (S, O, one, l) = z .pre in
     (omega (arith, single-room O one (z .args .j) l .0, at-up .up .ensures), omega arith)
 
-returns : tie.Need-returns
-returns c = λ e. absurd (false≢true e)
-
 add-rep-at : tie.Need-add-rep-at
 add-rep-at c =
     let at-if1 = c .before in
@@ -45,9 +42,6 @@ rep-at-requires c κs =
     let z = at-up2 .before .before .before .before .before .before in
     high-place (z .pre .0) (at-up2 .up2 .result) (omega (arith, at-if1 .if1 .left))
 
-returns-2 : tie.Need-returns-2
-returns-2 c = λ e. absurd (false≢true e)
-
 word-at-requires-2 : tie.Need-word-at-requires-2
 word-at-requires-2 c κs =
     let at-rep-at = c .before .before in
@@ -58,9 +52,6 @@ word-at-requires-2 c κs =
     let E = high-at S (at-up2 .up2 .result) (omega (arith, at-if1 .if1 .left)) (at-rep-at .rep-at .ensures) (at-up2 .up2 .ensures) in
     let I = found-inside (S .whole) (S .short) E in
     (omega (arith, inside-matrix I 0 (S .whole .some), I .positive), omega arith)
-
-returns-3 : tie.Need-returns-3
-returns-3 c = λ e. absurd (false≢true e)
 
 add-rep-at-2 : tie.Need-add-rep-at-2
 add-rep-at-2 c =
@@ -79,9 +70,6 @@ rep-at-requires-2 c κs =
     let at-up2 = at-rep-at .before .before .before .before in
     let z = at-up2 .before .before .before .before .before .before in
     low-place (z .pre .0) (at-up3 .up3 .result) (omega (arith, at-if3 .if3 .left))
-
-returns-4 : tie.Need-returns-4
-returns-4 c = λ e. absurd (false≢true e)
 
 single-takes-requires : tie.Need-single-takes-requires
 single-takes-requires c κs =
@@ -126,7 +114,6 @@ returns-5 c =
     }
 
 pub single-led-spec : {M : Type 1} → statement M
-single-led-spec =
-    tie.close
-    (tie.spec (λ c κs. search needs) add-word-at word-at-requires (λ c κs. search needs) returns add-rep-at rep-at-requires returns-2
-    word-at-requires-2 (λ c κs. search needs) returns-3 add-rep-at-2 rep-at-requires-2 returns-4 single-takes-requires returns-5)
+single-led-spec = tie.close (tie.spec (λ c κs. search needs) add-word-at word-at-requires (λ c κs. search needs) (λ c. λ e. absurd (false≢true e))
+    add-rep-at rep-at-requires (λ c. λ e. absurd (false≢true e)) word-at-requires-2 (λ c κs. search needs) (λ c. λ e. absurd (false≢true e))
+    add-rep-at-2 rep-at-requires-2 (λ c. λ e. absurd (false≢true e)) single-takes-requires returns-5)

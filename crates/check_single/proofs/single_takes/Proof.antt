@@ -26,9 +26,6 @@ word-at-requires c κs =
     let (O, one, E, l) = z .pre in
     (omega (arith, single.single-room O one (z .args .g) l .0, at-up .up .ensures), omega arith)
 
-returns : tie.Need-returns
-returns c = λ e. absurd (false≢true e)
-
 word-at-requires-2 : tie.Need-word-at-requires-2
 word-at-requires-2 c κs =
     let at-up = c .before .before .before in
@@ -36,18 +33,12 @@ word-at-requires-2 c κs =
     let (O, one, E, l) = z .pre in
     (omega (arith, single.single-room O one (z .args .g) l .0, at-up .up .ensures), omega arith)
 
-returns-2 : tie.Need-returns-2
-returns-2 c = λ e. absurd (false≢true e)
-
 word-at-requires-3 : tie.Need-word-at-requires-3
 word-at-requires-3 c κs =
     let at-up = c .before .before .before .before .before in
     let z = at-up .before .before in
     let (O, one, E, l) = z .pre in
     (omega (arith, single.single-room O one (z .args .g) l .0, at-up .up .ensures), omega arith)
-
-returns-3 : tie.Need-returns-3
-returns-3 c = λ e. absurd (false≢true e)
 
 word-at-requires-4 : tie.Need-word-at-requires-4
 word-at-requires-4 c κs =
@@ -98,7 +89,6 @@ returns-4 c =
     ∙ c .word-at5 .ensures ∙ ap (λ k. wordAt T (a .f .line + k) REF) k)
 
 pub single-takes-spec : {M : Type 1} → statement M
-single-takes-spec =
-    tie.close
-    (tie.spec (λ c κs. search needs) add-at word-at-requires returns word-at-requires-2 returns-2 word-at-requires-3 returns-3 word-at-requires-4
-    add-word-at word-at-requires-5 returns-4)
+single-takes-spec = tie.close (tie.spec (λ c κs. search needs) add-at word-at-requires (λ c. λ e. absurd (false≢true e)) word-at-requires-2
+    (λ c. λ e. absurd (false≢true e)) word-at-requires-3 (λ c. λ e. absurd (false≢true e)) word-at-requires-4 add-word-at word-at-requires-5
+    returns-4)

@@ -18,9 +18,6 @@ word-at-requires c κs =
     let (S, I, one) = z .pre in
     (omega (arith, inside-matrix I 0 (S .whole .some), I .positive), omega arith)
 
-returns : tie.Need-returns
-returns c = λ e. absurd (omega (arith, e))
-
 add-rep-at : tie.Need-add-rep-at
 add-rep-at c =
     let at-if1 = c .before in
@@ -35,9 +32,6 @@ rep-at-requires c κs =
     let z = at-up .before .before .before .before in
     low-place (z .pre .0) (at-up .up .result) (omega (arith, at-if1 .if1 .left))
 
-returns-2 : tie.Need-returns-2
-returns-2 c = λ e. absurd (omega (arith, e))
-
 single-takes-requires : tie.Need-single-takes-requires
 single-takes-requires c κs =
     let at-rep-at = c .before .before in
@@ -47,9 +41,6 @@ single-takes-requires c κs =
     let (S, I, one) = z .pre in
     let G = low-at S (at-up .up .result) (omega (arith, at-if1 .if1 .left)) (at-rep-at .rep-at .ensures) (at-up .up .ensures) in
     (based-at 0 (over S I 0 G (omega (arith, c .if2 .left, one))), one, I, S .level .1)
-
-returns-3 : tie.Need-returns-3
-returns-3 c = λ e. absurd (omega (arith, e))
 
 singles-led-requires : tie.Need-singles-led-requires
 singles-led-requires c κs =
@@ -61,9 +52,6 @@ singles-led-requires c κs =
     let (S, I, one) = z .pre in
     let G = low-at S (at-up .up .result) (omega (arith, at-if1 .if1 .left)) (at-rep-at .rep-at .ensures) (at-up .up .ensures) in
     (S, based-at 0 (over S I 0 G (omega (arith, at-if2 .if2 .left, one))), one)
-
-returns-4 : tie.Need-returns-4
-returns-4 c = λ e. absurd (omega (arith, e))
 
 lines-value-requires : tie.Need-lines-value-requires
 lines-value-requires c κs =
@@ -107,7 +95,6 @@ returns-5 c =
     }
 
 pub single-value-spec : {M : Type 1} → statement M
-single-value-spec =
-    tie.close
-    (tie.spec word-at-requires (λ c κs. search needs) returns add-rep-at rep-at-requires returns-2 single-takes-requires returns-3
-    singles-led-requires returns-4 lines-value-requires returns-5)
+single-value-spec = tie.close (tie.spec word-at-requires (λ c κs. search needs) (λ c. λ e. absurd (omega (arith, e))) add-rep-at rep-at-requires
+    (λ c. λ e. absurd (omega (arith, e))) single-takes-requires (λ c. λ e. absurd (omega (arith, e))) singles-led-requires
+    (λ c. λ e. absurd (omega (arith, e))) lines-value-requires returns-5)

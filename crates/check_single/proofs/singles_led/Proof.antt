@@ -33,9 +33,6 @@ single-led-requires c κs =
     let (S, O, one) = z .pre in
     (S, O, one, omega arith)
 
-returns : tie.Need-returns Inv-loop μ-loop
-returns c = λ e. absurd (false≢true e)
-
 loop-again : tie.Need-loop-again Inv-loop μ-loop
 loop-again c =
     let at-single-led = c .before in
@@ -48,6 +45,5 @@ returns-2 c =
     λ e. raising-all (at-loop .loop .inv) (omega arith)
 
 pub singles-led-spec : {M : Type 1} → statement M
-singles-led-spec =
-    tie.close
-    (tie.spec Inv-loop μ-loop add-j loop-holds single-led-requires returns (λ c. search needs) (λ c. omega arith) loop-again returns-2)
+singles-led-spec = tie.close (tie.spec Inv-loop μ-loop add-j loop-holds single-led-requires (λ c. λ e. absurd (false≢true e)) (λ c. search needs)
+    (λ c. omega arith) loop-again returns-2)

@@ -14,9 +14,6 @@ Inv-loop marks₀ many k₀ marks k = (k ≤ many) × (many ≡ length marks₀)
 abbrev μ-loop : tie.MeasureT-loop
 μ-loop marks₀ many k₀ marks k = many - k
 
-loop-holds : tie.Need-loop-holds Inv-loop μ-loop
-loop-holds c = (search needs, search needs, clearing-none _)
-
 slice-write-marks : tie.Need-slice-write-marks Inv-loop μ-loop
 slice-write-marks c = let l = c .before .loop in omega (arith, l .inv .1, l .inv .2 .size)
 
@@ -30,4 +27,5 @@ returns : tie.Need-returns Inv-loop μ-loop
 returns c = let l = c .before .loop in (clearing-all (omega (arith, l .inv .1)) (l .inv .2), l .inv .2 .size)
 
 pub clear-spec : {M : Type 1} → statement M
-clear-spec = tie.close (tie.spec Inv-loop μ-loop loop-holds slice-write-marks (λ c. search needs) (λ c. omega arith) loop-again same-length returns)
+clear-spec = tie.close (tie.spec Inv-loop μ-loop (λ c. (search needs, search needs, clearing-none _)) slice-write-marks (λ c. search needs)
+    (λ c. omega arith) loop-again same-length returns)

@@ -20,9 +20,6 @@ Inv-loop words line deg first c₀ c =
 abbrev μ-loop : tie.MeasureT-loop
 μ-loop words line deg first c₀ c = deg - c
 
-loop-holds : tie.Need-loop-holds Inv-loop μ-loop
-loop-holds c = (omega arith, omega (arith, c .before .up .ensures), c .word-at .ensures, tested-none)
-
 returns : tie.Need-returns Inv-loop μ-loop
 returns c =
     let w = c .before in
@@ -53,7 +50,6 @@ returns-2 c =
     subst (λ deg. true ≡ oneReference (repAt (now (a .words)) (a .d .line) deg)) e (tested-all (l .loop .inv .3) (unfold repAt in (omega arith)))
 
 pub one-reference-spec : {M : Type 1} → statement M
-one-reference-spec =
-    tie.close
-    (tie.spec Inv-loop μ-loop (λ c κs. search needs) (λ c κs. search needs) loop-holds (λ c. search needs) (λ c κs. search needs) returns
+one-reference-spec = tie.close (tie.spec Inv-loop μ-loop (λ c κs. search needs) (λ c κs. search needs)
+    (λ c. (omega arith, omega (arith, c .before .up .ensures), c .word-at .ensures, tested-none)) (λ c. search needs) (λ c κs. search needs) returns
     (λ c. search needs) (λ c. search needs) loop-again returns-2)

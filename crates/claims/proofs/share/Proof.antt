@@ -7,18 +7,6 @@ use Rattle.claims.proofs.Marks.{shares-free}
 use Rattle.claims.proofs.share.Statement.{statement}
 use Rattle.claims.proofs.share.Tie as tie
 
-returns : tie.Need-returns
-returns c = λ h. absurd (false≢true h)
-
-returns-2 : tie.Need-returns-2
-returns-2 c = λ h. absurd (false≢true h)
-
-returns-3 : tie.Need-returns-3
-returns-3 c = λ h. absurd (false≢true h)
-
-returns-4 : tie.Need-returns-4
-returns-4 c = λ h. absurd (false≢true h)
-
 returns-5 : tie.Need-returns-5
 returns-5 c =
     let z = c .before .before .before .before .before .before in
@@ -26,7 +14,6 @@ returns-5 c =
     λ h. shares-free (now (a .marks)) (now (a .slots)) (a .f) (a .slot) (omega arith) (omega arith) (omega arith) (omega (arith, c .if4 .left))
 
 pub share-spec : {M : Type 1} → statement M
-share-spec =
-    tie.close
-    (tie.spec returns returns-2 (λ c. search needs) returns-3 (λ c. search needs) returns-4 (λ c. search needs) (λ c. search needs)
+share-spec = tie.close (tie.spec (λ c. λ h. absurd (false≢true h)) (λ c. λ h. absurd (false≢true h)) (λ c. search needs)
+    (λ c. λ h. absurd (false≢true h)) (λ c. search needs) (λ c. λ h. absurd (false≢true h)) (λ c. search needs) (λ c. search needs)
     (λ c. search needs) (λ c. search needs) returns-5)

@@ -20,12 +20,6 @@ Inv-loop words marks₀ line deg last₀ c₀ marks last c = (c ≤ deg) × (8 *
 abbrev μ-loop : tie.MeasureT-loop
 μ-loop words marks₀ line deg last₀ c₀ marks last c = deg - c
 
-loop-holds : tie.Need-loop-holds Inv-loop μ-loop
-loop-holds c = (omega arith, omega (arith, c .up .ensures), taking-none _ _ _ (omega arith))
-
-returns : tie.Need-returns Inv-loop μ-loop
-returns c = λ h. absurd (false≢true h)
-
 loop-again : tie.Need-loop-again Inv-loop μ-loop
 loop-again c =
     let k = c .before .before .before in
@@ -37,9 +31,6 @@ loop-again c =
     let f = read ∙ sym (ref-at (now (a .words)) (a .d .line) (l .before .up .result) (l .loop .c)) in
     (omega arith, room, taking-more taking f (k .take .ensures (not-false (k .take .result) (c .if1 .left))))
 
-same-length-2 : tie.Need-same-length-2 Inv-loop μ-loop
-same-length-2 c = c .before .loop .inv .2 .size
-
 returns-2 : tie.Need-returns-2 Inv-loop μ-loop
 returns-2 c =
     let l = c .before in
@@ -49,7 +40,7 @@ returns-2 c =
     λ _. subst (λ deg. TookAll (repAt (now (a .words)) (a .d .line) deg) (now (a .marks)) (l .loop .marks)) e all
 
 pub take-all-spec : {M : Type 1} → statement M
-take-all-spec =
-    tie.close
-    (tie.spec Inv-loop μ-loop (λ c κs. search needs) loop-holds (λ c. search needs) (λ c κs. search needs) (λ c κs. search needs)
-    (λ c κs. search needs) (λ c. search needs) returns (λ c. search needs) (λ c. search needs) loop-again same-length-2 returns-2)
+take-all-spec = tie.close (tie.spec Inv-loop μ-loop (λ c κs. search needs)
+    (λ c. (omega arith, omega (arith, c .up .ensures), taking-none _ _ _ (omega arith))) (λ c. search needs) (λ c κs. search needs)
+    (λ c κs. search needs) (λ c κs. search needs) (λ c. search needs) (λ c. λ h. absurd (false≢true h)) (λ c. search needs) (λ c. search needs)
+    loop-again (λ c. c .before .loop .inv .2 .size) returns-2)

@@ -5,9 +5,6 @@ use Rattle.commutativity.proofs.Ones.{commutative-refused, commutative-
 use Rattle.commutativity.proofs.commutative.Statement.{statement}
 use Rattle.commutativity.proofs.commutative.Tie as tie
 
-returns : tie.Need-returns
-returns c = commutative-refused (c .before .accepted .ensures) (omega arith)
-
 words-empty-requires : tie.Need-words-empty-requires
 words-empty-requires c κs =
     let a = c .before .before .accepted in
@@ -20,4 +17,5 @@ returns-2 c =
     commutative-told (a .ensures) (omega arith) (c .words-empty .ensures)
 
 pub commutative-spec : {M : Type 1} → statement M
-commutative-spec = tie.close (tie.spec (λ c κs. refl) returns words-empty-requires (λ c. tt) returns-2)
+commutative-spec = tie.close (tie.spec (λ c κs. refl) (λ c. commutative-refused (c .before .accepted .ensures) (omega arith)) words-empty-requires
+    (λ c. tt) returns-2)

@@ -27,12 +27,6 @@ Inv-scan rows n empty₀ j₀ empty j = (empty ≡ true) × Scanned rows j 0 0
 abbrev μ-scan : tie.MeasureT-scan
 μ-scan rows n empty₀ j₀ empty j = n - j
 
-scan-holds : tie.Need-scan-holds Inv-loop2 μ-loop2 Inv-loop μ-loop Inv-scan μ-scan
-scan-holds c = (refl, scanned-none)
-
-loop-holds : tie.Need-loop-holds Inv-loop2 μ-loop2 Inv-loop μ-loop Inv-scan μ-scan
-loop-holds c = (omega arith, omega arith, c .before .scan .inv .0, c .before .scan .inv .1)
-
 loop2-holds : tie.Need-loop2-holds Inv-loop2 μ-loop2 Inv-loop μ-loop Inv-scan μ-scan
 loop2-holds c =
     let l = c .before .before .loop in
@@ -66,8 +60,7 @@ returns-2 c =
     sym (one-found (z .args .rows .now) (inv .0) (inv .1) (omega arith) (inv .3) (c .if1 .taken))
 
 pub words-empty-spec : {M : Type 1} → statement M
-words-empty-spec =
-    tie.close
-    (tie.spec Inv-loop2 μ-loop2 Inv-loop μ-loop Inv-scan μ-scan scan-holds loop-holds (λ c κs. omega arith) (λ c. omega arith) loop2-holds
+words-empty-spec = tie.close (tie.spec Inv-loop2 μ-loop2 Inv-loop μ-loop Inv-scan μ-scan (λ c. (refl, scanned-none))
+    (λ c. (omega arith, omega arith, c .before .scan .inv .0, c .before .scan .inv .1)) (λ c κs. omega arith) (λ c. omega arith) loop2-holds
     (λ c. omega arith) (λ c. omega arith) (λ c. omega arith) (λ c. omega arith) (λ c. omega arith) (λ c. omega arith) loop2-again (λ c. omega arith)
     (λ c. omega arith) loop-again (λ c. omega arith) (λ c. omega arith) scan-again returns returns-2)

@@ -27,9 +27,6 @@ word-at-requires c κs =
     let l = inside-column (z .pre .1) (z .args .o) (z .pre .0 .whole .some) (omega (arith, z .pre .2, z .pre .3)) in
     (omega (arith, l, up .up .ensures), omega arith)
 
-returns : tie.Need-returns
-returns c = never
-
 add-rep-at : tie.Need-add-rep-at
 add-rep-at c =
     let if1 = c .before in
@@ -44,9 +41,6 @@ rep-at-requires c κs =
     let z = up2 .before .before .before .before .before .before in
     low-place (z .pre .0) (up2 .up2 .result) (omega (arith, if1 .if1 .left))
 
-returns-2 : tie.Need-returns-2
-returns-2 c = never
-
 lower-fits-requires : tie.Need-lower-fits-requires
 lower-fits-requires c κs =
     let ra = c .before .before in
@@ -56,9 +50,6 @@ lower-fits-requires c κs =
     let S = z .pre .0 in
     let F = low-at S (up2 .up2 .result) (omega (arith, if1 .if1 .left)) (ra .rep-at .ensures) (up2 .up2 .ensures) in
     (over S (z .pre .1) (z .args .o) F (omega (arith, z .pre .3, c .if2 .left)), omega (arith, S .level .1))
-
-returns-3 : tie.Need-returns-3
-returns-3 c = never
 
 generator-fits-requires : tie.Need-generator-fits-requires
 generator-fits-requires c κs =
@@ -70,9 +61,6 @@ generator-fits-requires c κs =
     let S = z .pre .0 in
     let F = low-at S (up2 .up2 .result) (omega (arith, if1 .if1 .left)) (ra .rep-at .ensures) (up2 .up2 .ensures) in
     (over S (z .pre .1) (z .args .o) F (omega (arith, z .pre .3, if2 .if2 .left)), z .pre .1, refl, S .level .1)
-
-returns-4 : tie.Need-returns-4
-returns-4 c = never
 
 upper-fits-requires : tie.Need-upper-fits-requires
 upper-fits-requires c κs =
@@ -106,7 +94,5 @@ returns-5 c = λ e.
     (gf .generator-fits .ensures (not-false (gf .generator-fits .result) (if4 .if4 .left))) (c .upper-fits .ensures e)
 
 pub block-fits-spec : {M : Type 1} → statement M
-block-fits-spec =
-    tie.close
-    (tie.spec (λ c κs. search needs) add-word-at word-at-requires (λ c κs. search needs) returns add-rep-at rep-at-requires returns-2
-    lower-fits-requires returns-3 generator-fits-requires returns-4 upper-fits-requires returns-5)
+block-fits-spec = tie.close (tie.spec (λ c κs. search needs) add-word-at word-at-requires (λ c κs. search needs) (λ c. never) add-rep-at
+    rep-at-requires (λ c. never) lower-fits-requires (λ c. never) generator-fits-requires (λ c. never) upper-fits-requires returns-5)

@@ -35,12 +35,6 @@ entry-at-requires c κs =
     let z = ml .before .before .before in
     omega (arith, block-lines (z .pre .0) (z .args .g) (z .pre .3), z .pre .0 .stored .positive, ml .matrix-line .ensures, up .up .ensures)
 
-returns : tie.Need-returns
-returns c = never
-
-returns-2 : tie.Need-returns-2
-returns-2 c = never
-
 block-row-requires : tie.Need-block-row-requires
 block-row-requires c κs =
     let if1 = c .before .before .before in
@@ -81,9 +75,6 @@ word-at-requires-2 c κs =
     let z = ml2 .before .before .before .before .before in
     let O = z .pre .0 in
     (omega (arith, O .stored .holds (z .args .g) (z .pre .3) .fits, O .stored .positive, ml2 .matrix-line2 .ensures), omega arith)
-
-returns-3 : tie.Need-returns-3
-returns-3 c = never
 
 word-at-requires-3 : tie.Need-word-at-requires-3
 word-at-requires-3 c κs =
@@ -148,8 +139,6 @@ returns-4 c = λ e.
     (sym (wa .word-at .ensures) ∙ if3 .if3 .left ∙ wa2 .word-at2 .ensures) (wa3 .word-at3 .ensures) (sm .sub-mod .ensures .0) (c .lines-shifted .ensures e)
 
 pub generator-fits-spec : {M : Type 1} → statement M
-generator-fits-spec =
-    tie.close
-    (tie.spec matrix-line-requires (λ c κs. search needs) add-at matrix-line-requires-2 entry-at-requires returns returns-2 block-row-requires
-    (λ c κs. search needs) add-word-at word-at-requires word-at-requires-2 returns-3 word-at-requires-3 sub-mod-requires lines-shifted-requires
-    returns-4)
+generator-fits-spec = tie.close (tie.spec matrix-line-requires (λ c κs. search needs) add-at matrix-line-requires-2 entry-at-requires (λ c. never)
+    (λ c. never) block-row-requires (λ c κs. search needs) add-word-at word-at-requires word-at-requires-2 (λ c. never) word-at-requires-3
+    sub-mod-requires lines-shifted-requires returns-4)

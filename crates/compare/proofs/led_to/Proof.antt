@@ -23,9 +23,6 @@ word-at-requires c κs =
     let I = z .pre .1 .inside in
     (omega (arith, inside-matrix I (z .args .j) (z .pre .2), I .positive, c .matrix-line .ensures), omega arith)
 
-returns : tie.Need-returns
-returns c = never
-
 add-rep-at : tie.Need-add-rep-at
 add-rep-at c =
     let if1 = c .before in
@@ -40,9 +37,6 @@ rep-at-requires c κs =
     let z = up .before .before .before .before .before in
     high-place (z .pre .0) (up .up .result) (omega (arith, if1 .if1 .left))
 
-returns-2 : tie.Need-returns-2
-returns-2 c = never
-
 word-at-requires-2 : tie.Need-word-at-requires-2
 word-at-requires-2 c κs =
     let ra = c .before .before .before in
@@ -52,9 +46,6 @@ word-at-requires-2 c κs =
     let S = z .pre .0 in
     let I = found-inside (S .whole) (S .short) (high-at S (up .up .result) (omega (arith, if1 .if1 .left)) (ra .rep-at .ensures) (up .up .ensures)) in
     (omega (arith, inside-matrix I 0 (S .whole .some), I .positive), omega arith)
-
-returns-3 : tie.Need-returns-3
-returns-3 c = never
 
 add-rep-at-2 : tie.Need-add-rep-at-2
 add-rep-at-2 c =
@@ -73,9 +64,6 @@ rep-at-requires-2 c κs =
     let up = ra .before .before .before .before in
     let z = up .before .before .before .before .before in
     low-place (z .pre .0) (up2 .up2 .result) (omega (arith, if3 .if3 .left))
-
-returns-4 : tie.Need-returns-4
-returns-4 c = never
 
 generator-fits-requires : tie.Need-generator-fits-requires
 generator-fits-requires c κs =
@@ -118,7 +106,5 @@ returns-5 c = λ e.
     }
 
 pub led-to-spec : {M : Type 1} → statement M
-led-to-spec =
-    tie.close
-    (tie.spec matrix-line-requires word-at-requires (λ c κs. search needs) returns add-rep-at rep-at-requires returns-2 word-at-requires-2
-    (λ c κs. search needs) returns-3 add-rep-at-2 rep-at-requires-2 returns-4 generator-fits-requires returns-5)
+led-to-spec = tie.close (tie.spec matrix-line-requires word-at-requires (λ c κs. search needs) (λ c. never) add-rep-at rep-at-requires (λ c. never)
+    word-at-requires-2 (λ c κs. search needs) (λ c. never) add-rep-at-2 rep-at-requires-2 (λ c. never) generator-fits-requires returns-5)

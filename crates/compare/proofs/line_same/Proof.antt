@@ -8,9 +8,6 @@ use Rattle.compare.proofs.Shifted.{never, line-same}
 use Rattle.compare.proofs.line_same.Statement.{statement}
 use Rattle.compare.proofs.line_same.Tie as tie
 
-returns : tie.Need-returns
-returns c = never
-
 two-at-requires : tie.Need-two-at-requires
 two-at-requires c κs =
     let z = c .before .before .before in
@@ -34,4 +31,4 @@ returns-2 c =
     (eqb-true (at-two-at .two-at .result) (c .two-at2 .result) e)
 
 pub line-same-spec : {M : Type 1} → statement M
-line-same-spec = tie.close (tie.spec (λ c κs. search needs) returns two-at-requires two-at-requires-2 returns-2)
+line-same-spec = tie.close (tie.spec (λ c κs. search needs) (λ c. never) two-at-requires two-at-requires-2 returns-2)

@@ -9,18 +9,12 @@ use Rattle.compare.proofs.Shifted.{never, line-shifted}
 use Rattle.compare.proofs.line_shifted.Statement.{statement}
 use Rattle.compare.proofs.line_shifted.Tie as tie
 
-returns : tie.Need-returns
-returns c = never
-
 add-if2 : tie.Need-add-if2
 add-if2 c =
     let ea = c .before .before .before in
     let z = ea .before .before .before .before .before in
     let from = ap (λ (x : Entry). x .row) (ea .entry-at .ensures) in
     omega (arith, z .pre .1 .3, from)
-
-returns-2 : tie.Need-returns-2
-returns-2 c = never
 
 add-mod-requires : tie.Need-add-mod-requires
 add-mod-requires c κs =
@@ -43,6 +37,5 @@ returns-3 c = λ e.
     (sym (wa .word-at .ensures) ∙ if1 .if1 .left) (ea .entry-at .ensures) (ea2 .entry-at2 .ensures) (if2 .if2 .left) (am .add-mod .ensures .0) (eqb-true _ _ e)
 
 pub line-shifted-spec : {M : Type 1} → statement M
-line-shifted-spec =
-    tie.close
-    (tie.spec (λ c κs. search needs) returns (λ c κs. search needs) (λ c κs. search needs) add-if2 returns-2 add-mod-requires returns-3)
+line-shifted-spec = tie.close (tie.spec (λ c κs. search needs) (λ c. never) (λ c κs. search needs) (λ c κs. search needs) add-if2 (λ c. never)
+    add-mod-requires returns-3)

@@ -16,9 +16,6 @@ Inv-loop words at src n x k₀ k = LinesSame words at src k x
 abbrev μ-loop : tie.MeasureT-loop
 μ-loop words at src n x k₀ k = n - k
 
-loop-holds : tie.Need-loop-holds Inv-loop μ-loop
-loop-holds c = same-none
-
 add-line-same : tie.Need-add-line-same Inv-loop μ-loop
 add-line-same c =
     let z = c .before .before .before .before in
@@ -33,9 +30,6 @@ line-same-requires : tie.Need-line-same-requires Inv-loop μ-loop
 line-same-requires c κs =
     let z = c .before .before .before .before in
     (omega (arith, z .pre .0, c .up .ensures), omega (arith, z .pre .1, c .up .ensures))
-
-returns : tie.Need-returns Inv-loop μ-loop
-returns c = never
 
 loop-again : tie.Need-loop-again Inv-loop μ-loop
 loop-again c =
@@ -53,7 +47,5 @@ returns-2 c = λ e.
     same-fewer (lo .loop .inv) (omega arith)
 
 pub lines-same-spec : {M : Type 1} → statement M
-lines-same-spec =
-    tie.close
-    (tie.spec Inv-loop μ-loop loop-holds (λ c κs. search needs) add-line-same add-line-same-2 line-same-requires returns (λ c. search needs)
-    (λ c. omega arith) loop-again returns-2)
+lines-same-spec = tie.close (tie.spec Inv-loop μ-loop (λ c. same-none) (λ c κs. search needs) add-line-same add-line-same-2 line-same-requires
+    (λ c. never) (λ c. search needs) (λ c. omega arith) loop-again returns-2)

@@ -16,9 +16,6 @@ Inv-loop words at src d t m c₀ c = Shifting m words at src t c
 abbrev μ-loop : tie.MeasureT-loop
 μ-loop words at src d t m c₀ c = d - c
 
-loop-holds : tie.Need-loop-holds Inv-loop μ-loop
-loop-holds c = shifting-none
-
 add-line-shifted : tie.Need-add-line-shifted Inv-loop μ-loop
 add-line-shifted c =
     let z = c .before .before .before .before in
@@ -37,9 +34,6 @@ line-shifted-requires c κs =
     let b = H .valid (c .up .result) (omega (arith, k)) in
     ((omega (arith, z .pre .0, k), omega (arith, H .fits, k)), (b .exp, z .pre .2, H .small, omega (arith, z .pre .3, b .row)))
 
-returns : tie.Need-returns Inv-loop μ-loop
-returns c = never
-
 loop-again : tie.Need-loop-again Inv-loop μ-loop
 loop-again c =
     let ls = c .before in
@@ -56,7 +50,5 @@ returns-2 c = λ e.
     shifting-all (lo .loop .inv) (omega arith)
 
 pub lines-shifted-spec : {M : Type 1} → statement M
-lines-shifted-spec =
-    tie.close
-    (tie.spec Inv-loop μ-loop loop-holds (λ c κs. search needs) add-line-shifted add-line-shifted-2 line-shifted-requires returns (λ c. search needs)
-    (λ c. omega arith) loop-again returns-2)
+lines-shifted-spec = tie.close (tie.spec Inv-loop μ-loop (λ c. shifting-none) (λ c κs. search needs) add-line-shifted add-line-shifted-2
+    line-shifted-requires (λ c. never) (λ c. search needs) (λ c. omega arith) loop-again returns-2)

@@ -30,9 +30,6 @@ returns c = λ e.
     let z = if1 .before .before .before .before in
     lower-single (z .pre .0) (if1 .if1 .taken) (z .pre .1) (c .lines-same .ensures e)
 
-loop-holds : tie.Need-loop-holds Inv-loop μ-loop
-loop-holds c = lowering-none
-
 matrix-line-requires : tie.Need-matrix-line-requires Inv-loop μ-loop
 matrix-line-requires c κs =
     let lo = c .before in
@@ -67,9 +64,6 @@ lines-shifted-requires c κs =
       block-shift O (a .b .start) (omega (arith, O .within, O .stored .positive)),
     )
 
-returns-2 : tie.Need-returns-2 Inv-loop μ-loop
-returns-2 c = never
-
 loop-again : tie.Need-loop-again Inv-loop μ-loop
 loop-again c =
     let ls = c .before in
@@ -92,7 +86,5 @@ returns-3 c = λ e.
     lowering-all (lo .loop .inv) (omega arith)
 
 pub lower-fits-spec : {M : Type 1} → statement M
-lower-fits-spec =
-    tie.close
-    (tie.spec Inv-loop μ-loop lines-same-requires returns loop-holds matrix-line-requires (λ c κs. search needs) add-at matrix-line-requires-2
-    lines-shifted-requires returns-2 (λ c. search needs) (λ c. omega arith) loop-again returns-3)
+lower-fits-spec = tie.close (tie.spec Inv-loop μ-loop lines-same-requires returns (λ c. lowering-none) matrix-line-requires (λ c κs. search needs)
+    add-at matrix-line-requires-2 lines-shifted-requires (λ c. never) (λ c. search needs) (λ c. omega arith) loop-again returns-3)

@@ -4,16 +4,11 @@ use Rattle.seek.proofs.Halves.{lines-there}
 use Rattle.compare.proofs.proper.Statement.{statement}
 use Rattle.compare.proofs.proper.Tie as tie
 
-returns : tie.Need-returns
-returns c = λ e. record { valid = λ n. absurd (n (c .if1 .taken)) }
-
 matrices-ok-requires : tie.Need-matrices-ok-requires
 matrices-ok-requires c κs =
     let z = c .before .before .before in
     lines-there _ _ (z .pre .room)
 
-returns-2 : tie.Need-returns-2
-returns-2 c = λ e. record { valid = λ n. sym (c .matrices-ok .ensures) ∙ e }
-
 pub proper-spec : {M : Type 1} → statement M
-proper-spec = tie.close (tie.spec returns matrices-ok-requires returns-2)
+proper-spec = tie.close (tie.spec (λ c. λ e. record { valid = λ n. absurd (n (c .if1 .taken)) }) matrices-ok-requires
+    (λ c. λ e. record { valid = λ n. sym (c .matrices-ok .ensures) ∙ e }))

@@ -18,19 +18,10 @@ width-requires c κs =
     let z = c .before .before in
     z .pre
 
-returns : tie.Need-returns Inv-loop μ-loop
-returns c = never
-
 proper-requires : tie.Need-proper-requires Inv-loop μ-loop
 proper-requires c κs =
     let z = c .before .before .before .before in
     z .pre .1
-
-returns-2 : tie.Need-returns-2 Inv-loop μ-loop
-returns-2 c = never
-
-loop-holds : tie.Need-loop-holds Inv-loop μ-loop
-loop-holds c = blocking-none
 
 block-fits-requires : tie.Need-block-fits-requires Inv-loop μ-loop
 block-fits-requires c κs =
@@ -40,9 +31,6 @@ block-fits-requires c κs =
     let z = wi .before .before .before in
     let W = wi .width .ensures (if1 .if1 .left) in
     (z .pre .0, z .pre .1, omega (arith, if1 .if1 .left), blocking-room (lo .loop .inv) W (omega arith))
-
-returns-3 : tie.Need-returns-3 Inv-loop μ-loop
-returns-3 c = never
 
 add-o : tie.Need-add-o Inv-loop μ-loop
 add-o c =
@@ -73,7 +61,5 @@ returns-4 c = λ e.
     blocking-all (lo .loop .inv) (wi .width .ensures (if1 .if1 .left)) (pr .proper .ensures (not-false (pr .proper .result) (if2 .if2 .left))) (omega arith)
 
 pub rep-fits-spec : {M : Type 1} → statement M
-rep-fits-spec =
-    tie.close
-    (tie.spec Inv-loop μ-loop width-requires returns proper-requires returns-2 loop-holds block-fits-requires returns-3 add-o loop-less loop-again
-    returns-4)
+rep-fits-spec = tie.close (tie.spec Inv-loop μ-loop width-requires (λ c. never) proper-requires (λ c. never) (λ c. blocking-none) block-fits-requires
+    (λ c. never) add-o loop-less loop-again returns-4)

@@ -30,9 +30,6 @@ led-to-requires c κs =
     let z = c .before .before .before .before .before in
     (z .pre .0, z .pre .1, omega arith)
 
-returns : tie.Need-returns Inv-loop μ-loop
-returns c = never
-
 loop-again : tie.Need-loop-again Inv-loop μ-loop
 loop-again c =
     let lt = c .before in
@@ -45,6 +42,5 @@ returns-2 c = λ e.
     raising-all (lo .loop .inv) (omega arith)
 
 pub upper-fits-spec : {M : Type 1} → statement M
-upper-fits-spec =
-    tie.close
-    (tie.spec Inv-loop μ-loop add-j loop-holds led-to-requires returns (λ c. search needs) (λ c. omega arith) loop-again returns-2)
+upper-fits-spec = tie.close (tie.spec Inv-loop μ-loop add-j loop-holds led-to-requires (λ c. never) (λ c. search needs) (λ c. omega arith) loop-again
+    returns-2)

@@ -18,9 +18,6 @@ word-at-requires c κs =
     let I = z .pre .1 in
     (omega (arith, inside-matrix I 0 (z .pre .0 .whole .some), I .positive), omega arith)
 
-returns : tie.Need-returns
-returns c = λ n. absurd (n refl)
-
 add-rep-at : tie.Need-add-rep-at
 add-rep-at c =
     let if1 = c .before in
@@ -63,9 +60,6 @@ mul-if3 c =
     let q : up2 .up2 .result * c .up3 .result ≤ up2 .up2 .result * 16777216 = mul-le-mul-left (up2 .up2 .result) n in
     omega (arith, q, up2 .up2 .ensures, sk .struct-known .given)
 
-returns-3 : tie.Need-returns-3
-returns-3 c = λ n. absurd (n refl)
-
 matrix-line-requires : tie.Need-matrix-line-requires
 matrix-line-requires c κs =
     let ra = c .before .before .before .before .before .before .before in
@@ -85,9 +79,6 @@ word-at-requires-2 c κs =
     let S = z .pre .0 in
     let F = low-at S (up .up .result) (omega (arith, if1 .if1 .left)) (ra .rep-at .ensures) (up .up .ensures) in
     (omega (arith, inside-matrix (found-inside (S .whole) (S .short) F) (z .args .g .top) (S .level .1), F .positive, c .matrix-line .ensures), omega arith)
-
-returns-4 : tie.Need-returns-4
-returns-4 c = λ n. absurd (n refl)
 
 returns-5 : tie.Need-returns-5
 returns-5 c = λ n.
@@ -115,7 +106,6 @@ returns-5 c = λ n.
     }
 
 pub width-spec : {M : Type 1} → statement M
-width-spec =
-    tie.close
-    (tie.spec word-at-requires (λ c κs. search needs) returns add-rep-at rep-at-requires returns-2 (λ c κs. search needs) (λ c κs. search needs)
-    mul-if3 (λ c κs. search needs) returns-3 matrix-line-requires word-at-requires-2 returns-4 returns-5)
+width-spec = tie.close (tie.spec word-at-requires (λ c κs. search needs) (λ c. λ n. absurd (n refl)) add-rep-at rep-at-requires returns-2
+    (λ c κs. search needs) (λ c κs. search needs) mul-if3 (λ c κs. search needs) (λ c. λ n. absurd (n refl)) matrix-line-requires word-at-requires-2
+    (λ c. λ n. absurd (n refl)) returns-5)

@@ -6,10 +6,6 @@ use borrow.Author.Needs.{needs}
 use Rattle.large_cases.proofs.check_first_lines.Statement.{statement}
 use Rattle.large_cases.proofs.check_first_lines.Tie as tie
 
-slice-aggregate-check : tie.Need-slice-aggregate-check
-slice-aggregate-check c = sym (length-take-le _ _ (omega arith))
-
 pub check-first-lines-spec : {M : Type 1} → statement M
-check-first-lines-spec =
-    tie.close
-    (tie.spec (λ c. search needs) slice-aggregate-check (λ c κs. search needs) (λ c. search needs) (λ c κs. search needs) (λ c. search needs))
+check-first-lines-spec = tie.close (tie.spec (λ c. search needs) (λ c. sym (length-take-le _ _ (omega arith))) (λ c κs. search needs)
+    (λ c. search needs) (λ c κs. search needs) (λ c. search needs))

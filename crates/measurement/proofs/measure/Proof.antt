@@ -6,9 +6,6 @@ use Rattle.measurement.proofs.Measured.{measure-refused, measure-sized}
 use Rattle.measurement.proofs.measure.Statement.{statement}
 use Rattle.measurement.proofs.measure.Tie as tie
 
-returns : tie.Need-returns
-returns c = measure-refused (c .before .accepted .ensures) (omega arith)
-
 measure-requires : tie.Need-measure-requires
 measure-requires c κs =
     let a = c .before .before .before .accepted in
@@ -21,4 +18,4 @@ returns-2 c =
     measure-sized (a .ensures) (omega arith) (c .measure .ensures)
 
 pub measure-spec : {M : Type 1} → statement M
-measure-spec = tie.close (tie.spec (λ c κs. refl) returns measure-requires returns-2)
+measure-spec = tie.close (tie.spec (λ c κs. refl) (λ c. measure-refused (c .before .accepted .ensures) (omega arith)) measure-requires returns-2)

@@ -15,9 +15,6 @@ Inv-loop words rows s i d e j k₀ k = Passed (Spells s rows) (λ P k. carriesIn
 abbrev μ-loop : tie.MeasureT-loop
 μ-loop words rows s i d e j k₀ k = i - k
 
-loop-holds : tie.Need-loop-holds Inv-loop μ-loop
-loop-holds c = passed-none
-
 returns : tie.Need-returns Inv-loop μ-loop
 returns c =
     let l = c .before .before .before in
@@ -34,10 +31,6 @@ loop-again c =
     let k = l .loop .k in
     passed-more (l .loop .inv) (λ P S. t .ensures P (S .word k (z .args .j) (omega arith) (z .pre .4))) (not-false (t .result) (c .if1 .left))
 
-returns-2 : tie.Need-returns-2 Inv-loop μ-loop
-returns-2 c = passed-all (c .before .loop .inv) (omega arith)
-
 pub all-carried-spec : {M : Type 1} → statement M
-all-carried-spec =
-    tie.close
-    (tie.spec Inv-loop μ-loop loop-holds (λ c κs. search needs) returns (λ c. omega arith) (λ c. omega arith) loop-again returns-2)
+all-carried-spec = tie.close (tie.spec Inv-loop μ-loop (λ c. passed-none) (λ c κs. search needs) returns (λ c. omega arith) (λ c. omega arith)
+    loop-again (λ c. passed-all (c .before .loop .inv) (omega arith)))

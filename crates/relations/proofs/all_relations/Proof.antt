@@ -18,9 +18,6 @@ Inv-loop words rows primes s d i j₀ j = Passed (ReadsIn s primes rows) (λ P j
 abbrev μ-loop : tie.MeasureT-loop
 μ-loop words rows primes s d i j₀ j = i - j
 
-loop-holds : tie.Need-loop-holds Inv-loop μ-loop
-loop-holds c = passed-none
-
 returns : tie.Need-returns Inv-loop μ-loop
 returns c = λ P R.
     let l = c .before .before .before in
@@ -41,6 +38,5 @@ returns-2 c = λ P R.
     passed-all (l .loop .inv) (omega arith) P R ∙ relations-top (a .s) (now (a .words)) (a .d) P (a .i)
 
 pub all-relations-spec : {M : Type 1} → statement M
-all-relations-spec =
-    tie.close
-    (tie.spec Inv-loop μ-loop loop-holds (λ c κs. search needs) returns (λ c. omega arith) (λ c. omega arith) loop-again returns-2)
+all-relations-spec = tie.close (tie.spec Inv-loop μ-loop (λ c. passed-none) (λ c κs. search needs) returns (λ c. omega arith) (λ c. omega arith)
+    loop-again returns-2)

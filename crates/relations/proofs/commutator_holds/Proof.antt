@@ -17,9 +17,6 @@ Inv-loop words s d k j w deg c₀ c = Passed (WordOf k j w) (λ P c. commutatorA
 abbrev μ-loop : tie.MeasureT-loop
 μ-loop words s d k j w deg c₀ c = deg - c
 
-loop-holds : tie.Need-loop-holds Inv-loop μ-loop
-loop-holds c = passed-none
-
 returns : tie.Need-returns Inv-loop μ-loop
 returns c = λ P is.
     let l = c .before .before .before in
@@ -40,6 +37,5 @@ returns-2 c = λ P is.
     passed-all (l .loop .inv) (omega arith) P is ∙ commutator-everywhere (z .pre .0) P (z .args .k) (z .args .j) (z .pre .1) (z .pre .2)
 
 pub commutator-holds-spec : {M : Type 1} → statement M
-commutator-holds-spec =
-    tie.close
-    (tie.spec Inv-loop μ-loop loop-holds (λ c κs. search needs) returns (λ c. omega arith) (λ c. omega arith) loop-again returns-2)
+commutator-holds-spec = tie.close (tie.spec Inv-loop μ-loop (λ c. passed-none) (λ c κs. search needs) returns (λ c. omega arith) (λ c. omega arith)
+    loop-again returns-2)

@@ -24,9 +24,6 @@ returns c = λ P R.
     let a = c .before .before .before .args in
     top-fails (a .s) (now (a .words)) (a .d) P (a .j) (t .ensures P R) (not-true (t .result) (c .if1 .taken))
 
-loop-holds : tie.Need-loop-holds Inv-loop μ-loop
-loop-holds c = passed-none
-
 returns-2 : tie.Need-returns-2 Inv-loop μ-loop
 returns-2 c = λ P R.
     let l = c .before .before .before in
@@ -55,7 +52,5 @@ returns-3 c = λ P R.
     ∙ top-rest (a .s) (now (a .words)) (a .d) P (a .j) (p .ensures P R) (not-false (p .result) (l .before .if1 .left))
 
 pub top-relations-spec : {M : Type 1} → statement M
-top-relations-spec =
-    tie.close
-    (tie.spec Inv-loop μ-loop (λ c κs. search needs) returns loop-holds (λ c κs. search needs) returns-2 (λ c. omega arith) (λ c. omega arith)
-    loop-again returns-3)
+top-relations-spec = tie.close (tie.spec Inv-loop μ-loop (λ c κs. search needs) returns (λ c. passed-none) (λ c κs. search needs) returns-2
+    (λ c. omega arith) (λ c. omega arith) loop-again returns-3)

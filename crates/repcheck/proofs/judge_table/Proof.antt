@@ -14,12 +14,6 @@ returns c =
     let r = c .before .before in
     refused (r .before .before .before .before .args .group .now) (length-replicate {0} {A = ℕ} 8192 0) (c .if1 .taken) (r .read-table .ensures)
 
-mul-words : tie.Need-mul-words
-mul-words c = omega (arith, lines-within (c .if1 .left) (c .before .before .read-table .ensures))
-
-array-share-prefix-words : tie.Need-array-share-prefix-words
-array-share-prefix-words c = lines-within (c .if1 .left) (c .before .before .read-table .ensures)
-
 slice-aggregate-check : tie.Need-slice-aggregate-check
 slice-aggregate-check c = let e = c .before in sym (length-take-le _ _ (lines-within (e .if1 .left) (e .before .before .read-table .ensures)))
 
@@ -31,7 +25,6 @@ returns-2 c =
     checked (z .args .group .now) (length-replicate {0} {A = ℕ} 8192 0) (z .pre) (e .if1 .left) (r .read-table .ensures) (c .check .ensures)
 
 pub judge-table-spec : {M : Type 1} → statement M
-judge-table-spec =
-    tie.close
-    (tie.spec (λ c. search needs) (λ c κs. search needs) returns mul-words array-share-prefix-words slice-aggregate-check (λ c κs. search needs)
-    returns-2)
+judge-table-spec = tie.close (tie.spec (λ c. search needs) (λ c κs. search needs) returns
+    (λ c. omega (arith, lines-within (c .if1 .left) (c .before .before .read-table .ensures)))
+    (λ c. lines-within (c .if1 .left) (c .before .before .read-table .ensures)) slice-aggregate-check (λ c κs. search needs) returns-2)

@@ -9,16 +9,10 @@ use Rattle.seek.proofs.Halves.{line-there, split-first, split-behind}
 use Rattle.seek.proofs.ends_at.Statement.{statement}
 use Rattle.seek.proofs.ends_at.Tie as tie
 
-returns : tie.Need-returns
-returns c = λ h. absurd (false≢true h)
-
 stands-before-requires : tie.Need-stands-before-requires
 stands-before-requires c κs =
     let z = c .before .before in
     line-there (now (z .args .words)) (z .args .x) (omega (arith, z .pre .0))
-
-returns-2 : tie.Need-returns-2
-returns-2 c = λ h. absurd (false≢true h)
 
 returns-3 : tie.Need-returns-3
 returns-3 c =
@@ -42,4 +36,5 @@ returns-4 c =
     (sym (c .stands-before2 .ensures) ∙ h)
 
 pub ends-at-spec : {M : Type 1} → statement M
-ends-at-spec = tie.close (tie.spec returns stands-before-requires returns-2 returns-3 (λ c. search needs) stands-before-requires-2 returns-4)
+ends-at-spec = tie.close (tie.spec (λ c. λ h. absurd (false≢true h)) stands-before-requires (λ c. λ h. absurd (false≢true h)) returns-3
+    (λ c. search needs) stands-before-requires-2 returns-4)

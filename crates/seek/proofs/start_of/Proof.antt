@@ -14,8 +14,5 @@ found-requires c κs =
     let (W, l) = z .pre in
     (W, omega (arith, c .if1 .left), l, whole-some (z .args .s) (now (z .args .words)) W (z .args .i) (omega (arith, c .if1 .left)) l)
 
-returns-2 : tie.Need-returns-2
-returns-2 c = λ p. c .found .ensures .line
-
 pub start-of-spec : {M : Type 1} → statement M
-start-of-spec = tie.close (tie.spec returns found-requires returns-2)
+start-of-spec = tie.close (tie.spec returns found-requires (λ c. λ p. c .found .ensures .line))

@@ -12,9 +12,6 @@ cast-whole c = record { fits = omega (arith, rounds-fit (c .args .k .size) (c .a
 add-t7 : tie.Need-add-t7
 add-t7 c = let z = c .before in record { fits = omega (arith, rounds-fit (z .args .k .size) (z .args .length) (omega (arith, z .good))) }
 
-sub-t10 : tie.Need-sub-t10
-sub-t10 c = omega (arith, mod-lt (c .before .args .k .size) (c .before .pre))
-
 returns : tie.Need-returns
 returns c = let z = c .before in rounds-back (z .args .k) (z .args .length) (z .pre) (omega (arith, z .good)) (c .if1 .taken)
 
@@ -22,6 +19,5 @@ returns-2 : tie.Need-returns-2
 returns-2 c = let z = c .before in rounds-forward (z .args .k) (z .args .length) (z .pre) (omega (arith, z .good)) (c .if1 .left)
 
 pub rounds-of-spec : {M : Type 1} → statement M
-rounds-of-spec =
-    tie.close
-    (tie.spec (λ c. search needs) cast-whole add-t7 (λ c. search needs) (λ c. search needs) sub-t10 returns (λ c. search needs) returns-2)
+rounds-of-spec = tie.close (tie.spec (λ c. search needs) cast-whole add-t7 (λ c. search needs) (λ c. search needs)
+    (λ c. omega (arith, mod-lt (c .before .args .k .size) (c .before .pre))) returns (λ c. search needs) returns-2)

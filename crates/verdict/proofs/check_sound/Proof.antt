@@ -16,8 +16,6 @@ judge-requires c κs =
     let (R, S) = c .before .before .before .before .before .pre in
     (_, task-of S (c .before .measure .ensures))
 
-returns : tie.Need-returns
-returns c = checks-of (c .before .before .measure .ensures) (c .judge .ensures)
-
 pub check-sound-spec : {M : Type 1} → statement M
-check-sound-spec = tie.close (tie.spec measure-requires cast-judge judge-requires returns)
+check-sound-spec = tie.close (tie.spec measure-requires cast-judge judge-requires
+    (λ c. checks-of (c .before .before .measure .ensures) (c .judge .ensures)))
