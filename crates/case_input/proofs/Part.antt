@@ -2,6 +2,7 @@
 --
 --   part-take, part-drop    the part, and the rest, by the number asked for
 use mathlib.Core.Path.{_≡_, refl, sym, ap, _∙_}
+use mathlib.Core.Logic.{by-cases}
 use mathlib.Core.List.{List, [], _∷_}
 use Prim.Native.Nat.{ℕ, zero, suc, _<_, _≤_}
 use native.Mathlib.Decide.{decLt}
@@ -18,15 +19,11 @@ drop-past (suc n) (x ∷ xs) l = drop-past n xs (omega arith)
 
 module _ {a len r : ℕ} (P : Part a len r) (xs : List ℕ) (q : length xs ≡ len) where
   pub part-take : take r xs ≡ take a xs
-  part-take = go (decLt len a)
-    where
-      go : Dec (len < a) → take r xs ≡ take a xs
-      go (yes l) = take-all r xs (omega (arith, P .all l)) ∙ sym (take-all a xs (omega arith))
-      go (no l) = ap (λ n. take n xs) (P .some (omega arith))
+  part-take = by-cases (decLt len a)
+      (λ l. take-all r xs (omega (arith, P .all l)) ∙ sym (take-all a xs (omega arith)))
+      (λ l. ap (λ n. take n xs) (P .some (omega arith)))
 
   pub part-drop : drop r xs ≡ drop a xs
-  part-drop = go (decLt len a)
-    where
-      go : Dec (len < a) → drop r xs ≡ drop a xs
-      go (yes l) = drop-past r xs (omega (arith, P .all l)) ∙ sym (drop-past a xs (omega arith))
-      go (no l) = ap (λ n. drop n xs) (P .some (omega arith))
+  part-drop = by-cases (decLt len a)
+      (λ l. drop-past r xs (omega (arith, P .all l)) ∙ sym (drop-past a xs (omega arith)))
+      (λ l. ap (λ n. drop n xs) (P .some (omega arith)))

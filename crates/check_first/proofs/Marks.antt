@@ -7,6 +7,7 @@
 --   taking-none, taking-more     at the start, and one representation more
 --   product-positive, multiple-small, multiple-power     a factor is positive; a multiple is below the modulus, and p times it is 0
 use mathlib.Core.Path.{_≡_, refl, sym, _∙_, ap, subst}
+use mathlib.Core.Logic.{by-cases}
 use mathlib.Core.List.{List}
 use Prim.Native.Nat.{ℕ, zero, suc, _+_, _*_, _%_, _<_}
 use native.Mathlib.Nat.{mul-lt-mul-of-pos-right, mul-mod-right}
@@ -82,11 +83,7 @@ module _ {s n : ℕ} {T : List ℕ} {p part r : ℕ} {M N : List ℕ} (H : Slots
   e = exponentOf n T r
 
   stays : (f : ℕ) → getD M f 0 ≡ 0 → getD N f 0 ≡ 0
-  stays f z = go (ℕ-discrete f e)
-    where
-      go : Dec (f ≡ e) → getD N f 0 ≡ 0
-      go (yes q) = ap (λ f. getD N f 0) q ∙ t .taken
-      go (no q) = t .others f q ∙ z
+  stays f z = by-cases (ℕ-discrete f e) (λ q. ap (λ f. getD N f 0) q ∙ t .taken) (λ q. t .others f q ∙ z)
 
   differs : (q : ℕ) → q < r → ¬ (exponentOf n T q ≡ e)
   differs q l z = let h = sym (ap (λ f. getD M f 0) z) ∙ H .taken q l in omega (arith, h, t .free)

@@ -4,6 +4,7 @@
 --   counted-pass        levels that fit, with squares that add up, pass the judgement
 --   none-counted        no level is counted
 use mathlib.Core.Path.{_≡_, sym, _∙_, ap, subst}
+use mathlib.Core.Logic.{by-cases}
 use mathlib.Core.Bool.{true}
 use mathlib.Core.List.{List}
 use Prim.Native.Nat.{ℕ, suc, _+_, _*_, _≤_, _<_}
@@ -48,19 +49,17 @@ module _ {P : Presentation} {n m i : ℕ} {Low High : Level} (in-range : i < n) 
 
     -- several blocks have several references
     one-block : (k : ℕ) → k < F .cut .count → OneReference (repOf High r) → F .cut .count ≡ 1
-    one-block k l one = go (ℕ-discrete (F .cut .count) 1)
+    one-block k l one = by-cases (ℕ-discrete (F .cut .count) 1)
+        (λ e. e)
+        (λ ne.
+        let t : ℕ = blockTo P n m i Low High r (F .cut) i 0 in
+        absurd (F .moved ne (sym (F .follows 0 z) ∙ same t (F .lands i 0 (le-refl i) in-range z) ∙ sym (same 0 z))))
       where
         z : 0 < F .cut .count
         z = omega arith
 
         same : (k : ℕ) → k < F .cut .count → F .cut .part k ≡ repOf High r .ref 0 0
         same k l = sym (part-ref k l) ∙ one (k * F .cut .width) (part-column k l)
-
-        go : Dec (F .cut .count ≡ 1) → F .cut .count ≡ 1
-        go (yes e) = e
-        go (no ne) =
-            let t : ℕ = blockTo P n m i Low High r (F .cut) i 0 in
-            absurd (F .moved ne (sym (F .follows 0 z) ∙ same t (F .lands i 0 (le-refl i) in-range z) ∙ sym (same 0 z)))
 
   pub unshared-blocks : Unshared i High → (r r′ : ℕ) (h : r < length High) (h′ : r′ < length High) → ¬ (r ≡ r′) → (k k′ : ℕ) → k < fit r h .cut .count
       → k′ < fit r′ h′ .cut .count → fit r h .cut .part k ≡ fit r′ h′ .cut .part k′

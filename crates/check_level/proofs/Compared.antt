@@ -3,7 +3,7 @@
 --   BlockCount, cut-of                                  how many blocks it has
 --   compared                                     the fields of `Fitting` that are comparisons
 use mathlib.Core.Path.{_≡_, refl, sym, _∙_, ap, ap₂, subst}
-use mathlib.Core.Logic.{_⊎_, inl, inr}
+use mathlib.Core.Logic.{_⊎_, inl, inr, by-cases}
 use mathlib.Core.Bool.{true}
 use mathlib.Core.List.{List}
 use Prim.Native.Nat.{ℕ, suc, _+_, _*_, _/_, _%_, _≤_, _<_}
@@ -157,32 +157,24 @@ module _ {s : Scope} {T firsts : List ℕ} {g : Stage} (S : Staged s T firsts g)
     U j a b = B k l .upper .each j a b
 
     lands-at : (h : ℕ) → i ≤ h → h < n → to h < C .count
-    lands-at h a b = go (decLt i h)
-      where
-        go : Dec (i < h) → to h < C .count
-        go (yes q) = carried-lands (U h q b .carried)
-        go (no q) = let e : i ≡ h = omega arith in subst (λ h. to h < C .count) e (carried-lands (B k l .top))
+    lands-at h a b = by-cases (decLt i h)
+        (λ q. carried-lands (U h q b .carried))
+        (λ q. let e : i ≡ h = omega arith in subst (λ h. to h < C .count) e (carried-lands (B k l .top)))
 
     abbrev Shifts : (c h : ℕ) → Type 0
     Shifts c h = let x = col (repOf Low (part k) .matrix h) c in col (X .matrix h) (k * w + c) ≡ entry (to h * w + x .row) ((x .exp + scalar h) % s .m)
 
     shifts-at : (h c : ℕ) → i ≤ h → h < n → c < w → Shifts c h
-    shifts-at h c a b d = go (decLt i h)
-      where
-        go : Dec (i < h) → Shifts c h
-        go (yes q) = carried-shifts (U h q b .carried) c d
-        go (no q) = let e : i ≡ h = omega arith in subst (Shifts c) e (carried-shifts (B k l .top) c d)
+    shifts-at h c a b d = by-cases (decLt i h)
+        (λ q. carried-shifts (U h q b .carried) c d)
+        (λ q. let e : i ≡ h = omega arith in subst (Shifts c) e (carried-shifts (B k l .top) c d))
 
   -- ---- Where the generators above lead
 
   zero-below : 0 < C .count
-  zero-below = positive-count (decLt 0 (C .count))
-    where
-      positive-count : Dec (0 < C .count) → 0 < C .count
-      positive-count (yes q) = q
-      positive-count (no q) =
-          let z : C .count ≡ 0 = omega arith in
-          absurd (omega (arith, C .is, ap (λ q. q * w) z, G .positive))
+  zero-below = by-cases (decLt 0 (C .count))
+      (λ q. q)
+      (λ q. let z : C .count ≡ 0 = omega arith in absurd (omega (arith, C .is, ap (λ q. q * w) z, G .positive)))
 
   module _ (j : ℕ) (a : i < j) (b : j < n) where
     abbrev U₀ : Upper s T g D (block (0 * w) (part 0) (B 0 zero-below .part)) j
@@ -220,11 +212,9 @@ module _ {s : Scope} {T firsts : List ℕ} {g : Stage} (S : Staged s T firsts g)
   -- ---- What fitting asks
 
   refers-at : (h : ℕ) → h < suc i → (k c : ℕ) → k < C .count → c < w → X .ref h (k * w + c) ≡ part k
-  refers-at h a k c l b = go (decLt h i)
-    where
-      go : Dec (h < i) → X .ref h (k * w + c) ≡ part k
-      go (yes q) = lower-ref k l h c q b
-      go (no q) = let e : i ≡ h = omega arith in subst (λ h. X .ref h (k * w + c) ≡ part k) e (carried-refs k l (B k l .top) c b)
+  refers-at h a k c l b = by-cases (decLt h i)
+      (λ q. lower-ref k l h c q b)
+      (λ q. let e : i ≡ h = omega arith in subst (λ h. X .ref h (k * w + c) ≡ part k) e (carried-refs k l (B k l .top) c b))
 
   first-moved : ¬ (C .count ≡ 1) → ¬ (repOf Low (part 0) .ref i 0 ≡ part 0)
   first-moved ne e =

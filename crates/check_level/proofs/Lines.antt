@@ -5,6 +5,7 @@
 --   run-left, left-ran               the squares of their degrees, taken from the order at once
 --   not-noted                        nothing is written
 use mathlib.Core.Path.{_≡_, refl, sym, _∙_, ap, subst}
+use mathlib.Core.Logic.{by-cases}
 use mathlib.Core.List.{List}
 use Prim.Native.Nat.{ℕ, _+_, _*_, _-_, _/_, _≤_, _<_}
 use native.Mathlib.Nat.{mul-le-mul-right, mul-pos, div-lt-iff-lt-mul}
@@ -119,11 +120,9 @@ module _ {s : Scope} {T : List ℕ} {i : ℕ} {D : Listed} {size at r reps : ℕ
         here = sym (R .behind l .deg) ∙ e
 
         below-from : (k : ℕ) → r ≤ k → k < q + 1 → repOf (levelAt (s .gens) T i) k .deg ≡ D .deg
-        below-from k a b = go (decLt k q)
-          where
-            go : Dec (k < q) → repOf (levelAt (s .gens) T i) k .deg ≡ D .deg
-            go (yes c) = R .degrees k a c
-            go (no c) = let z : q ≡ k = omega arith in subst (λ k. repOf (levelAt (s .gens) T i) k .deg ≡ D .deg) z here
+        below-from k a b = by-cases (decLt k q)
+            (λ c. R .degrees k a c)
+            (λ c. let z : q ≡ k = omega arith in subst (λ k. repOf (levelAt (s .gens) T i) k .deg ≡ D .deg) z here)
 
     ran : r < q → Ran s T i D at r F G (record { next = q; line = line })
     ran l = record {
@@ -156,14 +155,12 @@ left-run n T i o k d {left} {r} L same l = record { is = omega (arith, L .is, l,
 
 -- what is taken is there
 pub run-left : {d q k left : ℕ} → 0 < d → q ≡ d * d → k ≤ left / q → k * q ≤ left
-run-left {d} {q} {k} {left} p is n = go (decLt left (k * q))
+run-left {d} {q} {k} {left} p is n = by-cases (decLt left (k * q))
+    (λ l. let m : left / q < k = div-lt-iff-lt-mul positive .1 l in absurd (omega (arith, m, n)))
+    (λ l. omega arith)
   where
     positive : 0 < q
     positive = subst (λ q. 0 < q) (sym is) (mul-pos p p)
-
-    go : Dec (left < k * q) → k * q ≤ left
-    go (yes l) = let m : left / q < k = div-lt-iff-lt-mul positive .1 l in absurd (omega (arith, m, n))
-    go (no l) = omega arith
 
 pub left-ran : {s : Scope} {T : List ℕ} {i o at left r q : ℕ} {D : Listed} {F G : List ℕ} {e : RunEnd} → Left (s .gens) T i o left r → 0 < D .deg
     → Ran s T i D at r F G e → q ≡ D .deg * D .deg → e .next - r ≤ left / q → Left (s .gens) T i o (left - (e .next - r) * q) (e .next)

@@ -5,6 +5,7 @@
 --   seen-all, seen-twice     all rows are there, or one is not
 --   single-matrix         a matrix of degree 1, by its entry
 use mathlib.Core.Path.{_≡_, sym, _∙_, ap, subst}
+use mathlib.Core.Logic.{by-cases}
 use mathlib.Core.Bool.{true, false}
 use mathlib.Core.List.{List}
 use Prim.Native.Nat.{ℕ, _+_, _≤_, _<_}
@@ -50,11 +51,9 @@ module _ (T : List ℕ) (at : ℕ) where
       room = subst (λ n. r < n) (sym (S .size)) inside
 
       marked : (k : ℕ) → ¬ (getD M k 0 ≡ 0) → ¬ (getD (set M r 1) k 0 ≡ 0)
-      marked k n z = go (ℕ-discrete k r)
-        where
-          go : Dec (k ≡ r) → ⊥
-          go (yes e) = n (subst (λ k. getD M k 0 ≡ 0) (sym e) free)
-          go (no e) = n (sym (getD-set-other M r k 1 0 e) ∙ z)
+      marked k n z = by-cases (ℕ-discrete k r)
+          (λ e. n (subst (λ k. getD M k 0 ≡ 0) (sym e) free))
+          (λ e. n (sym (getD-set-other M r k 1 0 e) ∙ z))
 
       last : ¬ (getD (set M r 1) (row c) 0 ≡ 0)
       last z = omega (arith, getD-set-same M r 1 0 room, subst (λ k. getD (set M r 1) k 0 ≡ 0) (sym is) z)
@@ -63,11 +62,9 @@ module _ (T : List ℕ) (at : ℕ) where
       others k l e = S .seen k l (subst (λ x. getD M x 0 ≡ 0) (is ∙ sym e) free)
 
       which : (x : ℕ) → ¬ (getD (set M r 1) x 0 ≡ 0) → (k : ℕ) × (k < c + 1) × (row k ≡ x)
-      which x n = go (ℕ-discrete x r)
-        where
-          go : Dec (x ≡ r) → (k : ℕ) × (k < c + 1) × (row k ≡ x)
-          go (yes e) = (c, omega arith, sym is ∙ sym e)
-          go (no e) = let (k, l, q) = S .only x (λ z. n (getD-set-other M r x 1 0 e ∙ z)) in (k, omega arith, q)
+      which x n = by-cases (ℕ-discrete x r)
+          (λ e. (c, omega arith, sym is ∙ sym e))
+          (λ e. let (k, l, q) = S .only x (λ z. n (getD-set-other M r x 1 0 e ∙ z)) in (k, omega arith, q))
 
       apart : (j k : ℕ) → j < c + 1 → k < c + 1 → row j ≡ row k → j ≡ k
       apart j k a b e = go (decLt j c) (decLt k c)

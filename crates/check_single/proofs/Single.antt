@@ -6,7 +6,7 @@
 --   based-at, takes-at, uppers-at      a block by another number of what it refers to
 --   single-block       its one block
 use mathlib.Core.Path.{_≡_, sym, _∙_, ap, ap₂, subst}
-use mathlib.Core.Logic.{inl}
+use mathlib.Core.Logic.{inl, by-cases}
 use mathlib.Core.List.{List}
 use Prim.Native.Nat.{ℕ, _+_, _*_, _-_, _/_, _%_, _≤_, _<_}
 use native.Mathlib.Nat.{mod-eq-of-lt, add-mod-right, zero-div}
@@ -27,15 +27,13 @@ use Rattle.compare.proofs.Blocks.{inside-matrix}
 use Rattle.compare.specs.Blocks.{block, Based, TakesBlock, rowTo, Uppers, BlockFits, RepFits}
 
 less-back : (m a b : ℕ) → a < m → b < m → (b + less m a b) % m ≡ a
-less-back m a b l h = go (decLt a b)
-  where
-    go : Dec (a < b) → (b + less m a b) % m ≡ a
-    go (yes k) =
-        let e : b + (a + (m - b)) ≡ a + m = omega arith in
-        ap (λ x. (b + x) % m) (sym (less-above m a b k h)) ∙ ap (λ x. x % m) e ∙ add-mod-right a m ∙ mod-eq-of-lt l
-    go (no k) =
-        let e : b + (a - b) ≡ a = omega arith in
-        ap (λ x. (b + x) % m) (sym (less-below m a b (omega arith) l h)) ∙ ap (λ x. x % m) e ∙ mod-eq-of-lt l
+less-back m a b l h = by-cases (decLt a b)
+    (λ k.
+    let e : b + (a + (m - b)) ≡ a + m = omega arith in
+    ap (λ x. (b + x) % m) (sym (less-above m a b k h)) ∙ ap (λ x. x % m) e ∙ add-mod-right a m ∙ mod-eq-of-lt l)
+    (λ k.
+    let e : b + (a - b) ≡ a = omega arith in
+    ap (λ x. (b + x) % m) (sym (less-below m a b (omega arith) l h)) ∙ ap (λ x. x % m) e ∙ mod-eq-of-lt l)
 
 module _ {s : Scope} {T : List ℕ} {D : Listed} {B : Stretch} (O : Based s T D B) (one : D .deg ≡ 1) where
   start-zero : B .start ≡ 0

@@ -6,6 +6,7 @@
 --   shares-free                        a slot
 --   Taking, taking-none, taking-more, taking-all     what is claimed whole, column by column
 use mathlib.Core.Path.{_≡_, refl, sym, _∙_, ap, subst}
+use mathlib.Core.Logic.{by-cases}
 use mathlib.Core.List.{List}
 use Prim.Native.Nat.{ℕ, _+_, _≤_, _<_}
 use native.Mathlib.Decide.{decLt, ℕ-discrete}
@@ -33,11 +34,9 @@ clearing-more {many} {k} {M} l C = record { size = length-set M k 0 ∙ C .size;
     go f h (no e) = getD-set-other M k f 0 0 e ∙ C .free f (omega arith)
 
 pub clearing-all : {many k : ℕ} {M : List ℕ} → many ≤ k → Clearing many k M → Unmarked M
-clearing-all {many} {k} {M} l C f = go (decLt f many)
-  where
-    go : Dec (f < many) → getD M f 0 ≡ 0
-    go (yes h) = C .free f (omega arith)
-    go (no h) = List·getD-eq-default M 0 {n = f} (omega (arith, C .size))
+clearing-all {many} {k} {M} l C f = by-cases (decLt f many)
+    (λ h. C .free f (omega arith))
+    (λ h. List·getD-eq-default M 0 {n = f} (omega (arith, C .size)))
 
 -- ---- Marks that stay
 
@@ -45,11 +44,9 @@ pub kept-same : (M : List ℕ) → StaysMarked M M
 kept-same M f h = refl
 
 pub kept-set : (M : List ℕ) (f x : ℕ) → f < length M → (¬ (getD M f 0 ≡ 0) → x ≡ getD M f 0) → StaysMarked M (set M f x)
-kept-set M f x l h k n = go (ℕ-discrete k f)
-  where
-    go : Dec (k ≡ f) → getD (set M f x) k 0 ≡ getD M k 0
-    go (yes e) = subst (λ k. ¬ (getD M k 0 ≡ 0) → getD (set M f x) k 0 ≡ getD M k 0) (sym e) (λ n. getD-set-same M f x 0 l ∙ h n) n
-    go (no e) = getD-set-other M f k x 0 e
+kept-set M f x l h k n = by-cases (ℕ-discrete k f)
+    (λ e. subst (λ k. ¬ (getD M k 0 ≡ 0) → getD (set M f x) k 0 ≡ getD M k 0) (sym e) (λ n. getD-set-same M f x 0 l ∙ h n) n)
+    (λ e. getD-set-other M f k x 0 e)
 
 kept-more : (M N O : List ℕ) → StaysMarked M N → StaysMarked N O → StaysMarked M O
 kept-more M N O k k′ f n = let e = k f n in k′ f (λ z. n (sym e ∙ z)) ∙ e
@@ -113,12 +110,9 @@ module _ {D : Rep} {M N O : List ℕ} {last f c : ℕ} (H : Taking D M N last c)
       go (no e) (no z) = absurd (z (sym (H .kept f z) ∙ t .free e))
 
   is-marked : getD O f 0 ≡ 2
-  is-marked = go (ℕ-discrete f last)
-    where
-      go : Dec (f ≡ last) → getD O f 0 ≡ 2
-      go (yes e) =
-          ap (λ (L : List ℕ). getD L f 0) (t .again e) ∙ subst (λ k. getD N k 0 ≡ 2) (sym e) (H .last-marked (omega (arith, e, t .inside)))
-      go (no e) = t .marked e
+  is-marked = by-cases (ℕ-discrete f last)
+      (λ e. ap (λ (L : List ℕ). getD L f 0) (t .again e) ∙ subst (λ k. getD N k 0 ≡ 2) (sym e) (H .last-marked (omega (arith, e, t .inside))))
+      (λ e. t .marked e)
 
   stays : (k : ℕ) → k < c → getD O (D .ref 0 k) 0 ≡ 2
   stays k l = let e = H .marked k l in t .kept (D .ref 0 k) (λ z. omega (arith, e, z)) ∙ e

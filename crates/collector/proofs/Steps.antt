@@ -14,6 +14,7 @@
 --   scaled-zero, scaled-more                   a power times a form: exponent 0; the general case
 --   conjugate-moves                            the general step
 use mathlib.Core.Path.{_≡_, refl, sym, _∙_, ap, ap₂, subst}
+use mathlib.Core.Logic.{by-cases}
 use mathlib.Core.Bool.{true}
 use mathlib.Core.List.{List, []}
 use Prim.Native.Nat.{ℕ, zero, suc, _+_, _*_, _%_, _-_, _≤_, _<_}
@@ -221,18 +222,16 @@ module _ (k : ℕ) (ps : List ℕ) (rows : List (List ℕ)) (x y s : List ℕ) (
   }
 
   product-single : getD s k 0 ≡ (getD x k 0 + getD y k 0) % getD ps k 0 → Product (suc k) ps rows x y s
-  product-single e = go (decLt (getD x k 0 + getD y k 0) (getD ps k 0))
-    where
-      go : Dec (getD x k 0 + getD y k 0 < getD ps k 0) → Product (suc k) ps rows x y s
-      go (yes l) = single-is _ l (e ∙ mod-eq-of-lt l) (λ C R. sym (mul-top-below C k (getD x k 0) (getD y k 0) (trivial k) (trivial-valid C k) (omega (arith, R .p-is k (omega arith)))))
-      go (no l) =
-          let h : getD ps k 0 ≤ getD x k 0 + getD y k 0 = omega arith in
-          let b : getD x k 0 + getD y k 0 - getD ps k 0 < getD ps k 0 = omega arith in
-          single-is _ b (e ∙ mod-eq-sub-mod h ∙ mod-eq-of-lt b)
-          (λ C R. sym (mul-top-over C k (getD x k 0) (getD y k 0) (trivial k) (trivial-valid C k) (omega (arith, R .p-is k (omega arith)))
-          ∙ ap₂ (λ p u. (getD x k 0 + getD y k 0 - p, mul (C .P) k u (trivial k))) (sym (R .p-is k (omega arith)))
-          (sym (R .u-is k (omega arith)) ∙ toNF-trivial k _ (λ m a. none .rest m (omega arith) a))
-          ∙ ap (λ u. (getD x k 0 + getD y k 0 - getD ps k 0, u)) (mul-trivial-right C k (trivial k) (trivial-valid C k))))
+  product-single e = by-cases (decLt (getD x k 0 + getD y k 0) (getD ps k 0))
+      (λ l. single-is _ l (e ∙ mod-eq-of-lt l) (λ C R. sym (mul-top-below C k (getD x k 0) (getD y k 0) (trivial k) (trivial-valid C k) (omega (arith, R .p-is k (omega arith))))))
+      (λ l.
+      let h : getD ps k 0 ≤ getD x k 0 + getD y k 0 = omega arith in
+      let b : getD x k 0 + getD y k 0 - getD ps k 0 < getD ps k 0 = omega arith in
+      single-is _ b (e ∙ mod-eq-sub-mod h ∙ mod-eq-of-lt b)
+      (λ C R. sym (mul-top-over C k (getD x k 0) (getD y k 0) (trivial k) (trivial-valid C k) (omega (arith, R .p-is k (omega arith)))
+      ∙ ap₂ (λ p u. (getD x k 0 + getD y k 0 - p, mul (C .P) k u (trivial k))) (sym (R .p-is k (omega arith)))
+      (sym (R .u-is k (omega arith)) ∙ toNF-trivial k _ (λ m a. none .rest m (omega arith) a))
+      ∙ ap (λ u. (getD x k 0 + getD y k 0 - getD ps k 0, u)) (mul-trivial-right C k (trivial k) (trivial-valid C k)))))
 
 -- powers of a form of one generator, m - 1, whose power word is empty
 module _ {i m : ℕ} {ps : List ℕ} {rows : List (List ℕ)} {x : List ℕ} (ready : Ranged i ps rows) (sx : Small i ps x) (over : Top i x m)

@@ -13,7 +13,7 @@
 --   Blocking                         the blocks before a column
 --   blocking-none, blocking-more, blocking-all, blocking-room       the steps of the loop
 use mathlib.Core.Path.{_≡_, sym, _∙_, ap, ap₂, subst}
-use mathlib.Core.Logic.{_⊎_, inl, inr}
+use mathlib.Core.Logic.{_⊎_, inl, inr, by-cases}
 use mathlib.Core.List.{List}
 use Prim.Native.Nat.{ℕ, suc, _+_, _*_, _/_, _≤_, _<_}
 use native.Mathlib.Nat.{mul-le-mul-right, div-eq-of-lt}
@@ -182,11 +182,9 @@ module _ {s : Scope} {T : List ℕ} {g : Stage} {D : Listed} {w : ℕ} where
     blocking-room W l = go (W .split)
       where
         times : (q : ℕ) → D .deg ≡ q * w → o + w ≤ D .deg
-        times q e = enough (decLt (h .many) q)
-          where
-            enough : Dec (h .many < q) → o + w ≤ D .deg
-            enough (yes b) = let z : suc (h .many) * w ≤ q * w = mul-le-mul-right w b in omega (arith, h .at, e, z)
-            enough (no b) = let z : q * w ≤ h .many * w = mul-le-mul-right w (omega arith) in absurd (omega (arith, h .at, e, z, l))
+        times q e = by-cases (decLt (h .many) q)
+            (λ b. let z : suc (h .many) * w ≤ q * w = mul-le-mul-right w b in omega (arith, h .at, e, z))
+            (λ b. let z : q * w ≤ h .many * w = mul-le-mul-right w (omega arith) in absurd (omega (arith, h .at, e, z, l)))
 
         go : (D .deg ≡ w) ⊎ ((D .deg ≡ g .p * w) × ¬ (targetIn T (W .first) (g .top) ≡ wordAt T (D .line) REF)) → o + w ≤ D .deg
         go (inl e) = times 1 (omega (arith, e))

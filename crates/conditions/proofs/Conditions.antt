@@ -8,7 +8,7 @@
 --   primes-none, primes-more, primes-all      the primes of the first generators
 --   orders-none, orders-more, orders-all, orders-are     the orders of the levels
 use mathlib.Core.Path.{_≡_, refl, sym, ap, ap₂, subst, _∙_}
-use mathlib.Core.Logic.{_≢_}
+use mathlib.Core.Logic.{_≢_, by-cases}
 use mathlib.Core.Bool.{Bool, true, false, _&&_, _||_}
 use mathlib.Core.List.{List, []}
 use Prim.Native.Nat.{ℕ, zero, suc, _+_, _*_, _<_, _≤_}
@@ -45,16 +45,15 @@ product-order P primes n is zero l = refl
 product-order P primes n is (suc m) l = ap₂ (λ (a b : ℕ). a * b) (is m l) (product-order P primes n is m (omega arith))
 
 pub product-mono : (primes : List ℕ) (m n : ℕ) → m ≤ n → ((j : ℕ) → j < n → 0 < getD primes j 0) → product primes m ≤ product primes n
-product-mono primes m zero l h = subst (λ (k : ℕ). product primes k ≤ product primes 0) zero-is (omega arith)
-  where
-    zero-is : 0 ≡ m
-    zero-is = omega arith
-product-mono primes m (suc n) l h = pick (ℕ-discrete m (suc n)) (λ k. product-mono primes m n k (λ j b. h j (omega arith)))
-  where
-    pick : Dec (m ≡ suc n) → (m ≤ n → product primes m ≤ product primes n) → product primes m ≤ product primes (suc n)
-    pick (yes q) rec = subst (λ (k : ℕ). product primes k ≤ product primes (suc n)) (sym q) (omega arith)
-    pick (no q) rec =
-        omega (arith, rec (omega arith), product-suc primes n, mul-le-mul-right {m = 1} {n = getD primes n 0} (product primes n) (h n (omega arith)))
+product-mono primes m zero l h = let e : m ≡ 0 = omega arith in omega (arith, ap (product primes) e)
+product-mono primes m (suc n) l h = by-cases (ℕ-discrete m (suc n))
+    (λ q. omega (arith, ap (product primes) q))
+    (λ q. omega (
+      arith,
+      product-mono primes m n (omega arith) (λ j b. h j (omega arith)),
+      product-suc primes n,
+      mul-le-mul-right {m = 1} {n = getD primes n 0} (product primes n) (h n (omega arith)),
+    ))
 
 -- one prime more
 pub product-turn : (primes : List ℕ) (j x y : ℕ) → x ≡ product primes j → y ≡ getD primes j 0 → x * y ≡ product primes (j + 1)

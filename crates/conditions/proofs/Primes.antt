@@ -6,6 +6,7 @@
 --   prime-tried            none up to the root: prime
 --   square-fits, root-below, root-less   bounds of the trial divisors
 use mathlib.Core.Path.{_≡_, refl, sym, ap, _∙_}
+use mathlib.Core.Logic.{by-cases}
 use mathlib.Core.Bool.{Bool, true, false, _&&_, _||_, not, false≢true}
 use Prim.Native.Nat.{ℕ, zero, suc, _+_, _*_, _/_, _%_, _<_, _≤_}
 use native.Mathlib.Nat.{div-add-mod', mul-le-mul, mul-mod-left, mul-comm}
@@ -46,11 +47,7 @@ pub tried-none : (p : ℕ) → Tried p 2
 tried-none p e a b q = omega arith
 
 pub tried-more : (p d : ℕ) → Tried p d → (p % d ≡ 0 → ⊥) → Tried p (d + 1)
-tried-more p d h n e a b q = pick (ℕ-discrete e d)
-  where
-    pick : Dec (e ≡ d) → ⊥
-    pick (yes s) = n (ap (λ (k : ℕ). p % k) (sym s) ∙ q)
-    pick (no s) = h e a (omega arith) q
+tried-more p d h n e a b q = by-cases (ℕ-discrete e d) (λ s. n (ap (λ (k : ℕ). p % k) (sym s) ∙ q)) (λ s. h e a (omega arith) q)
 
 -- the other factor of a divisor from d on lies below d
 pub prime-tried : (p d : ℕ) → 2 ≤ p → Tried p d → p < d * d → isPrime p ≡ true
@@ -89,11 +86,9 @@ square-fits d l = omega (arith, mul-le-mul {n₁ = d} {m₁ = d} {n₂ = 31623} 
 
 pub root-below : (p d : ℕ) → p ≤ largest → d * d ≤ p → d < 31623
 unfolding largest
-root-below p d h l = pick (decLt d 31623)
-  where
-    pick : Dec (d < 31623) → d < 31623
-    pick (yes m) = m
-    pick (no m) = absurd (omega (arith, mul-le-mul {n₁ = 31623} {m₁ = 31623} {n₂ = d} {m₂ = d} (omega arith) (omega arith)))
+root-below p d h l = by-cases (decLt d 31623)
+    (λ m. m)
+    (λ m. absurd (omega (arith, mul-le-mul {n₁ = 31623} {m₁ = 31623} {n₂ = d} {m₂ = d} (omega arith) (omega arith))))
 
 pub root-less : (p d : ℕ) → 2 ≤ d → d * d ≤ p → d < p
 root-less p d a l = omega (arith, mul-le-mul {n₁ = 2} {m₁ = d} {n₂ = d} {m₂ = d} a (omega arith))

@@ -6,7 +6,7 @@
 --   sized-short, sized-done    16, or the table
 --   build-sized           and so for the text that says the relations
 use mathlib.Core.Path.{_≡_, refl, sym, ap, subst, _∙_}
-use mathlib.Core.Logic.{inl, inr}
+use mathlib.Core.Logic.{inl, inr, by-cases}
 use mathlib.Core.List.{List, _++_}
 use Prim.Native.Nat.{ℕ, _+_, _*_, _/_, _≤_, _<_}
 use native.Mathlib.Nat.{mul-div-right}
@@ -81,7 +81,19 @@ module _ {o : Outcome} {rows : List (List ℕ)} {s : Size} (M : Measured (o .pri
 
 pub build-sized : {t : Bytes} {o : Outcome} {rows : List (List ℕ)} {before after : List ℕ} {answer count : ℕ} → AcceptedText t o rows → o .status ≡ 0
     → Sized o rows before answer count after → Build t before answer count after
-build-sized {t} {o} {rows} {before} {after} {answer} {count} a zero z = go (decLt (length before) (buildWords (presentation R)))
+build-sized {t} {o} {rows} {before} {after} {answer} {count} a zero z = by-cases (decLt (length before) (buildWords (presentation R)))
+    (λ l.
+    let d = z .short R (said .2) l in
+    record {
+      answered = first-behind (short t (length before)) answer (presentationRefusals t) none (inl ((R, said .1, l), d .0));
+      leaves = record { finished = λ e. absurd (omega (arith, d .0)); refused = λ n. (d .1, d .2) };
+    })
+    (λ l.
+    let d = z .done R (said .2) (omega arith) in
+    record {
+      answered = first-behind (short t (length before)) answer (presentationRefusals t) none (inr (enough l, d .0));
+      leaves = record { finished = λ e. (R, said .1, (d .1 .lines, d .1 .words)); refused = λ n. absurd (n (d .0)) };
+    })
   where
     said : says t (λ (R : Relations). Confirmed R o rows)
     said = a .sound zero
@@ -94,17 +106,3 @@ build-sized {t} {o} {rows} {before} {after} {answer} {count} a zero z = go (decL
 
     enough : ¬ (length before < buildWords (presentation R)) → ¬ says t (λ (Q : Relations). length before < buildWords (presentation Q))
     enough h (Q, q, l) = h (subst (λ (x : Relations). length before < buildWords (presentation x)) (says-unique t Q R q (said .1)) l)
-
-    go : Dec (length before < buildWords (presentation R)) → Build t before answer count after
-    go (yes l) =
-        let d = z .short R (said .2) l in
-        record {
-          answered = first-behind (short t (length before)) answer (presentationRefusals t) none (inl ((R, said .1, l), d .0));
-          leaves = record { finished = λ e. absurd (omega (arith, d .0)); refused = λ n. (d .1, d .2) };
-        }
-    go (no l) =
-        let d = z .done R (said .2) (omega arith) in
-        record {
-          answered = first-behind (short t (length before)) answer (presentationRefusals t) none (inr (enough l, d .0));
-          leaves = record { finished = λ e. (R, said .1, (d .1 .lines, d .1 .words)); refused = λ n. absurd (n (d .0)) };
-        }

@@ -11,7 +11,7 @@
 --   reach                         every block is reached from every other
 use mathlib.Core.Path.{_≡_, sym, _∙_, ap, subst}
 use mathlib.Core.HLevel.{Σ-prop-path}
-use mathlib.Core.Logic.{_⊎_, inl, inr}
+use mathlib.Core.Logic.{_⊎_, inl, inr, by-cases}
 use Prim.Native.Nat.{ℕ, zero, suc, _≤_, _<_}
 use native.Mathlib.Bridge.{le-prop}
 use native.Mathlib.Omega.{arith}
@@ -158,15 +158,7 @@ module _ (W : Fitted) where
         sym s ∙ ap (λ l. iter (turn u) l 0) same ∙ s′
 
   pub part-one : (u : Up) (k k′ : ℕ) → k < count u → k′ < count u → part u k ≡ part u k′ → k ≡ k′
-  part-one u k k′ h h′ e = go (ℕ-discrete (count u) 1)
-    where
-      go : Dec (count u ≡ 1) → k ≡ k′
-      go (yes o) = omega arith
-      go (no o) = moved-one u o k k′ h h′ e
+  part-one u k k′ h h′ e = by-cases (ℕ-discrete (count u) 1) (λ o. omega arith) (λ o. moved-one u o k k′ h h′ e)
 
   pub reach : (u : Up) (k b : ℕ) → k < count u → b < count u → (l : ℕ) × (iter (turn u) l k ≡ b)
-  reach u k b h h′ = go (ℕ-discrete (count u) 1)
-    where
-      go : Dec (count u ≡ 1) → (l : ℕ) × (iter (turn u) l k ≡ b)
-      go (yes e) = (0, iter-zero (turn u) k ∙ omega arith)
-      go (no e) = moved-reach u e k b h h′
+  reach u k b h h′ = by-cases (ℕ-discrete (count u) 1) (λ e. (0, iter-zero (turn u) k ∙ omega arith)) (λ e. moved-reach u e k b h h′)

@@ -7,6 +7,7 @@
 --   scalar-is                     the scalar of a block is that of its reference times the root of the number
 --   same-block                    reference and number tell a block
 use mathlib.Core.Path.{_≡_, refl, sym, _∙_, ap, ap₂, subst}
+use mathlib.Core.Logic.{by-cases}
 use Prim.Native.Nat.{ℕ, _+_, _*_, _-_, _<_}
 use native.Mathlib.Nat.{zero-mul}
 use native.Mathlib.Omega.{arith}
@@ -77,21 +78,17 @@ module _ (W : Fitted) where
   Apart u v = (count W u ≡ 1) × (count W v ≡ 1) × ¬ (scalar W u i 0 ≡ scalar W v i 0)
 
   shared : (u v : Up W) (k k′ : ℕ) → k < count W u → k′ < count W v → part W u k ≡ part W v k′ → ¬ Apart u v → (u ≡ v) × (k ≡ k′)
-  shared u v k k′ h h′ e na = go (ℕ-discrete (u .0) (v .0))
-    where
-      go : Dec (u .0 ≡ v .0) → (u ≡ v) × (k ≡ k′)
-      go (yes q) =
-          let s : u ≡ v = up-path W u v q in
-          (s, part-one W u k k′ h (subst (λ u. k′ < count W u) (sym s) h′) (e ∙ ap (λ u. part W u k′) (sym s)))
-      go (no q) =
-          let (a, b, ne) = fits .unshared (u .0) (v .0) (u .1) (v .1) q k k′ h h′ e in
-          let f : part W u 0 ≡ part W v 0 = ap (part W u) (sym (one-zero W u k a h)) ∙ e ∙ ap (part W v) (one-zero W v k′ b h′) in
-          absurd (na (
-            a,
-            b,
-            λ s. ne (exp-zero u (omega arith) ∙ ap₂ (λ f (t : Residue m). (add ((F .X i (first R f)) .1) t) .0) f s
-                ∙ sym (exp-zero v (omega arith))),
-          ))
+  shared u v k k′ h h′ e na = by-cases (ℕ-discrete (u .0) (v .0))
+      (λ q. let s : u ≡ v = up-path W u v q in (s, part-one W u k k′ h (subst (λ u. k′ < count W u) (sym s) h′) (e ∙ ap (λ u. part W u k′) (sym s))))
+      (λ q.
+      let (a, b, ne) = fits .unshared (u .0) (v .0) (u .1) (v .1) q k k′ h h′ e in
+      let f : part W u 0 ≡ part W v 0 = ap (part W u) (sym (one-zero W u k a h)) ∙ e ∙ ap (part W v) (one-zero W v k′ b h′) in
+      absurd (na (
+        a,
+        b,
+        λ s. ne (exp-zero u (omega arith) ∙ ap₂ (λ f (t : Residue m). (add ((F .X i (first R f)) .1) t) .0) f s
+            ∙ sym (exp-zero v (omega arith))),
+      )))
 
   moved-same : (u v : Up W) (k k′ : ℕ) → k < count W u → k′ < count W v → part W u k ≡ part W v k′
       → ¬ (τ R (part W u k) ≡ part W u k) → (u ≡ v) × (k ≡ k′)
@@ -223,11 +220,9 @@ module _ (W : Fitted) where
       go (no a) = refl
 
   pub number-small : (u : Up W) → number u < p (W .R)
-  number-small u = go (ℕ-discrete (count W u) 1)
-    where
-      go : Dec (count W u ≡ 1) → number u < p R
-      go (yes e) = subst (λ z. z < p R) (sym (number-one u e)) (log-below m pos parts (excess u))
-      go (no e) = subst (λ z. z < p R) (sym (number-many u e)) (omega (arith, T .context .two i))
+  number-small u = by-cases (ℕ-discrete (count W u) 1)
+      (λ e. subst (λ z. z < p R) (sym (number-one u e)) (log-below m pos parts (excess u)))
+      (λ e. subst (λ z. z < p R) (sym (number-many u e)) (omega (arith, T .context .two i)))
 
   -- p times the scalar of one block, and p times that of its reference, both undo the defect
   module _ (u : Up W) (e : count W u ≡ 1) where
@@ -275,11 +270,9 @@ module _ (W : Fitted) where
     scalar-one = sym (ap (add s) (ap (λ k. times (E R) k ε) (number-one u e) ∙ log-times m pos parts (excess u) excess-root) ∙ over s t)
 
   pub scalar-is : (u : Up W) (k : ℕ) → k < count W u → scalar W u (W .R .i) k ≡ E (W .R) .add (σ (part W u k)) (times (E (W .R)) (number u) ε)
-  scalar-is u k l = go (ℕ-discrete (count W u) 1)
-    where
-      go : Dec (count W u ≡ 1) → scalar W u i k ≡ add (σ (part W u k)) (times (E R) (number u) ε)
-      go (yes e) = subst (λ k. scalar W u i k ≡ add (σ (part W u k)) (times (E R) (number u) ε)) (sym (one-zero W u k e l)) (scalar-one u e)
-      go (no e) = sym (ap₂ add (σ-part u k l (moved-part W u e k l)) (ap (λ k. times (E R) k ε) (number-many u e) ∙ total-zero (E R) (λ k. ε)) ∙ idr (E R) _)
+  scalar-is u k l = by-cases (ℕ-discrete (count W u) 1)
+      (λ e. subst (λ k. scalar W u i k ≡ add (σ (part W u k)) (times (E R) (number u) ε)) (sym (one-zero W u k e l)) (scalar-one u e))
+      (λ e. sym (ap₂ add (σ-part u k l (moved-part W u e k l)) (ap (λ k. times (E R) k ε) (number-many u e) ∙ total-zero (E R) (λ k. ε)) ∙ idr (E R) _))
 
   pub same-block : (u v : Up W) (k k′ : ℕ) → k < count W u → k′ < count W v → part W u k ≡ part W v k′ → number u ≡ number v → (u ≡ v) × (k ≡ k′)
   same-block u v k k′ l l′ e n =

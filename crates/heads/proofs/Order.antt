@@ -8,6 +8,7 @@
 --   complete-next         and the next representation begins behind them
 --   Last, complete-last, complete-end     the line before a level ends says how many representations it has
 use mathlib.Core.Path.{_≡_, sym, _∙_, ap, ap₂, subst}
+use mathlib.Core.Logic.{by-cases}
 use mathlib.Core.Bool.{Bool, true, false, _&&_, _||_, false≢true}
 use mathlib.Core.List.{List}
 use Prim.Native.Nat.{ℕ, zero, suc, _+_, _*_, _-_, _≤_, _<_}
@@ -80,19 +81,15 @@ module _ (n : ℕ) (positive : 0 < n) (T : List ℕ) (H : Headed n T) where
 
   first-rises : (k q r : ℕ) → q ≤ r → at k q ≤ at k r
   first-rises k q zero l = let e : q ≡ zero = omega arith in omega (arith, ap (at k) e)
-  first-rises k q (suc r) l = go (decLt q (suc r)) (λ h. first-rises k q r h)
-    where
-      go : Dec (q < suc r) → (q ≤ r → at k q ≤ at k r) → at k q ≤ at k (suc r)
-      go (yes h) rec = omega (arith, rec (omega arith), first-suc n T (base k) r)
-      go (no h) rec = let e : q ≡ suc r = omega arith in omega (arith, ap (at k) e)
+  first-rises k q (suc r) l = by-cases (decLt q (suc r))
+      (λ h. omega (arith, first-rises k q r (omega arith), first-suc n T (base k) r))
+      (λ h. let e : q ≡ suc r = omega arith in omega (arith, ap (at k) e))
 
   base-rises : (j k : ℕ) → j ≤ k → base j ≤ base k
   base-rises j zero l = let e : j ≡ zero = omega arith in omega (arith, ap base e)
-  base-rises j (suc k) l = go (decLt j (suc k)) (λ h. base-rises j k h)
-    where
-      go : Dec (j < suc k) → (j ≤ k → base j ≤ base k) → base j ≤ base (suc k)
-      go (yes h) rec = omega (arith, rec (omega arith), base-suc n T (H .count) k, first-rises k 0 (H .count k) (omega arith), first-zero n T (base k))
-      go (no h) rec = let e : j ≡ suc k = omega arith in omega (arith, ap base e)
+  base-rises j (suc k) l = by-cases (decLt j (suc k))
+      (λ h. omega (arith, base-rises j k (omega arith), base-suc n T (H .count) k, first-rises k 0 (H .count k) (omega arith), first-zero n T (base k)))
+      (λ h. let e : j ≡ suc k = omega arith in omega (arith, ap base e))
 
   -- a line in representation q of level suc j
   record In (l j q : ℕ) : Type 0 where
@@ -136,11 +133,8 @@ module _ (n : ℕ) (positive : 0 < n) (T : List ℕ) (H : Headed n T) where
     low l j q h I (no a) (no b) =
         let e : j ≡ k = omega arith in
         let f : at k q ≤ l = subst (λ j. at j q ≤ l) e (I .from) in
-        before-rep T (suc k) r l (omega (arith, I .level)) (go (decLt q r) f)
-      where
-        go : Dec (q < r) → at k q ≤ l → wordAt T l REP < r
-        go (yes c) f = omega (arith, I .rep)
-        go (no c) f = absurd (omega (arith, f, first-rises k r q (omega arith)))
+        before-rep T (suc k) r l (omega (arith, I .level))
+        (by-cases (decLt q r) (λ c. omega (arith, I .rep)) (λ c. absurd (omega (arith, f, first-rises k r q (omega arith)))))
 
     high : (l j q : ℕ) → at k r ≤ l → In l j q → Dec (j < k) → Dec (k < j) → before T (suc k) r l ≡ false
     high l j q h I (yes a) b = absurd (omega (arith, I .to, ends-before j q k a (I .q-below), begins-behind k r))
@@ -148,11 +142,8 @@ module _ (n : ℕ) (positive : 0 < n) (T : List ℕ) (H : Headed n T) where
     high l j q h I (no a) (no b) =
         let e : j ≡ k = omega arith in
         let f : l < at k (suc q) = subst (λ j. l < at j (suc q)) e (I .to) in
-        behind-rep T (suc k) r l (omega (arith, I .level)) (go (decLt q r) f)
-      where
-        go : Dec (q < r) → l < at k (suc q) → r ≤ wordAt T l REP
-        go (yes c) f = absurd (omega (arith, f, first-rises k (suc q) r c))
-        go (no c) f = omega (arith, I .rep)
+        behind-rep T (suc k) r l (omega (arith, I .level))
+        (by-cases (decLt q r) (λ c. absurd (omega (arith, f, first-rises k (suc q) r c))) (λ c. omega (arith, I .rep)))
 
     headed-split : Split T (suc k) r (at k r)
     headed-split = record {

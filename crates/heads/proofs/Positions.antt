@@ -4,6 +4,7 @@
 --   first-zero, first-suc, base-zero, base-suc     where representations and levels begin
 --   Position, position      every line is that of a column
 use mathlib.Core.Path.{_≡_, refl, sym, subst}
+use mathlib.Core.Logic.{by-cases}
 use mathlib.Core.List.{List}
 use Prim.Native.Nat.{ℕ, zero, suc, _+_, _*_, _-_, _/_, _%_, _≤_, _<_}
 use native.Mathlib.Nat.{mod-lt, mod-add-div', div-lt-iff-lt-mul}
@@ -20,11 +21,9 @@ pub record Between (f : ℕ → ℕ) (N x : ℕ) : Type 0 where
 
 pub between : (f : ℕ → ℕ) (N x : ℕ) → f 0 ≤ x → x < f N → Between f N x
 between f zero x a b = absurd (omega arith)
-between f (suc N) x a b = go (decLt x (f N)) (between f N x a)
-  where
-    go : Dec (x < f N) → (x < f N → Between f N x) → Between f (suc N) x
-    go (yes h) rec = let o = rec h in record { s = o .s; below = omega (arith, o .below); from = o .from; to = o .to }
-    go (no h) rec = record { s = N; below = omega arith; from = omega arith; to = b }
+between f (suc N) x a b = by-cases (decLt x (f N))
+    (λ h. let o = between f N x a h in record { s = o .s; below = omega (arith, o .below); from = o .from; to = o .to })
+    (λ h. record { s = N; below = omega arith; from = omega arith; to = b })
 
 pub first-suc : (n : ℕ) (T : List ℕ) (b r : ℕ) → firstFrom n T b (suc r) ≡ firstFrom n T b r + n * wordAt T (firstFrom n T b r) DEG
 unfolding firstFrom

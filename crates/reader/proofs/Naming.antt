@@ -9,6 +9,7 @@
 --   names-unstarted, names-refuse, names-fails, names-other, names-stops    why the line is refused
 --   names-end                 the whole line
 use mathlib.Core.Path.{_≡_, refl, sym, ap, subst, _∙_}
+use mathlib.Core.Logic.{by-cases}
 use mathlib.Core.List.{[], _∷_, _++_, map, map-append, append-assoc, append-nil, append-cancel-left, head-eq-of-cons-eq}
 use Prim.Native.Nat.{ℕ, zero, suc, _+_, _<_, _≤_}
 use native.Mathlib.Numerals.{add-one}
@@ -55,19 +56,13 @@ record Ahead (n m : ℕ) : Type 0 where
 
 names-ahead : (n m : ℕ) → n < m → Ahead n m
 names-ahead n zero l = absurd (omega arith)
-names-ahead n (suc m) l = pick (ℕ-discrete n m) (λ k. names-ahead n m k)
-  where
-    pick : Dec (n ≡ m) → (n < m → Ahead n m) → Ahead n (suc m)
-    pick (yes q) rec =
-        record { others = []; text = ap (λ (k : ℕ). nameTrail (suc k)) (sym q) ∙ sym (append-nil (nameTrail (suc n))); ends = λ s e. e }
-    pick (no q) rec =
-        let a = rec (omega arith) in
-        record {
-          others = a .others ++ 32 ∷ name m;
-          text = nameTrail-suc m ∙ ap (λ (xs : Bytes). xs ++ 32 ∷ name m) (a .text) ∙ append-assoc (nameTrail (suc n)) (a .others) (32 ∷ name m);
-          ends =
-              λ s e. subst Ends (sym (append-assoc (a .others) (32 ∷ name m) s)) (a .ends (32 ∷ name m ++ s) (λ d. omega (arith, d .0)));
-        }
+names-ahead n (suc m) l = by-cases (ℕ-discrete n m)
+    (λ q. record { others = []; text = ap (λ (k : ℕ). nameTrail (suc k)) (sym q) ∙ sym (append-nil (nameTrail (suc n))); ends = λ s e. e })
+    (λ q. let a = names-ahead n m (omega arith) in record {
+      others = a .others ++ 32 ∷ name m;
+      text = nameTrail-suc m ∙ ap (λ (xs : Bytes). xs ++ 32 ∷ name m) (a .text) ∙ append-assoc (nameTrail (suc n)) (a .others) (32 ∷ name m);
+      ends = λ s e. subst Ends (sym (append-assoc (a .others) (32 ∷ name m) s)) (a .ends (32 ∷ name m ++ s) (λ d. omega (arith, d .0)));
+    })
 
 -- name n and the others, where they stand behind the first n
 split : (n m : ℕ) (a : Ahead n m) (s : Bytes) → nameTrail m ++ s ≡ nameTrail n ++ (32 ∷ name n ++ (a .others ++ s))

@@ -6,8 +6,8 @@
 --   reading-none, reading-more  none; one more
 --   reading-below, reading-no-line, reading-over      a line is wanted; it is none; more stands behind the last
 --   reading-end, reading-refused     every line has been read; a line was refused
-use mathlib.Core.Path.{_≡_, refl, sym, ap, _∙_}
-use mathlib.Core.Logic.{_≢_}
+use mathlib.Core.Path.{_≡_, refl, sym, ap, subst, _∙_}
+use mathlib.Core.Logic.{_≢_, by-cases}
 use mathlib.Core.Bool.{Bool, true, false, _&&_, _||_, not, true≢false, false≢true}
 use mathlib.Core.List.{List, [], _∷_, _++_, append-nil}
 use Prim.Native.Nat.{ℕ, suc, _+_, _<_, _≤_}
@@ -34,33 +34,24 @@ use Rattle.reader.proofs.Rows.{pairs-at, NoLine, line-some, rowText-nil
 -- ---- What is kept of a line
 
 module _ {rows : List (List ℕ)} {ps : List ℕ} {k p : ℕ} {e : List ℕ} {rows′ : List (List ℕ)} {ps′ : List ℕ} (h : RowKept rows ps k p e rows′ ps′) where
+  -- what holds of the rows as they were, and with one stored, holds of what is kept
+  of-rows : (Q : List (List ℕ) → Type 0) → Q (set rows k e) → Q rows → Q rows′
+  of-rows Q a b = by-cases (decLt k pairCount) (λ l. subst Q (sym (h .kept-word l)) a) (λ l. subst Q (sym (h .past-word (omega arith))) b)
+
+  of-ps : (Q : List ℕ → Type 0) → Q (set ps k p) → Q ps → Q ps′
+  of-ps Q a b = by-cases (decLt k pairCount) (λ l. subst Q (sym (h .kept-p l)) a) (λ l. subst Q (sym (h .past-p (omega arith))) b)
+
   pub kept-rows-length : length rows′ ≡ length rows
-  kept-rows-length = pick (decLt k pairCount)
-    where
-      pick : Dec (k < pairCount) → length rows′ ≡ length rows
-      pick (yes l) = ap length (h .kept-word l) ∙ length-set rows k e
-      pick (no l) = ap length (h .past-word (omega arith))
+  kept-rows-length = of-rows (λ w. length w ≡ length rows) (length-set rows k e) refl
 
   pub kept-ps-length : length ps′ ≡ length ps
-  kept-ps-length = pick (decLt k pairCount)
-    where
-      pick : Dec (k < pairCount) → length ps′ ≡ length ps
-      pick (yes l) = ap length (h .kept-p l) ∙ length-set ps k p
-      pick (no l) = ap length (h .past-p (omega arith))
+  kept-ps-length = of-ps (λ w. length w ≡ length ps) (length-set ps k p) refl
 
   word-other : (m : ℕ) → m ≢ k → getD rows′ m [] ≡ getD rows m []
-  word-other m n = pick (decLt k pairCount)
-    where
-      pick : Dec (k < pairCount) → getD rows′ m [] ≡ getD rows m []
-      pick (yes l) = ap (λ (w : List (List ℕ)). getD w m []) (h .kept-word l) ∙ getD-set-other rows k m e [] n
-      pick (no l) = ap (λ (w : List (List ℕ)). getD w m []) (h .past-word (omega arith))
+  word-other m n = of-rows (λ w. getD w m [] ≡ getD rows m []) (getD-set-other rows k m e [] n) refl
 
   p-other : (m : ℕ) → m ≢ k → getD ps′ m 0 ≡ getD ps m 0
-  p-other m n = pick (decLt k pairCount)
-    where
-      pick : Dec (k < pairCount) → getD ps′ m 0 ≡ getD ps m 0
-      pick (yes l) = ap (λ (w : List ℕ). getD w m 0) (h .kept-p l) ∙ getD-set-other ps k m p 0 n
-      pick (no l) = ap (λ (w : List ℕ). getD w m 0) (h .past-p (omega arith))
+  p-other m n = of-ps (λ w. getD w m 0 ≡ getD ps m 0) (getD-set-other ps k m p 0 n) refl
 
   pub stored-one : (lines : List Row) (row : Row) → length lines ≡ k → length rows ≡ pairCount → length ps ≡ pairCount → p ≡ row .p
       → ((c : ℕ) → c < maxGenerators → getD e c 0 ≡ getD (row .word) c 0) → RowsStored lines rows ps → RowsStored (lines ++ (row ∷ [])) rows′ ps′
@@ -98,11 +89,9 @@ pub passes-prime : (j i p : ℕ) → passes j i p ≡ true → i ≡ j → isPri
 passes-prime j i p h q = sym (ap (λ (b : Bool). not b || isPrime p) (eq-eqb i j q)) ∙ h
 
 pub passes-composite : (j i p : ℕ) → passes j i p ≡ false → (i ≡ j) × (isPrime p ≡ false)
-passes-composite j i p h = pick (ℕ-discrete i j)
-  where
-    pick : Dec (i ≡ j) → (i ≡ j) × (isPrime p ≡ false)
-    pick (yes q) = (q, sym (ap (λ (b : Bool). not b || isPrime p) (eq-eqb i j q)) ∙ h)
-    pick (no q) = absurd (true≢false (sym (ap (λ (b : Bool). not b || isPrime p) (ne-eqb i j q)) ∙ h))
+passes-composite j i p h = by-cases (ℕ-discrete i j)
+    (λ q. (q, sym (ap (λ (b : Bool). not b || isPrime p) (eq-eqb i j q)) ∙ h))
+    (λ q. absurd (true≢false (sym (ap (λ (b : Bool). not b || isPrime p) (ne-eqb i j q)) ∙ h)))
 
 -- ---- Reading
 
@@ -128,11 +117,9 @@ unfolding all
 all-nil q = refl
 
 number-least : (j i : ℕ) → i ≤ j → sum j suc ≤ pairNumber j i
-number-least j i l = pick (ℕ-discrete i j)
-  where
-    pick : Dec (i ≡ j) → sum j suc ≤ pairNumber j i
-    pick (yes q) = omega (arith, ap (pairNumber j) q, pairNumber-power j)
-    pick (no q) = omega (arith, pairNumber-commutator j i (omega arith))
+number-least j i l = by-cases (ℕ-discrete i j)
+    (λ q. omega (arith, ap (pairNumber j) q, pairNumber-power j))
+    (λ q. omega (arith, pairNumber-commutator j i (omega arith)))
 
 module _ {t : Bytes} {start n : ℕ} where
   pub reading-none : {rows : List (List ℕ)} {ps : List ℕ} → start ≤ length t → length rows ≡ pairCount → length ps ≡ pairCount
@@ -217,17 +204,14 @@ module _ {t : Bytes} {start n : ℕ} where
 
       primes-more : primes′ ≡ true → (g : ℕ) → g < n → pairNumber g g < k + 1 → isPrime (getD lines′ (pairNumber g g) noRow .p) ≡ true
       unfolding row
-      primes-more q g b c = pick (ℕ-discrete (pairNumber g g) k)
+      primes-more q g b c = by-cases (ℕ-discrete (pairNumber g g) k)
+          (λ w.
+          ap (λ (m : ℕ). isPrime (getD lines′ m noRow .p)) w ∙ ap (λ (r : Row). isPrime (r .p)) row-here
+          ∙ passes-prime j i p (and-right primes (passes j i p) both) (sym (diagonal g b w .1) ∙ diagonal g b w .0))
+          (λ w. ap (λ (r : Row). isPrime (r .p)) (row-other (pairNumber g g) w) ∙ h .prime (and-left primes (passes j i p) both) g b (omega arith))
         where
           both : (primes && passes j i p) ≡ true
           both = sym pq ∙ q
-
-          pick : Dec (pairNumber g g ≡ k) → isPrime (getD lines′ (pairNumber g g) noRow .p) ≡ true
-          pick (yes w) =
-              ap (λ (m : ℕ). isPrime (getD lines′ m noRow .p)) w ∙ ap (λ (r : Row). isPrime (r .p)) row-here
-              ∙ passes-prime j i p (and-right primes (passes j i p) both) (sym (diagonal g b w .1) ∙ diagonal g b w .0)
-          pick (no w) =
-              ap (λ (r : Row). isPrime (r .p)) (row-other (pairNumber g g) w) ∙ h .prime (and-left primes (passes j i p) both) g b (omega arith)
 
       composite-more : primes′ ≡ false → (g : ℕ) × (g < n) × (pairNumber g g < k + 1) × (isPrime (getD lines′ (pairNumber g g) noRow .p) ≡ false)
       unfolding row
@@ -283,12 +267,8 @@ module _ {t : Bytes} {start n : ℕ} where
     reading-end l =
         record {
           stands = λ q. reading-whole l (eqb-true at (length t) q);
-          fails = λ q. reading-over l (pick (ℕ-discrete at (length t)) (eqb-false at (length t) q));
+          fails = λ q. reading-over l (let n = eqb-false at (length t) q in omega (arith, n, h .within));
         }
-      where
-        pick : Dec (at ≡ length t) → (at ≡ length t → ⊥) → at < length t
-        pick (yes q) n = absurd (n q)
-        pick (no q) n = omega (arith, h .within)
 
     pub reading-refused : NoLines t start n → LinesAt t start n rows ps (record { ok = false; primes = primes })
     reading-refused m = record { stands = λ q. absurd (false≢true q); fails = λ q. m }

@@ -7,6 +7,7 @@
 --   lines-ahead, lines-whole     lines that stand before others are the first of them
 --   formed-count, formed-p, formed-small, formed-row      what the form asks of a row
 use mathlib.Core.Path.{_≡_, refl, sym, ap, _∙_}
+use mathlib.Core.Logic.{by-cases}
 use mathlib.Core.Bool.{true, _&&_}
 use mathlib.Core.List.{List, [], _∷_, _++_, flatMap, zipWith, append-assoc, append-nil}
 use Prim.Native.Nat.{ℕ, suc, _+_, _<_, _≤_}
@@ -40,17 +41,15 @@ pair-within n j k l m =
 
 pub pairs-at : (n j i : ℕ) → j < n → i ≤ j → getD (pairs n) (pairNumber j i) (0, 0) ≡ (j, i)
 unfolding pairsOf
-pairs-at n j i l m = pick (ℕ-discrete i j)
-  where
-    pick : Dec (i ≡ j) → getD (pairs n) (pairNumber j i) (0, 0) ≡ (j, i)
-    pick (yes q) =
-        let e : pairNumber j i ≡ sum j suc + 0 = ap (pairNumber j) q ∙ pairNumber-power j ∙ omega arith in
-        ap (λ (k : ℕ). getD (pairs n) k (0, 0)) e ∙ pair-within n j 0 l (omega arith) ∙ (λ o. (j, sym q o))
-    pick (no q) =
-        let s : i < j = omega arith in
-        ap (λ (k : ℕ). getD (pairs n) k (0, 0)) (pairNumber-commutator j i s)
-        ∙ pair-within n j (suc i) l (omega arith)
-        ∙ getD-table (λ k. (j, k)) j i (0, 0) s
+pairs-at n j i l m = by-cases (ℕ-discrete i j)
+    (λ q.
+    let e : pairNumber j i ≡ sum j suc + 0 = ap (pairNumber j) q ∙ pairNumber-power j ∙ omega arith in
+    ap (λ (k : ℕ). getD (pairs n) k (0, 0)) e ∙ pair-within n j 0 l (omega arith) ∙ (λ o. (j, sym q o)))
+    (λ q.
+    let s : i < j = omega arith in
+    ap (λ (k : ℕ). getD (pairs n) k (0, 0)) (pairNumber-commutator j i s)
+    ∙ pair-within n j (suc i) l (omega arith)
+    ∙ getD-table (λ k. (j, k)) j i (0, 0) s)
 
 -- ---- One line
 

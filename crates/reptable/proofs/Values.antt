@@ -7,6 +7,7 @@
 --   line-small            the eight words of a line
 --   table-small           the words of the table
 use mathlib.Core.Path.{_≡_, refl, sym, _∙_, ap, subst}
+use mathlib.Core.Logic.{by-cases}
 use mathlib.Core.Bool.{true}
 use mathlib.Core.List.{List, [], _∷_, _++_}
 use Prim.Native.Nat.{ℕ, zero, suc, _*_, _/_, _%_, _≤_, _<_}
@@ -92,19 +93,9 @@ module _ (A : Accepted) where
         subst (λ x. x < length L) (sym (standsHere .stands .refers g a b r h c e ∙ standsHere .literal g r)) (ref-in A k l g r a b h)
 
     ref-small : (r g c : ℕ) → r < length L → g < n → c < d r → D r .ref g c ≤ m
-    ref-small r g c h a b = go (decLt g (suc k))
-      where
-        go : Dec (g < suc k) → D r .ref g c ≤ m
-        go (yes e) =
-            let q = ref-low r g c h e b in
-            let s = reps-low k (omega arith) in
-            let t = order-le A k (omega arith) in
-            omega arith
-        go (no e) =
-            let q = ref-own r g c h (omega arith) a b in
-            let s = reps-le A k l in
-            let t = order-le A (suc k) l in
-            omega arith
+    ref-small r g c h a b = by-cases (decLt g (suc k))
+        (λ e. let q = ref-low r g c h e b in let s = reps-low k (omega arith) in let t = order-le A k (omega arith) in omega arith)
+        (λ e. let q = ref-own r g c h (omega arith) a b in let s = reps-le A k l in let t = order-le A (suc k) l in omega arith)
 
     -- ---- Lines
 

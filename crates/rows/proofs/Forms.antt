@@ -11,7 +11,7 @@
 --   small-generator, word-small    rows in range: a generator, the word of a pair
 --   reads-small                    rows that a presentation has are in range
 use mathlib.Core.Path.{_≡_, refl, sym, _∙_, ap, ap₂, subst}
-use mathlib.Core.Logic.{_≢_}
+use mathlib.Core.Logic.{_≢_, by-cases}
 use mathlib.Core.Bool.{Bool, true, false, _&&_, cond}
 use mathlib.Core.List.{List, []}
 use Prim.Native.Nat.{ℕ, zero, suc, _*_, _-_, _≤_, _<_}
@@ -54,11 +54,9 @@ same-none x y = refl
 -- ---- Generators
 
 pub zeros : (m : ℕ) → _≡_ {A = ℕ} (getD (replicate maxGenerators 0) m 0) 0
-zeros m = go (decLt m maxGenerators)
-  where
-    go : Dec (m < maxGenerators) → _≡_ {A = ℕ} (getD (replicate maxGenerators 0) m 0) 0
-    go (yes l) = getD-replicate maxGenerators m 0 0 l
-    go (no l) = List·getD-eq-default (replicate maxGenerators 0) 0 {n = m} (omega (arith, length-replicate {A = ℕ} maxGenerators 0))
+zeros m = by-cases (decLt m maxGenerators)
+    (λ l. getD-replicate maxGenerators m 0 0 l)
+    (λ l. List·getD-eq-default (replicate maxGenerators 0) 0 {n = m} (omega (arith, length-replicate {A = ℕ} maxGenerators 0)))
 
 pub single-row : (k a : ℕ) → k < maxGenerators → Single k a (set (replicate maxGenerators 0) k a)
 single-row k a l = record {

@@ -7,6 +7,7 @@
 --   kept-all, kept-then, mixed-kept          what is left of a row: all; after two steps; after a copy
 --   kept-stacked, stored-kept     the same with a store
 use mathlib.Core.Path.{_≡_, refl, sym, _∙_, subst}
+use mathlib.Core.Logic.{by-cases}
 use mathlib.Core.List.{List}
 use Prim.Native.Nat.{ℕ, zero, suc, _+_, _-_, _≤_, _<_}
 use native.Mathlib.Numerals.{add-one}
@@ -18,11 +19,7 @@ use Rattle.numbers.proofs.Lists.{below-suc}
 use Rattle.rows.specs.Rows.{Top, Stacked, Mixed, Kept}
 
 pub scan-more : (Q : ℕ → Type 0) (k i : ℕ) → 0 < k → Q (k - 1) → ((q : ℕ) → k ≤ q → q < i → Q q) → (q : ℕ) → k - 1 ≤ q → q < i → Q q
-scan-more Q k i l t rest q a b = go (ℕ-discrete q (k - 1))
-  where
-    go : Dec (q ≡ k - 1) → Q q
-    go (yes e) = subst Q (sym e) t
-    go (no e) = rest q (omega arith) b
+scan-more Q k i l t rest q a b = by-cases (ℕ-discrete q (k - 1)) (λ e. subst Q (sym e) t) (λ e. rest q (omega arith) b)
 
 pub climb : (Q : ℕ → Type 0) (m i : ℕ) → m ≤ i → ((k : ℕ) → m ≤ k → k < i → Q k → Q (suc k)) → Q m → Q i
 climb Q m zero l step q = let e : m ≡ 0 = omega arith in subst Q e q

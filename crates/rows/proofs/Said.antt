@@ -6,6 +6,7 @@
 --   said-context       it is a context
 --   said-reads         primes and rows are its own, where no word uses a generator that it may not use
 use mathlib.Core.Path.{_≡_, sym, _∙_, subst}
+use mathlib.Core.Logic.{by-cases}
 use mathlib.Core.Bool.{false, cond}
 use mathlib.Core.List.{List, []}
 use Prim.Native.Nat.{ℕ, zero, suc, _≤_, _<_}
@@ -37,11 +38,9 @@ module _ (m : ℕ) (ps : List ℕ) (rows : List (List ℕ)) (r : Ranged m ps row
 
   pub said-two : (j : ℕ) → 1 < said m ps rows .p j
   unfolding said
-  said-two j = go (decLt j m)
-    where
-      go : Dec (j < m) → 1 < cond (ltb j m) (getD ps j 0) 2
-      go (yes l) = subst (λ p. 1 < p) (sym (cond-lt j m (getD ps j 0) 2 l)) (r .two j l)
-      go (no l) = subst (λ p. 1 < p) (sym (cond-ge j m (getD ps j 0) 2 (omega arith))) (omega arith)
+  said-two j = by-cases (decLt j m)
+      (λ l. subst (λ p. 1 < p) (sym (cond-lt j m (getD ps j 0) 2 l)) (r .two j l))
+      (λ l. subst (λ p. 1 < p) (sym (cond-ge j m (getD ps j 0) 2 (omega arith))) (omega arith))
 
   trivial-in : (i : ℕ) → Valid P i (trivial i)
   unfolding trivial
@@ -50,11 +49,9 @@ module _ (m : ℕ) (ps : List ℕ) (rows : List (List ℕ)) (r : Ranged m ps row
 
   -- a choice between two valid forms
   choice : (a b i : ℕ) (x y : NF i) → (a < b → Valid P i x) → Valid P i y → Valid P i (cond (ltb a b) x y)
-  choice a b i x y f g = go (decLt a b)
-    where
-      go : Dec (a < b) → Valid P i (cond (ltb a b) x y)
-      go (yes l) = subst (Valid P i) (sym (cond-lt a b x y l)) (f l)
-      go (no l) = subst (Valid P i) (sym (cond-ge a b x y (omega arith))) g
+  choice a b i x y f g = by-cases (decLt a b)
+      (λ l. subst (Valid P i) (sym (cond-lt a b x y l)) (f l))
+      (λ l. subst (Valid P i) (sym (cond-ge a b x y (omega arith))) g)
 
   row-in : (j i k : ℕ) → i ≤ j → j < m → k ≤ m → Valid P k (toNF k (getD rows (pairNumber j i) []))
   row-in j i k a b c = toNF-valid P k _ (λ e l. subst (λ p. getD (getD rows (pairNumber j i) []) e 0 < p) (prime-is e (omega arith)) (r .word j i a b .below e (omega arith)))

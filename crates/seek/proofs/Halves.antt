@@ -7,6 +7,7 @@
 --   split-first, split-behind         a line that is not before, at the start or behind one that is
 --   before-first, behind-first, before-second     the test of a line
 use mathlib.Core.Path.{_≡_, sym, _∙_, ap, ap₂, subst}
+use mathlib.Core.Logic.{by-cases}
 use mathlib.Core.Bool.{true, false, _&&_, _||_, false≢true}
 use mathlib.Core.List.{List}
 use Prim.Native.Nat.{ℕ, _+_, _*_, _≤_, _<_}
@@ -61,18 +62,10 @@ module _ (T : List ℕ) (i r : ℕ) where
   -- ---- A guess
 
   no-later : (S : Splits T i r) (x : ℕ) → before T i r x ≡ false → S .at ≤ x
-  no-later S x h = go (decLt x (S .at))
-    where
-      go : Dec (x < S .at) → S .at ≤ x
-      go (yes k) = absurd (false≢true (sym h ∙ S .is .low x k))
-      go (no k) = omega arith
+  no-later S x h = by-cases (decLt x (S .at)) (λ k. absurd (false≢true (sym h ∙ S .is .low x k))) (λ k. omega arith)
 
   is-later : (S : Splits T i r) (x : ℕ) → x < lineCount T → before T i r x ≡ true → x < S .at
-  is-later S x l h = go (decLt x (S .at))
-    where
-      go : Dec (x < S .at) → x < S .at
-      go (yes k) = k
-      go (no k) = absurd (false≢true (sym (S .is .high x (omega arith) l) ∙ h))
+  is-later S x l h = by-cases (decLt x (S .at)) (λ k. k) (λ k. absurd (false≢true (sym (S .is .high x (omega arith) l) ∙ h)))
 
   pub split-first : (x : ℕ) → Splits T i r → before T i r x ≡ false → x ≡ 0 → Split T i r x
   split-first x S h e = let z : S .at ≡ x = omega (arith, no-later S x h) in subst (Split T i r) z (S .is)

@@ -6,7 +6,7 @@
 --   CountedLines, counted-none, counted-more, counted-all     bytes 10 up to a position
 --   enough-none, enough-some             room for the lines
 use mathlib.Core.Path.{_≡_, refl, sym, ap, ap₂, subst, _∙_}
-use mathlib.Core.Logic.{_≢_}
+use mathlib.Core.Logic.{_≢_, by-cases}
 use mathlib.Core.Bool.{Bool, true, false, not, cond, false≢true}
 use mathlib.Core.List.{List, [], _∷_, _++_, append-assoc, append-nil, tail-eq-of-cons-eq}
 use Prim.Native.Nat.{ℕ, suc, _+_, _*_, _-_, _/_, _%_, _<_, _≤_}
@@ -156,12 +156,9 @@ module _ {t : Bytes} {start : ℕ} {before : List ℕ} where
     filling-length = ap length (h .stored) ∙ simp (length-append, length-take, length-drop) (omega (arith, h .few, h .room))
 
     pub filling-below : at < length t → k < length (h .table)
-    filling-below l = pick (decLt k (length (h .table)))
-      where
-        pick : Dec (k < length (h .table)) → k < length (h .table)
-        pick (yes b) = b
-        pick (no b) =
-            absurd (nothing-left t at l (h .text ∙ ap (pieces k) (drop-of-length-le (h .table) {i = k} (omega arith)) ∙ pieces-nil k))
+    filling-below l = by-cases (decLt k (length (h .table)))
+        (λ b. b)
+        (λ b. absurd (nothing-left t at l (h .text ∙ ap (pieces k) (drop-of-length-le (h .table) {i = k} (omega arith)) ∙ pieces-nil k)))
 
     here : at < length t → drop at t ≡ decimal (getD (h .table) k 0) ++ separatorOf k ∷ pieces (suc k) (drop (suc k) (h .table))
     here l =
@@ -242,8 +239,6 @@ pub enough-none : (have lines : ℕ) → lines ≡ 0 → true ≡ not (ltb have 
 enough-none have lines q = sym (ap not (le-ltb have (8 * (lines - 1)) (omega arith)))
 
 pub enough-some : (have lines : ℕ) → 0 < lines → leb (lines - 1) (have / 8) ≡ not (ltb have (8 * (lines - 1)))
-enough-some have lines l = pick (decLt have (8 * (lines - 1)))
-  where
-    pick : Dec (have < 8 * (lines - 1)) → leb (lines - 1) (have / 8) ≡ not (ltb have (8 * (lines - 1)))
-    pick (yes m) = lt-leb (lines - 1) (have / 8) (omega arith) ∙ sym (ap not (lt-ltb have (8 * (lines - 1)) m))
-    pick (no m) = le-leb (lines - 1) (have / 8) (omega arith) ∙ sym (ap not (le-ltb have (8 * (lines - 1)) (omega arith)))
+enough-some have lines l = by-cases (decLt have (8 * (lines - 1)))
+    (λ m. lt-leb (lines - 1) (have / 8) (omega arith) ∙ sym (ap not (lt-ltb have (8 * (lines - 1)) m)))
+    (λ m. le-leb (lines - 1) (have / 8) (omega arith) ∙ sym (ap not (le-ltb have (8 * (lines - 1)) (omega arith))))

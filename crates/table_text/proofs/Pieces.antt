@@ -7,7 +7,7 @@
 --   names, names-line        the bytes of the names line
 --   newlines-nil, newlines-cons, newlines-table     how many bytes 10 a table text has
 use mathlib.Core.Path.{_≡_, refl, sym, ap, ap₂, subst, _∙_}
-use mathlib.Core.Logic.{_≢_}
+use mathlib.Core.Logic.{_≢_, by-cases}
 use mathlib.Core.Bool.{cond}
 use mathlib.Core.List.{List, [], _∷_, _++_, map, flatMap, map-append, append-assoc, tail-eq-of-cons-eq}
 use Prim.Native.Nat.{ℕ, zero, suc, _+_, _*_, _/_, _%_, _<_, _≤_}
@@ -39,11 +39,9 @@ unfolding separatorOf
 separator-inner k q = cond-ne (k % 8) 7 10 32 q
 
 pub separator-within : (k : ℕ) → (0 < separatorOf k) × (separatorOf k < 48)
-separator-within k = pick (ℕ-discrete (k % 8) 7)
-  where
-    pick : Dec (k % 8 ≡ 7) → (0 < separatorOf k) × (separatorOf k < 48)
-    pick (yes q) = let e = separator-last k q in (omega arith, omega arith)
-    pick (no q) = let e = separator-inner k q in (omega arith, omega arith)
+separator-within k = by-cases (ℕ-discrete (k % 8) 7)
+    (λ q. let e = separator-last k q in (omega arith, omega arith))
+    (λ q. let e = separator-inner k q in (omega arith, omega arith))
 
 -- ---- Words one by one
 

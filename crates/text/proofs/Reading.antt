@@ -9,6 +9,7 @@
 --   behind-none, behind-some  a value behind a byte
 --   Matched, matched-none, matched-more, matched-all, matched-other, starts-short   given bytes, turn by turn
 use mathlib.Core.Path.{_≡_, refl, sym, ap, ap₂, subst, subst₂, _∙_}
+use mathlib.Core.Logic.{by-cases}
 use mathlib.Core.List.{List, [], _∷_, _++_, append-assoc, append-cancel-left, head-eq-of-cons-eq, tail-eq-of-cons-eq}
 use Prim.Native.Nat.{ℕ, suc, _+_, _*_, _-_, _<_, _≤_, zero-le, suc-le-suc}
 use native.Mathlib.Nat.{le-antisymm, suc-inj, add-zero, add-suc}
@@ -31,11 +32,7 @@ drop-front t i = getD-drop i t 0 0 ∙ ap (λ (k : ℕ). getD t k 0) (omega arit
 
 -- a byte that is not 0 stands within the text
 pub byte-within : (t : Bytes) (i : ℕ) → 0 < getD t i 0 → i < length t
-byte-within t i h = pick (decLt i (length t))
-  where
-    pick : Dec (i < length t) → i < length t
-    pick (yes l) = l
-    pick (no l) = absurd (omega (arith, List·getD-eq-default t 0 {n = i} (omega arith)))
+byte-within t i h = by-cases (decLt i (length t)) (λ l. l) (λ l. absurd (omega (arith, List·getD-eq-default t 0 {n = i} (omega arith))))
 
 pub drop-byte : (t : Bytes) (i b : ℕ) → getD t i 0 ≡ b → 0 < b → drop i t ≡ b ∷ drop (i + 1) t
 drop-byte t i b q p =
