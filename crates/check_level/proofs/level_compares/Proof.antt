@@ -28,119 +28,61 @@ Inv-loop words firsts rows s g marks₀ slots₀ part above r₀ marks slots r =
 abbrev μ-loop : tie.MeasureT-loop
 μ-loop words firsts rows s g marks₀ slots₀ part above r₀ marks slots r = above - r
 
-loop-holds : tie.Need-loop-holds Inv-loop μ-loop
-loop-holds c =
-    let at-if1 = c .before .before .before in
-    let z = at-if1 .before .before .before .before .before .before in
-    let a = z .args in
-    ((λ q l. absurd (omega arith)), (λ q l. absurd (omega arith)), claims-none (a .g .top) (a .g .p) _ _ _ _, refl, refl)
+-- the first step, from the loop
+abbrev start : tie.At-loop Inv-loop μ-loop → tie.Start Inv-loop μ-loop
+start l = let e = l .before .before .before .before in e .before .before .before .before .before .before
 
 add-rep-at : tie.Need-add-rep-at Inv-loop μ-loop
-add-rep-at c =
-    let at-loop = c .before .before in
-    let at-if1 = at-loop .before .before .before .before in
-    let z = at-if1 .before .before .before .before .before .before in
-    omega (arith, high-place (z .pre) (at-loop .loop .r) (omega arith) .0, z .good)
+add-rep-at c = let l = c .before .before in omega (arith, high-place (start l .pre) (l .loop .r) (omega arith) .0, start l .good)
 
 rep-at-requires : tie.Need-rep-at-requires Inv-loop μ-loop
-rep-at-requires c κs =
-    let at-loop = c .before .before in
-    let at-if1 = at-loop .before .before .before .before in
-    let z = at-if1 .before .before .before .before .before .before in
-    high-place (z .pre) (at-loop .loop .r) (omega arith)
+rep-at-requires c κs = let l = c .before .before in high-place (start l .pre) (l .loop .r) (omega arith)
 
 rep-passes-requires : tie.Need-rep-passes-requires Inv-loop μ-loop
 rep-passes-requires c κs =
-    let at-loop = c .before .before .before in
-    let at-if1 = at-loop .before .before .before .before in
-    let z = at-if1 .before .before .before .before .before .before in
-    (z .pre, (at-loop .loop .r, high-at (z .pre) (at-loop .loop .r) (omega arith) (c .rep-at .ensures) refl))
-
-same-length : tie.Need-same-length Inv-loop μ-loop
-same-length c =
-    let at-loop = c .before .before .before .before .before in
-    at-loop .loop .inv .3
-
-same-length-2 : tie.Need-same-length-2 Inv-loop μ-loop
-same-length-2 c =
-    let at-loop = c .before .before .before .before .before in
-    at-loop .loop .inv .4
+    let l = c .before .before .before in
+    (start l .pre, (l .loop .r, high-at (start l .pre) (l .loop .r) (omega arith) (c .rep-at .ensures) refl))
 
 claim-requires : tie.Need-claim-requires Inv-loop μ-loop
 claim-requires c κs =
-    let at-rep-at = c .before .before .before .before in
-    let at-loop = at-rep-at .before .before .before in
-    let at-if2 = at-loop .before in
-    let at-if1 = at-if2 .before .before .before in
-    let z = at-if1 .before .before .before .before .before .before in
-    let r = at-loop .loop .r in (
-      found-fits (high-at (z .pre) r (omega arith) (at-rep-at .rep-at .ensures) refl) (z .args .g .top) (z .pre .level .1),
-      omega (arith, at-if2 .if2 .left),
+    let f = c .before .before .before .before in
+    let l = f .before .before .before in
+    let z = start l in (
+      found-fits (high-at (z .pre) (l .loop .r) (omega arith) (f .rep-at .ensures) refl) (z .args .g .top) (z .pre .level .1),
+      omega (arith, l .before .if2 .left),
     )
 
 loop-again : tie.Need-loop-again Inv-loop μ-loop
 loop-again c = (
-  let at-if3 = c .before .before .before .before .before .before .before .before in
-      let at-rep-passes = at-if3 .before in
-      let at-rep-at = at-rep-passes .before in
-      let at-in-loop = at-rep-at .before .before in
-      let at-loop = at-in-loop .before in
-      let at-if1 = at-loop .before .before .before .before in
-      let z = at-if1 .before .before .before .before .before .before in
-      let a = z .args in
-      let T = now (a .words) in
-      let F = at-rep-passes .rep-passes .ensures (not-false (at-rep-passes .rep-passes .result) (at-if3 .if3 .left)) .0 in
-      below-more (λ q. RepFits (a .s) T (a .g) (repAtLevel (a .s) T (suc (a .g .top)) q)) (at-loop .loop .r) (at-loop .loop .inv .0)
-      (high-fits (z .pre) (at-loop .loop .r) (omega (arith, at-in-loop .loop-test)) (at-rep-at .rep-at .ensures) F),
-  let at-if3 = c .before .before .before .before .before .before .before .before in
-      let at-rep-passes = at-if3 .before in
-      let at-rep-at = at-rep-passes .before in
-      let at-in-loop = at-rep-at .before .before in
-      let at-loop = at-in-loop .before in
-      let at-if1 = at-loop .before .before .before .before in
-      let z = at-if1 .before .before .before .before .before .before in
-      let a = z .args in
-      let T = now (a .words) in
-      let H = at-rep-passes .rep-passes .ensures (not-false (at-rep-passes .rep-passes .result) (at-if3 .if3 .left)) .1 in
-      below-more (λ q. PowerHolds (a .s) T (now (a .rows)) (a .g) (repAtLevel (a .s) T (suc (a .g .top)) q)) (at-loop .loop .r) (at-loop .loop .inv .1)
-      (high-power (z .pre) (at-loop .loop .r) (omega (arith, at-in-loop .loop-test)) (at-rep-at .rep-at .ensures) H),
-  let at-claim = c .before .before .before .before .before in
-      let at-rep-at = at-claim .before .before .before .before .before in
-      let at-in-loop = at-rep-at .before .before in
-      let at-loop = at-in-loop .before in
-      let at-if1 = at-loop .before .before .before .before in
-      let z = at-if1 .before .before .before .before .before .before in
-      let C = at-claim .claim .ensures (not-false (at-claim .claim .result) (c .if4 .left)) in
-      claims-found (high-at (z .pre) (at-loop .loop .r) (omega (arith, at-in-loop .loop-test)) (at-rep-at .rep-at .ensures) refl) (at-loop .loop .inv .2) C,
+  let e = c .before .before .before .before .before .before .before .before in
+      let f = e .before .before in
+      let l = f .before .before .before in
+      below-more _ (l .loop .r) (l .loop .inv .0) (high-fits (start l .pre) (l .loop .r) (omega (arith, f .before .before .loop-test)) (f .rep-at .ensures)
+      (e .before .rep-passes .ensures (not-false (e .before .rep-passes .result) (e .if3 .left)) .0)),
+  let e = c .before .before .before .before .before .before .before .before in
+      let f = e .before .before in
+      let l = f .before .before .before in
+      below-more _ (l .loop .r) (l .loop .inv .1) (high-power (start l .pre) (l .loop .r) (omega (arith, f .before .before .loop-test)) (f .rep-at .ensures)
+      (e .before .rep-passes .ensures (not-false (e .before .rep-passes .result) (e .if3 .left)) .1)),
+  let t = c .before .before .before .before .before in
+      let f = t .before .before .before .before .before in
+      let l = f .before .before .before in
+      claims-found (high-at (start l .pre) (l .loop .r) (omega (arith, f .before .before .loop-test)) (f .rep-at .ensures) refl) (l .loop .inv .2)
+      (t .claim .ensures (not-false (t .claim .result) (c .if4 .left))),
   search needs,
   search needs,
 )
 
-same-length-5 : tie.Need-same-length-5 Inv-loop μ-loop
-same-length-5 c =
-    let at-loop = c .before in
-    at-loop .loop .inv .3
-
-same-length-6 : tie.Need-same-length-6 Inv-loop μ-loop
-same-length-6 c =
-    let at-loop = c .before in
-    at-loop .loop .inv .4
-
 returns-5 : tie.Need-returns-5 Inv-loop μ-loop
-returns-5 c =
-    let at-loop = c .before in
-    let at-if1 = at-loop .before .before .before .before in
-    let z = at-if1 .before .before .before .before .before .before in
-    λ e.
-    let l = at-loop .loop in
-    record {
-      each = λ r h. l .inv .0 r (omega arith);
-      powers = λ r h. l .inv .1 r (omega arith);
-      unshared = claims-all (l .inv .2) (omega (arith, z .pre .high .counts));
-    }
+returns-5 c = λ e. let l = c .before .loop in record {
+  each = λ r h. l .inv .0 r (omega arith);
+  powers = λ r h. l .inv .1 r (omega arith);
+  unshared = claims-all (l .inv .2) (omega (arith, start (c .before) .pre .high .counts));
+}
 
 pub level-compares-spec : {M : Type 1} → statement M
 level-compares-spec = tie.close (tie.spec Inv-loop μ-loop (λ c. λ e. absurd (false≢true e)) (λ c. search needs) (λ c. λ e. absurd (false≢true e))
-    loop-holds add-rep-at rep-at-requires rep-passes-requires same-length same-length-2 (λ c. λ e. absurd (false≢true e)) claim-requires
-    (λ c. search needs) (λ c. search needs) (λ c. λ e. absurd (false≢true e)) (λ c. search needs) (λ c. omega arith) loop-again same-length-5
-    same-length-6 returns-5)
+    (λ c. ((λ q l. absurd (omega arith)), (λ q l. absurd (omega arith)), claims-none _ _ _ _ _ _, refl, refl)) add-rep-at rep-at-requires
+    rep-passes-requires (λ c. c .before .before .before .before .before .loop .inv .3) (λ c. c .before .before .before .before .before .loop .inv .4)
+    (λ c. λ e. absurd (false≢true e)) claim-requires (λ c. search needs) (λ c. search needs) (λ c. λ e. absurd (false≢true e)) (λ c. search needs)
+    (λ c. omega arith) loop-again (λ c. c .before .loop .inv .3) (λ c. c .before .loop .inv .4) returns-5)

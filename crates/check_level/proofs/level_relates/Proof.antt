@@ -25,98 +25,72 @@ Inv-loop words firsts rows reach s g above r₀ r = (q : ℕ) → q < r
 abbrev μ-loop : tie.MeasureT-loop
 μ-loop words firsts rows reach s g above r₀ r = above - r
 
-add-if1 : tie.Need-add-if1 Inv-loop μ-loop
-add-if1 c =
-    let z = c .before .before .before in
-    omega (arith, z .pre .0 .level .1, z .pre .0 .whole .few)
-
 returns : tie.Need-returns Inv-loop μ-loop
 returns c = λ e. record { each = λ r l. record { each = λ j a b. absurd (omega (arith, c .if1 .taken)) } }
 
+-- the first step, from the loop
+abbrev start : tie.At-loop Inv-loop μ-loop → tie.Start Inv-loop μ-loop
+start l = l .before .before .before .before .before .before
+
 add-rep-at : tie.Need-add-rep-at Inv-loop μ-loop
-add-rep-at c =
-    let at-loop = c .before .before in
-    let z = at-loop .before .before .before .before .before .before in
-    omega (arith, high-place (z .pre .0) (at-loop .loop .r) (omega arith) .0, z .good)
+add-rep-at c = let l = c .before .before in omega (arith, high-place (start l .pre .0) (l .loop .r) (omega arith) .0, start l .good)
 
 rep-at-requires : tie.Need-rep-at-requires Inv-loop μ-loop
-rep-at-requires c κs =
-    let at-loop = c .before .before in
-    let z = at-loop .before .before .before .before .before .before in
-    high-place (z .pre .0) (at-loop .loop .r) (omega arith)
+rep-at-requires c κs = let l = c .before .before in high-place (start l .pre .0) (l .loop .r) (omega arith)
 
 word-at-requires : tie.Need-word-at-requires Inv-loop μ-loop
 word-at-requires c κs =
-    let at-loop = c .before .before .before in
-    let z = at-loop .before .before .before .before .before .before in
-    let S = z .pre .0 in
-    let I = listed-inside S (z .pre .1) (at-loop .loop .r) (omega arith) (c .rep-at .ensures) in
+    let l = c .before .before .before in
+    let (S, H, _) = start l .pre in
+    let I = listed-inside S H (l .loop .r) (omega arith) (c .rep-at .ensures) in
     (omega (arith, inside-matrix I 0 (S .whole .some), I .positive), omega arith)
+
+-- what the representation refers to is listed
+refers : (c : tie.After-up Inv-loop μ-loop)
+    → let l = c .before .before .before .before .before in c .up .result < start l .args .g .below
+refers c =
+    let f = c .before .before in
+    let l = f .before .before .before in
+    let (S, H, _) = start l .pre in
+    omega (arith, listed-refers S H (l .loop .r) (omega arith) (f .rep-at .ensures), c .up .ensures, c .before .word-at .ensures)
 
 add-rep-at-2 : tie.Need-add-rep-at-2 Inv-loop μ-loop
 add-rep-at-2 c =
-    let at-up = c .before in
-    let at-word-at = at-up .before in
-    let at-rep-at = at-word-at .before in
-    let at-loop = at-rep-at .before .before .before in
-    let z = at-loop .before .before .before .before .before .before in
-    let S = z .pre .0 in
-    let b = listed-refers S (z .pre .1) (at-loop .loop .r) (omega arith) (at-rep-at .rep-at .ensures) in
-    omega (arith, low-place S (at-up .up .result) (omega (arith, b, at-up .up .ensures, at-word-at .word-at .ensures)) .0, z .good)
+    let u = c .before in
+    let z = start (u .before .before .before .before .before) in
+    omega (arith, low-place (z .pre .0) (u .up .result) (refers u) .0, z .good)
 
 rep-at-requires-2 : tie.Need-rep-at-requires-2 Inv-loop μ-loop
-rep-at-requires-2 c κs =
-    let at-up = c .before in
-    let at-word-at = at-up .before in
-    let at-rep-at = at-word-at .before in
-    let at-loop = at-rep-at .before .before .before in
-    let z = at-loop .before .before .before .before .before .before in
-    let S = z .pre .0 in
-    let b = listed-refers S (z .pre .1) (at-loop .loop .r) (omega arith) (at-rep-at .rep-at .ensures) in
-    low-place S (at-up .up .result) (omega (arith, b, at-up .up .ensures, at-word-at .word-at .ensures))
+rep-at-requires-2 c κs = let u = c .before in low-place (start (u .before .before .before .before .before) .pre .0) (u .up .result) (refers u)
 
 carries-all-requires : tie.Need-carries-all-requires Inv-loop μ-loop
 carries-all-requires c κs =
-    let at-up = c .before .before in
-    let at-word-at = at-up .before in
-    let at-rep-at = at-word-at .before in
-    let at-loop = at-rep-at .before .before .before in
-    let z = at-loop .before .before .before .before .before .before in
-    let S = z .pre .0 in
-    let b = listed-refers S (z .pre .1) (at-loop .loop .r) (omega arith) (at-rep-at .rep-at .ensures) in
-    let F = low-at S (at-up .up .result) (omega (arith, b, at-up .up .ensures, at-word-at .word-at .ensures)) (c .rep-at2 .ensures) refl in (
-      listed-reached S (z .pre .1) (at-loop .loop .r) (omega arith) (at-rep-at .rep-at .ensures),
-      F .positive,
-      found-inside (S .whole) (S .short) F .narrow,
-      z .pre .2,
-    )
+    let u = c .before .before in
+    let f = u .before .before in
+    let l = f .before .before .before in
+    let (S, H, ready) = start l .pre in
+    let F = low-at S (u .up .result) (refers u) (c .rep-at2 .ensures) refl in
+    (listed-reached S H (l .loop .r) (omega arith) (f .rep-at .ensures), F .positive, found-inside (S .whole) (S .short) F .narrow, ready)
 
 loop-again : tie.Need-loop-again Inv-loop μ-loop
 loop-again c =
-    let at-carries-all = c .before in
-    let at-rep-at2 = at-carries-all .before in
-    let at-up = at-rep-at2 .before .before in
-    let at-word-at = at-up .before in
-    let at-rep-at = at-word-at .before in
-    let at-loop = at-rep-at .before .before .before in
-    let z = at-loop .before .before .before .before .before .before in
+    let t = c .before in
+    let b = t .before in
+    let u = b .before .before in
+    let f = u .before .before in
+    let l = f .before .before .before in
+    let z = start l in
     let a = z .args in
     let T = now (a .words) in
-    let firsts = now (a .firsts) in
-    let v : at-rep-at2 .rep-at2 .result .deg ≡ widthBelow T firsts (a .g) (at-rep-at .rep-at .result)
-    = ap (λ (F : Listed). F .deg) (at-rep-at2 .rep-at2 .ensures)
-    ∙ ap (λ x. wordAt T (getD firsts (a .g .low + x) 0) DEG) (at-up .up .ensures ∙ at-word-at .word-at .ensures) in
-    below-more (λ q. let D = repAtLevel (a .s) T (suc (a .g .top)) q in CarriesAll (a .s) T firsts (a .g) D (now (a .rows)) (widthBelow T firsts (a .g) D))
-    (at-loop .loop .r) (at-loop .loop .inv)
-    (listed-relates (z .pre .0) (z .pre .1) (at-loop .loop .r) (omega arith) (at-rep-at .rep-at .ensures) v
-    (at-carries-all .carries-all .ensures (not-false (at-carries-all .carries-all .result) (c .if2 .left))))
-
-returns-3 : tie.Need-returns-3 Inv-loop μ-loop
-returns-3 c =
-    let at-loop = c .before in
-    λ e. record { each = λ r l. at-loop .loop .inv r (omega arith) }
+    let v : b .rep-at2 .result .deg ≡ widthBelow T (now (a .firsts)) (a .g) (f .rep-at .result)
+    = ap (λ (F : Listed). F .deg) (b .rep-at2 .ensures)
+    ∙ ap (λ x. wordAt T (getD (now (a .firsts)) (a .g .low + x) 0) DEG) (u .up .ensures ∙ u .before .word-at .ensures) in
+    below-more _ (l .loop .r) (l .loop .inv) (listed-relates (z .pre .0) (z .pre .1) (l .loop .r) (omega arith) (f .rep-at .ensures) v
+    (t .carries-all .ensures (not-false (t .carries-all .result) (c .if2 .left))))
 
 pub level-relates-spec : {M : Type 1} → statement M
-level-relates-spec = tie.close (tie.spec Inv-loop μ-loop add-if1 returns (λ c. λ q l. absurd (omega arith)) add-rep-at rep-at-requires
-    word-at-requires (λ c κs. search needs) add-rep-at-2 rep-at-requires-2 carries-all-requires (λ c. λ e. absurd (false≢true e)) (λ c. search needs)
-    (λ c. omega arith) loop-again returns-3)
+level-relates-spec = tie.close (tie.spec Inv-loop μ-loop
+    (λ c. let z = c .before .before .before in omega (arith, z .pre .0 .level .1, z .pre .0 .whole .few)) returns (λ c. λ q l. absurd (omega arith))
+    add-rep-at rep-at-requires word-at-requires (λ c κs. search needs) add-rep-at-2 rep-at-requires-2 carries-all-requires
+    (λ c. λ e. absurd (false≢true e)) (λ c. search needs) (λ c. omega arith) loop-again
+    (λ c. λ e. record { each = λ r l. c .before .loop .inv r (omega arith) }))
