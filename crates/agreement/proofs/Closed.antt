@@ -5,26 +5,24 @@
 --   by-formulas                          the level of the formulas agrees with that of the steps
 --   same-words                           and has its lines
 use mathlib.Core.Path.{_≡_, refl, sym, _∙_, ap, ap₂, subst}
-use mathlib.Core.Bool.{Bool, true, false, cond}
-use mathlib.Core.List.{List, [], _∷_, _++_, map}
+use mathlib.Core.Logic.{by-cases}
+use mathlib.Core.Bool.{cond}
+use mathlib.Core.List.{_++_, map}
 use Prim.Native.Nat.{ℕ, suc, _+_, _*_, _-_, _/_, _%_, _<_}
 use native.Mathlib.Omega.{arith}
-use native.Mathlib.Decide.{decLt, ℕ-discrete}
-use lib.Dec.{eqb, leb}
+use native.Mathlib.Decide.{decLt}
+use lib.Dec.{leb}
 use lib.ListN.{length, getD, length-map}
 use lib.Seq.{ext-getD}
-use borrow.Author.Tests.{le-leb}
 use Rattle.definitions.specs.declared.Entry.{Entry}
-use Rattle.definitions.specs.Lists.{upto, blocks, sum}
+use Rattle.definitions.specs.Lists.{blocks, sum}
 use Rattle.definitions.specs.Monomial.{Matrix, entry, col, scale, Rep, Level, repOf, noRep}
 use Rattle.definitions.specs.Table.{levelWords}
 use Rattle.definitions.specs.Steps
 use Rattle.formulas.specs.Formulas as Fm
 use Rattle.formulas.specs.Formulas.{sourceOf}
-use Rattle.numbers.proofs.Bools.{cond-true, cond-lt, cond-ge, cond-eq, cond-ne}
-use Rattle.numbers.proofs.Lists.{length-blocks}
-use Rattle.numbers.proofs.Sums.{sum-below}
-use Rattle.numbers.proofs.Blocks.{getD-map, getD-table, length-table, getD-blocks, blocks-suc, blocks-below}
+use Rattle.numbers.proofs.Bools.{compared, cond-lt, cond-ge, cond-eq, cond-ne}
+use Rattle.numbers.proofs.Blocks.{getD-map, getD-table, blocks-suc, blocks-below}
 use Rattle.numbers.proofs.Orbits.{leader}
 use Rattle.monomial.proofs.Frames.{entry-path}
 use Rattle.clifford.specs.Stands.{Rung}
@@ -38,6 +36,7 @@ use Rattle.clifford.proofs.Agreement.{agree-words}
 use Rattle.agreement.proofs.Entries.{Sc, shift-is}
 use Rattle.agreement.proofs.Extended.{scale-zero, landing-is, start-same}
 use Rattle.agreement.proofs.Scalar.{leader-of, scalars}
+use Rattle.agreement.proofs.Sources.{level-length, level-at, not-above}
 
 lift-zero : (k : ℕ) (M : Matrix) → k ≡ 0 → Steps.lift k M ≡ M
 unfolding Steps.lift
@@ -46,41 +45,25 @@ lift-zero k M e = ext-getD (entry 0 0) (map (λ (x : Entry). entry (k + x .row) 
     getD-map (λ (x : Entry). entry (k + x .row) (x .exp)) M c (entry 0 0) (entry 0 0) a ∙ entry-path (ap (λ z. z + getD M c (entry 0 0) .row) e ∙ omega arith) refl)
 
 module _ (R : Rung) where
-  open Rung R using (T, m, pos, i, L, Ω, F, stands)
+  open Rung R using (T, m, i, L, stands)
 
   -- ---- Extensions
 
   module _ (s κ : ℕ) (h : s < N R) (f : τ R s ≡ s) where
-    shift-s : Fm.shift (Sc R) s ≡ Steps.s (P R) m i L s
-    shift-s = shift-is R s h ∙ sym (s-is R s h f)
-
     pub extension-matrix : (g : ℕ) → g < T .n → Fm.extensionAt (Sc R) s κ .matrix g ≡ Steps.extension (P R) m i L s κ .matrix g
-    unfolding Fm.extensionAt
-    extension-matrix g b = go (decLt g i) (ℕ-discrete g i)
-      where
-        go : Dec (g < i) → Dec (g ≡ i) → scale m (cond (eqb g i) (Fm.shift (Sc R) s / p R + κ * (m / p R)) 0) (repOf L s .matrix g) ≡ Steps.extension (P R) m i L s κ .matrix g
-        go (yes l) d =
-            ap (λ k. scale m k (repOf L s .matrix g)) (cond-ne g i _ _ (λ e. omega arith)) ∙ scale-zero R h (stands .represents g l s h)
-            ∙ sym (extension-low R s κ g (omega arith) ∙ cond-lt g i _ _ l)
-        go (no l) (yes e) =
-            ap (λ k. scale m k (repOf L s .matrix g)) (cond-eq g i _ _ e ∙ ap (λ z. z / p R + κ * (m / p R)) shift-s)
-            ∙ ap (λ g. scale m (Steps.s (P R) m i L s / p R + κ * (m / p R)) (repOf L s .matrix g)) e
-            ∙ sym (extension-low R s κ g (omega arith) ∙ cond-ge g i _ _ (omega arith) ∙ extended-is)
-          where
-            extended-is : Steps.extended (P R) m i L s κ ≡ scale m (Steps.s (P R) m i L s / p R + κ * (m / p R)) (repOf L s .matrix i)
-            extended-is = unfold Steps.extended in refl
-        go (no l) (no e) =
-            ap (λ k. scale m k (repOf L s .matrix g)) (cond-ne g i _ _ e) ∙ scale-zero R h (stands .intertwines g (omega arith) b s h)
-            ∙ sym (extension-up R s κ g (omega arith))
+    unfolding Fm.extensionAt Steps.extended
+    extension-matrix g b = compared g i
+        (λ l. ap (λ k. scale m k (repOf L s .matrix g)) (cond-ne g i _ _ (λ e. omega arith)) ∙ scale-zero R h (stands .represents g l s h)
+        ∙ sym (extension-low R s κ g (omega arith) ∙ cond-lt g i _ _ l))
+        (λ e. ap (λ k. scale m k (repOf L s .matrix g)) (cond-eq g i _ _ e ∙ ap (λ z. z / p R + κ * (m / p R)) (shift-is R s h ∙ sym (s-is R s h f)))
+        ∙ ap (λ g. scale m (Steps.s (P R) m i L s / p R + κ * (m / p R)) (repOf L s .matrix g)) e
+        ∙ sym (extension-low R s κ g (omega arith) ∙ cond-ge g i _ _ (omega arith)))
+        (λ l. ap (λ k. scale m k (repOf L s .matrix g)) (cond-ne g i _ _ (λ e. omega arith)) ∙ scale-zero R h (stands .intertwines g (omega arith) b s h)
+        ∙ sym (extension-up R s κ g (omega arith)))
 
     pub extension-ref : (g c : ℕ) → g < T .n → Fm.extensionAt (Sc R) s κ .ref g c ≡ Steps.extension (P R) m i L s κ .ref g c
     unfolding Fm.extensionAt Steps.extension Steps.a
-    extension-ref g c b = go (decLt i g)
-      where
-        go : Dec (i < g) → cond (leb g i) s (Fm.start (Sc R) (repOf L s .ref g 0) + (Fm.landing (Sc R) g s + κ * suc (P R .w i g .0)) % p R)
-            ≡ cond (leb g i) s (Steps.start (P R) m i L (repOf L s .ref g 0) + (Steps.l (P R) m i L g s + κ * suc (P R .w i g .0)) % p R)
-        go (yes l) = ap₂ (λ x y. cond (leb g i) s (x + (y + κ * suc (P R .w i g .0)) % p R)) (start-same R _) (landing-is R g l b s h f)
-        go (no l) = cond-true (leb g i) _ _ (le-leb g i (omega arith)) ∙ sym (cond-true (leb g i) _ _ (le-leb g i (omega arith)))
+    extension-ref g c b = not-above g i refl (λ l. ap₂ (λ x y. x + (y + κ * suc (P R .w i g .0)) % p R) (start-same R _) (landing-is R g l b s h f))
 
   -- ---- Inductions
 
@@ -92,14 +75,9 @@ module _ (R : Rung) where
     block : ℕ → ℕ → Matrix
     block g b = Steps.lift (Fm.blockTo (Sc R) s g b * deg R s) (scale m (Fm.blockBy (Sc R) s g b) (repOf L (Fm.orbit (Sc R) s b) .matrix g))
 
-    orbit-is : (b : ℕ) → Fm.orbit (Sc R) s b ≡ o b
-    orbit-is b = unfold Steps.orbit in refl
-
     below-block : (g b : ℕ) → g < i → block g b ≡ Steps.lift (b * deg R s) (repOf L (o b) .matrix g)
-    unfolding block Fm.blockTo Fm.blockBy
-    below-block g b l =
-        ap₂ (λ x y. Steps.lift (x * deg R s) (scale m y (repOf L (Fm.orbit (Sc R) s b) .matrix g))) (cond-lt g i _ _ l) (cond-lt g i _ _ l)
-        ∙ ap (λ t. Steps.lift (b * deg R s) (scale m 0 (repOf L t .matrix g))) (orbit-is b)
+    unfolding block Fm.blockTo Fm.blockBy Steps.orbit
+    below-block g b l = ap₂ (λ x y. Steps.lift (x * deg R s) (scale m y (repOf L (o b) .matrix g))) (cond-lt g i _ _ l) (cond-lt g i _ _ l)
         ∙ ap (Steps.lift (b * deg R s)) (scale-zero R (orb-below R s h mv own b) (stands .represents g l (o b) (orb-below R s h mv own b)))
 
     abbrev e : ℕ
@@ -108,20 +86,14 @@ module _ (R : Rung) where
     e-suc : suc e ≡ p R
     e-suc = omega (arith, T .context .two i)
 
-    top-parts : (b : ℕ) → (Fm.blockTo (Sc R) s i b ≡ Fm.nextOf (Sc R) b) × (Fm.blockBy (Sc R) s i b ≡ Fm.shiftOf (Sc R) s b)
-    unfolding Fm.blockTo Fm.blockBy
-    top-parts b = (cond-ge i i _ _ (omega arith) ∙ cond-eq i i _ _ refl, cond-ge i i _ _ (omega arith) ∙ cond-eq i i _ _ refl)
-
     -- block b of generator i, by where it goes and what it is multiplied by
     top-is : (b : ℕ) {x y : ℕ} → Fm.nextOf (Sc R) b ≡ x → Fm.shiftOf (Sc R) s b ≡ y → block i b ≡ Steps.lift (x * deg R s) (scale m y (repOf L (o b) .matrix i))
-    unfolding block
-    top-is b {x} {y} q t =
-        ap₂ (λ x y. Steps.lift (x * deg R s) (scale m y (repOf L (Fm.orbit (Sc R) s b) .matrix i))) (top-parts b .0 ∙ q) (top-parts b .1 ∙ t)
-        ∙ ap (λ t. Steps.lift (x * deg R s) (scale m y (repOf L t .matrix i))) (orbit-is b)
+    unfolding block Fm.blockTo Fm.blockBy Steps.orbit
+    top-is b q t = ap₂ (λ x y. Steps.lift (x * deg R s) (scale m y (repOf L (o b) .matrix i)))
+        (cond-ge i i _ _ (omega arith) ∙ cond-eq i i _ _ refl ∙ q) (cond-ge i i _ _ (omega arith) ∙ cond-eq i i _ _ refl ∙ t)
 
     top-block : (b : ℕ) → b < e → block i b ≡ Steps.lift (suc b * deg R s) (repOf L (o b) .matrix i)
-    top-block b l =
-        top-is b (cond-lt (suc b) (p R) _ _ (omega arith)) (cond-lt (suc b) (p R) _ _ (omega arith))
+    top-block b l = top-is b (cond-lt (suc b) (p R) _ _ (omega arith)) (cond-lt (suc b) (p R) _ _ (omega arith))
         ∙ ap (Steps.lift (suc b * deg R s)) (scale-zero R (orb-below R s h mv own b) (stands .intertwines i (omega arith) (R .in-range) (o b) (orb-below R s h mv own b)))
 
     last-block : block i e ≡ Steps.lastBlock (P R) m i L s
@@ -129,89 +101,46 @@ module _ (R : Rung) where
         top-is e (cond-ge (suc e) (p R) _ _ (omega arith)) (cond-ge (suc e) (p R) _ _ (omega arith) ∙ shift-is R s h ∙ sym (defect-formula R s h mv own))
         ∙ lift-zero (0 * deg R s) _ (omega arith) ∙ sym (last-formula R s h mv own)
 
-    up-parts : (g b : ℕ) → i < g → g < T .n → (Fm.blockTo (Sc R) s g b ≡ Fm.position (Sc R) (repOf L (Fm.orbit (Sc R) s b) .ref g 0)) × (Fm.blockBy (Sc R) s g b ≡ Steps.c (P R) m i L g s b)
-    unfolding Fm.blockTo Fm.blockBy
-    up-parts g b l bn = (cond-ge g i _ _ (omega arith) ∙ cond-ne g i _ _ (λ q. omega arith), cond-ge g i _ _ (omega arith) ∙ cond-ne g i _ _ (λ q. omega arith) ∙ scalars R s h mv own g l bn b)
+    up-block : (g b : ℕ) → i < g → g < T .n → block g b
+        ≡ Steps.lift (Steps.position (P R) m i L (Steps.target (P R) m i L g (o b)) * deg R s) (scale m (Steps.c (P R) m i L g s b) (repOf L (o b) .matrix g))
+    unfolding block Fm.blockTo Fm.blockBy Steps.position Steps.leader Steps.orbit
+    up-block g b l bn = ap₂ (λ x y. Steps.lift (x * deg R s) (scale m y (repOf L (o b) .matrix g)))
+        (cond-ge g i _ _ (omega arith) ∙ cond-ne g i _ _ (λ q. omega arith))
+        (cond-ge g i _ _ (omega arith) ∙ cond-ne g i _ _ (λ q. omega arith) ∙ scalars R s h mv own g l bn b)
 
     pub induction-matrix : (g : ℕ) → g < T .n → Fm.inductionAt (Sc R) s .matrix g ≡ Steps.induction (P R) m i L s .matrix g
-    unfolding Fm.inductionAt block
-    induction-matrix g bn = go (decLt g i) (ℕ-discrete g i)
-      where
-        diagonal-is : Steps.blockDiagonal (P R) m i L s g ≡ blocks (p R) (λ b. Steps.lift (b * deg R s) (repOf L (o b) .matrix g))
-        diagonal-is = unfold Steps.blockDiagonal in refl
-
-        cycle-is : Steps.blockCycle (P R) m i L s ≡ blocks e (λ b. Steps.lift (suc b * deg R s) (repOf L (o b) .matrix i)) ++ Steps.lastBlock (P R) m i L s
-        cycle-is = unfold Steps.blockCycle in refl
-
-        intertwiner-is : Steps.blockIntertwiner (P R) m i L g s (Steps.c (P R) m i L g s)
-            ≡ blocks (p R) (λ b. Steps.lift (Steps.position (P R) m i L (Steps.target (P R) m i L g (o b)) * deg R s) (scale m (Steps.c (P R) m i L g s b) (repOf L (o b) .matrix g)))
-        intertwiner-is = unfold Steps.blockIntertwiner in refl
-
-        position-is : (r : ℕ) → Fm.position (Sc R) r ≡ Steps.position (P R) m i L r
-        position-is r = unfold Steps.position Steps.leader Steps.orbit in refl
-
-        go : Dec (g < i) → Dec (g ≡ i) → blocks (p R) (block g) ≡ Steps.induction (P R) m i L s .matrix g
-        go (yes l) d =
-            blocks-below (p R) (block g) (λ b. Steps.lift (b * deg R s) (repOf L (o b) .matrix g)) (λ b a. below-block g b l)
-            ∙ sym (induction-low R s g (omega arith) ∙ cond-lt g i _ _ l ∙ diagonal-is)
-        go (no l) (yes q) =
-            ap (λ g. blocks (p R) (block g)) q ∙ ap (λ k. blocks k (block i)) (sym e-suc) ∙ blocks-suc e (block i)
-            ∙ ap₂ (_++_) (blocks-below e (block i) (λ b. Steps.lift (suc b * deg R s) (repOf L (o b) .matrix i)) (λ b a. top-block b a)) last-block
-            ∙ sym (induction-low R s g (omega arith) ∙ cond-ge g i _ _ (omega arith) ∙ cycle-is)
-        go (no l) (no q) =
-            blocks-below (p R) (block g) _ (λ b a. up-block b)
-            ∙ sym (induction-up R s g (omega arith) ∙ intertwiner-is)
-          where
-            up-block : (b : ℕ) → block g b ≡ Steps.lift (Steps.position (P R) m i L (Steps.target (P R) m i L g (o b)) * deg R s) (scale m (Steps.c (P R) m i L g s b) (repOf L (o b) .matrix g))
-            up-block b =
-                ap₂ (λ x y. Steps.lift (x * deg R s) (scale m y (repOf L (Fm.orbit (Sc R) s b) .matrix g))) (up-parts g b (omega arith) bn .0) (up-parts g b (omega arith) bn .1)
-                ∙ ap (λ t. Steps.lift (Fm.position (Sc R) (repOf L t .ref g 0) * deg R s) (scale m (Steps.c (P R) m i L g s b) (repOf L t .matrix g))) (orbit-is b)
-                ∙ ap (λ x. Steps.lift (x * deg R s) (scale m (Steps.c (P R) m i L g s b) (repOf L (o b) .matrix g))) (position-is (repOf L (o b) .ref g 0))
+    unfolding Fm.inductionAt block Steps.blockDiagonal Steps.blockCycle Steps.blockIntertwiner
+    induction-matrix g bn = compared g i
+        (λ l. blocks-below (p R) (block g) _ (λ b a. below-block g b l) ∙ sym (induction-low R s g (omega arith) ∙ cond-lt g i _ _ l))
+        (λ q. ap (λ g. blocks (p R) (block g)) q ∙ ap (λ k. blocks k (block i)) (sym e-suc) ∙ blocks-suc e (block i)
+        ∙ ap₂ (_++_) (blocks-below e (block i) _ top-block) last-block ∙ sym (induction-low R s g (omega arith) ∙ cond-ge g i _ _ (omega arith)))
+        (λ l. blocks-below (p R) (block g) _ (λ b a. up-block g b l bn) ∙ sym (induction-up R s g (omega arith)))
 
     pub induction-ref : (g c : ℕ) → Fm.inductionAt (Sc R) s .ref g c ≡ Steps.induction (P R) m i L s .ref g c
-    unfolding Fm.inductionAt Steps.induction Steps.orbit
-    induction-ref g c = ap (λ x. cond (leb g i) (Fm.orbit (Sc R) s (c / deg R s)) x) (start-same R _ ∙ ap (Steps.start (P R) m i L) leader-is)
-      where
-        leader-is : Fm.leader (Sc R) (repOf L s .ref g 0) ≡ Steps.leader (P R) m i L (repOf L s .ref g 0)
-        leader-is = unfold Steps.leader Steps.orbit in refl
+    unfolding Fm.inductionAt Steps.induction Steps.leader Steps.orbit
+    induction-ref g c = ap (λ x. cond (leb g i) (Fm.orbit (Sc R) s (c / deg R s)) x) (start-same R _)
 
   -- ---- The level
 
   abbrev by : Level
   by = Fm.levelBy (Sc R)
 
-  abbrev at : ℕ → List Rep
-  at = Fm.givenAt (Sc R)
-
-  at-length : (r : ℕ) → length (at r) ≡ made R r
-  unfolding Fm.givenAt Steps.made Steps.fixed Steps.leader Steps.orbit
-  at-length r = go (eqb (repOf L r .ref i 0) r) (eqb (Fm.leader (Sc R) r) r)
-    where
-      go : (b c : Bool) → length (cond b (map (Fm.extensionAt (Sc R) r) (upto (p R))) (cond c (Fm.inductionAt (Sc R) r ∷ []) [])) ≡ cond b (p R) (cond c 1 0)
-      go true c = length-table (Fm.extensionAt (Sc R) r) (p R)
-      go false true = refl
-      go false false = refl
-
   by-length : length by ≡ sum (N R) (made R)
-  unfolding Fm.levelBy
-  by-length = length-blocks (N R) at ∙ sum-below (N R) _ (made R) (λ r l. at-length r)
+  unfolding Fm.made Steps.made Steps.fixed Steps.leader Steps.orbit
+  by-length = level-length (Sc R)
 
-  by-at : (s κ : ℕ) → s < N R → κ < made R s → repOf by (sum s (made R) + κ) ≡ getD (at s) κ noRep
-  unfolding Fm.levelBy repOf
-  by-at s κ h l =
-      ap (λ z. getD (blocks (N R) at) (z + κ) noRep) (sym (sum-below s (λ k. length (at k)) (made R) (λ k a. at-length k)))
-      ∙ getD-blocks noRep (N R) at s κ h (subst (λ z. κ < z) (sym (at-length s)) l)
+  by-at : (s κ : ℕ) → s < N R → κ < made R s → repOf by (sum s (made R) + κ) ≡ getD (Fm.givenAt (Sc R) s) κ noRep
+  unfolding Fm.made Steps.made Steps.fixed Steps.leader Steps.orbit
+  by-at = level-at (Sc R)
 
   by-fixed : (r′ : ℕ) (e : Extended R r′) → repOf by r′ ≡ Fm.extensionAt (Sc R) (e .s) (e .κ)
   unfolding Fm.givenAt
-  by-fixed r′ e =
-      ap (repOf by) (sym (e .is)) ∙ by-at (e .s) (e .κ) (e .s-below) (e .κ-below)
+  by-fixed r′ e = ap (repOf by) (sym (e .is)) ∙ by-at (e .s) (e .κ) (e .s-below) (e .κ-below)
       ∙ ap (λ z. getD z (e .κ) noRep) (cond-eq (repOf L (e .s) .ref i 0) (e .s) _ _ (sym (R .literal i (e .s)) ∙ e .fixed)) ∙ getD-table (Fm.extensionAt (Sc R) (e .s)) (p R) (e .κ) noRep (e .κ-small)
 
   by-moved : (r′ : ℕ) (e : Induced R r′) → repOf by r′ ≡ Fm.inductionAt (Sc R) (e .s)
   unfolding Fm.givenAt
-  by-moved r′ e =
-      ap (repOf by) (sym (e .is)) ∙ by-at (e .s) 0 (e .s-below) (e .κ-below)
+  by-moved r′ e = ap (repOf by) (sym (e .is)) ∙ by-at (e .s) 0 (e .s-below) (e .κ-below)
       ∙ ap (λ z. getD z 0 noRep) (cond-ne (repOf L (e .s) .ref i 0) (e .s) _ _ (λ q. e .moved (R .literal i (e .s) ∙ q)) ∙ cond-eq (Fm.leader (Sc R) (e .s)) (e .s) _ _ (leader-of R (e .s) ∙ e .own))
 
   -- a statement about a representation of the steps and that of the formulas
@@ -232,11 +161,7 @@ module _ (R : Rung) where
   same-ref g c b = both (λ D D′. D .ref g c ≡ D′ .ref g c) (λ s κ h f. sym (extension-ref s κ h f g c b)) (λ s h mv own. sym (induction-ref s h mv own g c))
 
   next-size : (r′ g : ℕ) → r′ < length (next R) → g < T .n → length (repOf (next R) r′ .matrix g) ≡ repOf (next R) r′ .deg
-  next-size r′ g h b = go (decLt g (suc i))
-    where
-      go : Dec (g < suc i) → length (repOf (next R) r′ .matrix g) ≡ repOf (next R) r′ .deg
-      go (yes l) = next-represents R g l r′ h .size
-      go (no l) = next-intertwines R g (omega arith) b r′ h .size
+  next-size r′ g h b = by-cases (decLt g (suc i)) (λ l. next-represents R g l r′ h .size) (λ l. next-intertwines R g (omega arith) b r′ h .size)
 
   pub by-formulas : Agrees (R .T .n) (Steps.nextLevel (R .T .context .P) (R .m) (R .i) (R .L)) (Fm.levelBy (sourceOf (R .T .context .P) (R .m) (R .i) (R .L)))
   unfolding sourceOf

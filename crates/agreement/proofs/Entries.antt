@@ -1,18 +1,19 @@
 -- Entries moved through matrices that show maps: the walks of the formulas at single columns.
 --
 --   move A z, stand z             an entry of a basis index and an exponent, moved by a map; as an entry of a column
+--   Lands x z r                   x is the entry z, of representation r
 --   act-shows, iter-shows         one matrix, and its iterates
 --   walk-shows                    the value of a normal form
 --   around-shows                  the intertwiners around an orbit
 --   shift-is                      the constant of an orbit is the negative of the defect
-use mathlib.Core.Path.{_≡_, refl, sym, _∙_, ap, ap₂}
+use mathlib.Core.Path.{_≡_, refl, sym, _∙_, ap, ap₂, subst}
 use Prim.Native.Nat.{ℕ, zero, suc, _+_, _%_, _≤_, _<_}
 use native.Mathlib.Omega.{arith}
 use native.Mathlib.Decide.{decLt}
 use lib.ListN.{length}
 use Rattle.definitions.specs.declared.Entry.{Entry}
 use Rattle.definitions.specs.Lists.{iter}
-use Rattle.definitions.specs.Presentation.{NF, Mul, power, value}
+use Rattle.definitions.specs.Presentation.{NF, power, value}
 use Rattle.definitions.specs.Monomial.{Matrix, entry, less, act, repOf}
 use Rattle.formulas.specs.Formulas as Fm
 use Rattle.formulas.specs.Formulas.{Source}
@@ -37,11 +38,8 @@ use Rattle.clifford.proofs.Formulas.{less-over}
 
 module _ (R : Rung) where
   open Rung R using (T, m, pos, i, L, Ω, F, stands)
-  open Stands (R .stands) using (column, column-below)
+  open Stands (R .stands) using (column)
   open Exponents (residues m pos) using (add, nil, neg)
-
-  infixl 70 _*′_
-  open Mul (maps (E R) Ω) using (mul as _*′_)
 
   -- the level as a source of the formulas
   abbrev pub Sc : Source
@@ -74,10 +72,9 @@ module _ (R : Rung) where
   unfolding move
   move-one z = ap (λ y. (y .0, add (y .1) (z .1))) (at-one (E R) (z .0)) ∙ pair (E R) refl (E R .idl _)
 
-  -- from a basis index with no exponent
-  pub move-from : (A : Map (E R) Ω) (a : Ω) → move A (a, residues m pos .nil) ≡ A a
+  pub move-pair : (A B : Map (E R) Ω) (a : Ω) → move A (B a) ≡ maps (E R) Ω .mul A B a
   unfolding move
-  move-from A a = pair (E R) refl (idr (E R) _)
+  move-pair A B a = sym (at-mul (E R) A B a)
 
   pub act-shows : {r s : ℕ} {M : Matrix} {A : Map (E R) Ω} → Shows m (Φ R) r s M A → (z : Z) → rep R (z .0) ≡ r → act m M (stand z) ≡ stand (move A z)
   unfolding act stand move
@@ -88,44 +85,45 @@ module _ (R : Rung) where
   unfolding move
   move-rep sh z e = sh .maps-to (z .0) e
 
+  -- x is the entry z, of representation r
+  abbrev pub Lands : Entry → Z → ℕ → Type 0
+  Lands x z r = (x ≡ stand z) × (rep R (z .0) ≡ r)
+
   -- an entry moved by f again and again, where f moves as A on a representation that A fixes
-  pub iter-shows : {r : ℕ} (f : Entry → Entry) (A : Map (E R) Ω) → ((z : Z) → rep R (z .0) ≡ r → (f (stand z) ≡ stand (move A z)) × (rep R (move A z .0) ≡ r))
-      → (k : ℕ) (z : Z) → rep R (z .0) ≡ r → (iter f k (stand z) ≡ stand (move (power (maps (E R) Ω) A k) z)) × (rep R (move (power (maps (E R) Ω) A k) z .0) ≡ r)
-  iter-shows f A h zero z e =
-      let q : z ≡ move (power (maps (E R) Ω) A zero) z = sym (ap (λ B. move B z) (power-zero (maps (E R) Ω) A) ∙ move-one z) in
-      (iter-zero f (stand z) ∙ ap stand q, ap (λ y. rep R (y .0)) (sym q) ∙ e)
-  iter-shows f A h (suc k) z e =
+  pub iter-shows : {r : ℕ} (f : Entry → Entry) (A : Map (E R) Ω) → ((z : Z) → rep R (z .0) ≡ r → Lands (f (stand z)) (move A z) r)
+      → (k : ℕ) (z : Z) → rep R (z .0) ≡ r → Lands (iter f k (stand z)) (move (power (maps (E R) Ω) A k) z) r
+  iter-shows {r} f A h zero z e =
+      subst (λ y. Lands (iter f zero (stand z)) y r) (sym (ap (λ B. move B z) (power-zero (maps (E R) Ω) A) ∙ move-one z)) (iter-zero f (stand z), e)
+  iter-shows {r} f A h (suc k) z e =
       let (a, b) = iter-shows f A h k z e in
       let (c, d) = h (move (power (maps (E R) Ω) A k) z) b in
-      let q : move A (move (power (maps (E R) Ω) A k) z) ≡ move (power (maps (E R) Ω) A (suc k)) z = sym (ap (λ B. move B z) (power-suc (maps (E R) Ω) A k) ∙ move-mul A _ z) in
-      (iter-out f k (stand z) ∙ ap f a ∙ c ∙ ap stand q, ap (λ y. rep R (y .0)) (sym q) ∙ d)
+      subst (λ y. Lands (iter f (suc k) (stand z)) y r) (sym (ap (λ B. move B z) (power-suc (maps (E R) Ω) A k) ∙ move-mul A _ z))
+      (iter-out f k (stand z) ∙ ap f a ∙ c, d)
 
   -- ---- Normal forms
 
   abbrev gens : ℕ → Map (E R) Ω
   gens k = F .d (genNf (T .context) i k)
 
-  walk-value : (r k : ℕ) → r < N R → k ≤ i → (w : NF k) (z : Z) → rep R (z .0) ≡ r
-      → (Fm.walk m (λ g. repOf L r .matrix g) k w (stand z) ≡ stand (move (value (maps (E R) Ω) gens k w) z)) × (rep R (move (value (maps (E R) Ω) gens k w) z .0) ≡ r)
+  abbrev walked : ℕ → (k : ℕ) → NF k → Z → Entry
+  walked r k w z = Fm.walk m (λ g. repOf L r .matrix g) k w (stand z)
+
+  walk-value : (r k : ℕ) → r < N R → k ≤ i → (w : NF k) (z : Z) → rep R (z .0) ≡ r → Lands (walked r k w z) (move (value (maps (E R) Ω) gens k w) z) r
   unfolding Fm.walk
-  walk-value r zero h l w z e =
-      let q : z ≡ move (value (maps (E R) Ω) gens zero w) z = sym (ap (λ B. move B z) (value-zero (maps (E R) Ω) gens w) ∙ move-one z) in
-      (ap stand q, ap (λ y. rep R (y .0)) (sym q) ∙ e)
+  walk-value r zero h l w z e = subst (λ y. Lands (stand z) y r) (sym (ap (λ B. move B z) (value-zero (maps (E R) Ω) gens w) ∙ move-one z)) (refl, e)
   walk-value r (suc k) h l w z e =
       let (a, b) = walk-value r k h (omega arith) (w .1) z e in
       let sh = stands .represents k (omega arith) r h in
       let y : Z = move (value (maps (E R) Ω) gens k (w .1)) z in
       let (c, d) = iter-shows (act m (repOf L r .matrix k)) (gens k) (λ y f. (act-shows sh y f, move-rep sh y f)) (w .0) y b in
-      let q : move (power (maps (E R) Ω) (gens k) (w .0)) y ≡ move (value (maps (E R) Ω) gens (suc k) w) z
-      = sym (ap (λ B. move B z) (value-suc (maps (E R) Ω) gens k w) ∙ move-mul _ _ z) in
-      (ap (iter (act m (repOf L r .matrix k)) (w .0)) a ∙ c ∙ ap stand q, ap (λ y. rep R (y .0)) (sym q) ∙ d)
+      subst (λ y. Lands (walked r (suc k) w z) y r) (sym (ap (λ B. move B z) (value-suc (maps (E R) Ω) gens k w) ∙ move-mul _ _ z))
+      (ap (iter (act m (repOf L r .matrix k)) (w .0)) a ∙ c, d)
 
   pub walk-shows : (r : ℕ) → r < N R → (x : Nf (T .context) i) (z : Z) → rep R (z .0) ≡ r
-      → (Fm.walk m (λ g. repOf L r .matrix g) i (x .0) (stand z) ≡ stand (move (F .d x) z)) × (rep R (move (F .d x) z .0) ≡ r)
-  walk-shows r h x z e =
-      let (a, b) = walk-value r i h (omega arith) (x .0) z e in
-      let q : value (maps (E R) Ω) gens i (x .0) ≡ F .d x = sym (value-hom (F .hom) (genNf (T .context) i) i (x .0)) ∙ ap (F .d) (group T i (omega (arith, R .in-range)) .gen-value x) in
-      (a ∙ ap (λ B. stand (move B z)) q, ap (λ B. rep R (move B z .0)) (sym q) ∙ b)
+      → Lands (Fm.walk m (λ g. repOf L r .matrix g) i (x .0) (stand z)) (move (F .d x) z) r
+  walk-shows r h x z e = subst (λ B. Lands (walked r i (x .0) z) (move B z) r)
+      (sym (value-hom (F .hom) (genNf (T .context) i) i (x .0)) ∙ ap (F .d) (group T i (omega (arith, R .in-range)) .gen-value x))
+      (walk-value r i h (omega arith) (x .0) z e)
 
   -- ---- The first column of a representation
 
@@ -141,8 +139,8 @@ module _ (R : Rung) where
   origin-stands r = ap₂ entry (firstOf-column R r (decLt r (N R))) (nil-value m pos)
 
   pub origin-moves : (A : Map (E R) Ω) (r : ℕ) → move A (origin r) ≡ A (first R r)
-  unfolding origin
-  origin-moves A r = move-from A (first R r)
+  unfolding origin move
+  origin-moves A r = pair (E R) refl (idr (E R) _)
 
   pub stand-exp : (z : Z) → stand z .exp ≡ z .1 .0
   unfolding stand
@@ -153,19 +151,19 @@ module _ (R : Rung) where
   pub turn-same : (r k : ℕ) → Fm.orbit Sc r k ≡ iter (τ R) k r
   turn-same r k = ap (λ t. iter t k r) (target-same R i)
 
-  pub around-shows : (r k : ℕ) → r < N R
-      → (Fm.around Sc r k ≡ stand (move (power (maps (E R) Ω) (F .X i) k) (origin r))) × (rep R (move (power (maps (E R) Ω) (F .X i) k) (origin r) .0) ≡ iter (τ R) k r)
+  pub around-shows : (r k : ℕ) → r < N R → Lands (Fm.around Sc r k) (move (power (maps (E R) Ω) (F .X i) k) (origin r)) (iter (τ R) k r)
   unfolding Fm.around
   around-shows r zero h =
-      let q : origin r ≡ move (power (maps (E R) Ω) (F .X i) zero) (origin r) = sym (ap (λ B. move B (origin r)) (power-zero (maps (E R) Ω) (F .X i)) ∙ move-one (origin r)) in
-      (sym (origin-stands r) ∙ ap stand q, ap (λ y. rep R (y .0)) (sym q) ∙ origin-rep r h ∙ sym (iter-zero (τ R) r))
+      subst (λ y. Lands (entry 0 0) y (iter (τ R) zero r)) (sym (ap (λ B. move B (origin r)) (power-zero (maps (E R) Ω) (F .X i)) ∙ move-one (origin r)))
+      (sym (origin-stands r), origin-rep r h ∙ sym (iter-zero (τ R) r))
   around-shows r (suc k) h =
       let (a, b) = around-shows r k h in
       let s : ℕ = iter (τ R) k r in
       let sh = stands .intertwines i (omega arith) (R .in-range) s (iter-below (O R) k r h) in
       let z : Z = move (power (maps (E R) Ω) (F .X i) k) (origin r) in
-      let q : move (F .X i) z ≡ move (power (maps (E R) Ω) (F .X i) (suc k)) (origin r) = sym (ap (λ B. move B (origin r)) (power-suc (maps (E R) Ω) (F .X i) k) ∙ move-mul _ _ (origin r)) in
-      (ap₂ (λ t x. act m (repOf L t .matrix i) x) (turn-same r k) a ∙ act-shows sh z b ∙ ap stand q, ap (λ y. rep R (y .0)) (sym q) ∙ move-rep sh z b ∙ sym (iter-out (τ R) k r))
+      subst (λ y. Lands (Fm.around Sc r (suc k)) y (iter (τ R) (suc k) r))
+      (sym (ap (λ B. move B (origin r)) (power-suc (maps (E R) Ω) (F .X i) k) ∙ move-mul _ _ (origin r)))
+      (ap₂ (λ t x. act m (repOf L t .matrix i) x) (turn-same r k) a ∙ act-shows sh z b, move-rep sh z b ∙ sym (iter-out (τ R) k r))
 
   pub shift-is : (r : ℕ) → r < N R → Fm.shift Sc r ≡ (residues m pos .neg (defect (S R) F (first R r))) .0
   unfolding Fm.shift uNf

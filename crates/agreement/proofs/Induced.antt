@@ -6,13 +6,14 @@
 --   block-is, block-same  the blocks along generator i
 --   left-same             the left side of the equation that forces the scalars
 use mathlib.Core.Path.{_≡_, refl, sym, _∙_, ap, ap₂, subst}
+use mathlib.Core.Logic.{by-cases}
 use Prim.Native.Nat.{ℕ, zero, suc, _+_, _*_, _-_, _%_, _<_}
-use native.Mathlib.Nat.{mod-eq-of-lt, mod-self, mod-lt, mod-add-mod, zero-mod}
+use native.Mathlib.Nat.{mod-eq-of-lt, mod-self, mod-lt, mod-add-mod, zero-mod, mul-suc}
 use native.Mathlib.Omega.{arith}
 use native.Mathlib.Decide.{decLt}
 use Rattle.definitions.specs.declared.Entry.{Entry}
 use Rattle.definitions.specs.Lists.{iter}
-use Rattle.definitions.specs.Presentation.{Mul, power}
+use Rattle.definitions.specs.Presentation.{power}
 use Rattle.definitions.specs.Monomial.{entry, col, act, repOf}
 use Rattle.definitions.specs.Steps
 use Rattle.formulas.specs.Formulas as Fm
@@ -24,30 +25,26 @@ use Rattle.numbers.proofs.Orbits.{leader, position, iter-below, leader-iter}
 use Rattle.group.specs.Context.{Nf}
 use Rattle.group.proofs.Values.{power-zero, power-suc}
 use Rattle.group.proofs.Level.{wNf}
-use Rattle.monomial.specs.Exponents.{Exponents, Residue}
+use Rattle.monomial.specs.Exponents.{Exponents}
 use Rattle.monomial.specs.Maps.{Map, maps}
-use Rattle.monomial.proofs.Maps.{at-mul}
 use Rattle.monomial.proofs.Residues.{residues, nil-value}
 use Rattle.clifford.specs.Stands.{Stands, Rung}
 use Rattle.clifford.proofs.Numbering.{P, p, N, deg, rep, τ, S, ready, O, rep-below}
 use Rattle.clifford.proofs.Defect.{defect, defect-const, defect-power, X-maps}
-use Rattle.clifford.proofs.Top.{Y, Y-at, Y-maps, φ, φ-is, φ-maps}
+use Rattle.clifford.proofs.Top.{Y, Y-maps, φ, φ-is, φ-maps}
 use Rattle.clifford.proofs.Scalars.{σ, σ-last, σ-other}
 use Rattle.clifford.proofs.Extensions.{E, 𝓢, first, first-rep}
 use Rattle.clifford.proofs.Inductions.{Member, member, position-of, position-mod}
 use Rattle.clifford.proofs.Intertwiners.{block-after, member-of, at-block, left-shows}
 use Rattle.monomial.proofs.Schur.{rep-power}
 use Rattle.agreement.proofs.Entries.{Sc, Z, stand, move, move-mul, move-one, act-shows, walk-shows, origin, origin-rep, origin-stands, origin-moves}
-use Rattle.agreement.proofs.Entries.{stand-exp, turn-same, shift-is}
-use Rattle.agreement.proofs.Extended.{plus-move}
+use Rattle.agreement.proofs.Entries.{move-pair, stand-exp, turn-same, shift-is}
+use Rattle.agreement.proofs.Extended.{plus-on}
 
 module _ (R : Rung) where
   open Rung R using (T, m, pos, i, L, Ω, F, stands)
-  open Stands (R .stands) using (column, complete)
-  open Exponents (residues m pos) using (add, nil, neg)
-
-  infixl 70 _*′_
-  open Mul (maps (E R) Ω) using (mul as _*′_)
+  open Stands (R .stands) using (column)
+  open Exponents (residues m pos) using (add, neg)
 
   abbrev two : 1 < p R
   two = T .context .two i
@@ -66,31 +63,21 @@ module _ (R : Rung) where
 
     -- the constant of a block
     shift-block : (z : Z R) → In z → Fm.shiftOf (Sc R) r (position (O R) (rep R (z .0))) ≡ σ (S R) m pos F (ready R) (rep R (z .0)) .0
-    shift-block z e = go (decLt (suc b) (p R))
-      where
-        b : ℕ
-        b = position (O R) (rep R (z .0))
-
-        defect-here : defect (S R) F (first R (rep R (z .0))) ≡ defect (S R) F (first R r)
-        defect-here =
-            let along = rep-power F (τ R) (F .X i) (X-maps (S R) F) b (first R r) ∙ ap (iter (τ R) b) (first-rep R r h) in
-            defect-const (S R) F _ _ (first-rep R (rep R (z .0)) (rep-below R (z .0)) ∙ sym (of z e .back) ∙ sym along)
-            ∙ defect-power (S R) F b (first R r)
-
-        go : Dec (suc b < p R) → Fm.shiftOf (Sc R) r b ≡ σ (S R) m pos F (ready R) (rep R (z .0)) .0
-        go (yes l) = cond-lt (suc b) (p R) _ _ l ∙ sym (ap (λ z. z .0) (σ-other (S R) m pos F (ready R) (rep R (z .0)) (of z e .moved) (λ q. omega arith)) ∙ nil-value m pos)
-        go (no l) =
-            let q : b ≡ p R - 1 = omega (arith, of z e .below) in
-            cond-ge (suc b) (p R) _ _ (omega arith) ∙ shift-is R r h ∙ sym (ap (λ z. z .0) (σ-last (S R) m pos F (ready R) (rep R (z .0)) (of z e .moved) q ∙ ap neg defect-here))
+    shift-block z e =
+        let s : ℕ = rep R (z .0) in
+        let b : ℕ = position (O R) s in
+        let along = rep-power F (τ R) (F .X i) (X-maps (S R) F) b (first R r) ∙ ap (iter (τ R) b) (first-rep R r h) in
+        let defect-here : defect (S R) F (first R s) ≡ defect (S R) F (first R r)
+        = defect-const (S R) F _ _ (first-rep R s (rep-below R (z .0)) ∙ sym (of z e .back) ∙ sym along) ∙ defect-power (S R) F b (first R r) in
+        by-cases (decLt (suc b) (p R))
+        (λ l. cond-lt (suc b) (p R) _ _ l ∙ sym (ap (λ z. z .0) (σ-other (S R) m pos F (ready R) s (of z e .moved) (λ q. omega arith)) ∙ nil-value m pos))
+        (λ l. let q : b ≡ p R - 1 = omega (arith, of z e .below) in
+        cond-ge (suc b) (p R) _ _ (omega arith) ∙ shift-is R r h
+        ∙ sym (ap (λ z. z .0) (σ-last (S R) m pos F (ready R) s (of z e .moved) q ∙ ap neg defect-here)))
 
     pub plus-shows : (z : Z R) → leader (O R) (rep R (z .0)) ≡ r
         → Fm.plus m (Fm.shiftOf (Sc R) r (position (O R) (rep R (z .0)))) (act m (repOf L (rep R (z .0)) .matrix i) (stand R z)) ≡ stand R (move R Yo z)
-    unfolding Fm.plus stand move
-    plus-shows z e =
-        let k : Residue m = σ (S R) m pos F (ready R) (rep R (z .0)) in
-        ap₂ (λ c (x : Entry). entry (x .row) ((x .exp + c) % m)) (shift-block z e) (act-shows R (stands .intertwines i (omega arith) (R .in-range) (rep R (z .0)) (rep-below R (z .0))) z refl)
-        ∙ ap (λ w. entry (column ((F .X i (z .0)) .0)) w) (plus-move R k (z .0) ((F .X i (z .0)) .1) (z .1))
-        ∙ ap (λ y. entry (column (y .0)) ((add (y .1) (z .1)) .0)) (sym (Y-at (S R) F (𝓢 R) (z .0)))
+    plus-shows z e = plus-on R _ (stands .intertwines i (omega arith) (R .in-range) (rep R (z .0)) (rep-below R (z .0))) z refl (shift-block z e)
 
     -- an entry of the orbit, with its block
     unfoldable held : Z R → Moved
@@ -103,14 +90,12 @@ module _ (R : Rung) where
 
     next-block : (z : Z R) → In z → Fm.nextOf (Sc R) (position (O R) (rep R (z .0))) ≡ position (O R) (rep R (move R Yo z .0))
     unfolding move
-    next-block z e = go (decLt (suc b) (p R)) ∙ sym (ap (position (O R)) (Y-maps (S R) F (𝓢 R) (z .0) ∙ ap (τ R) (sym (of z e .back)) ∙ sym (iter-out (τ R) b r)) ∙ position-mod R r h mv own (suc b))
-      where
-        b : ℕ
-        b = position (O R) (rep R (z .0))
-
-        go : Dec (suc b < p R) → Fm.nextOf (Sc R) b ≡ suc b % p R
-        go (yes l) = cond-lt (suc b) (p R) _ _ l ∙ sym (mod-eq-of-lt l)
-        go (no l) = let q : suc b ≡ p R = omega (arith, of z e .below) in cond-ge (suc b) (p R) _ _ (omega arith) ∙ sym (ap (λ k. k % p R) q ∙ mod-self (p R))
+    next-block z e =
+        let b : ℕ = position (O R) (rep R (z .0)) in
+        let turned : Fm.nextOf (Sc R) b ≡ suc b % p R = by-cases (decLt (suc b) (p R)) (λ l. cond-lt (suc b) (p R) _ _ l ∙ sym (mod-eq-of-lt l))
+        (λ l. let q : suc b ≡ p R = omega (arith, of z e .below) in cond-ge (suc b) (p R) _ _ (omega arith) ∙ sym (ap (λ k. k % p R) q ∙ mod-self (p R))) in
+        turned ∙ sym (ap (position (O R)) (Y-maps (S R) F (𝓢 R) (z .0) ∙ ap (τ R) (sym (of z e .back)) ∙ sym (iter-out (τ R) b r))
+        ∙ position-mod R r h mv own (suc b))
 
     orbit-back : (z : Z R) → In z → Fm.orbit (Sc R) r (position (O R) (rep R (z .0))) ≡ rep R (z .0)
     orbit-back z e = turn-same R r _ ∙ of z e .back
@@ -175,15 +160,11 @@ module _ (R : Rung) where
       unfolding Fm.blockAt
       block-is zero = let z : A * 0 ≡ 0 = omega arith in sym (ap (λ k. k % p R) z ∙ zero-mod (p R))
       block-is (suc t) =
-          let z : A * t + A ≡ A * suc t = omega arith in
-          ap (λ b. Fm.conjugateEntry (Sc R) j r b .block) (block-is t) ∙ block-step ((A * t) % p R) (mod-lt _ (omega (arith, two))) ∙ mod-add-mod (A * t) (p R) A ∙ ap (λ k. k % p R) z
+          ap (λ b. Fm.conjugateEntry (Sc R) j r b .block) (block-is t) ∙ block-step ((A * t) % p R) (mod-lt _ (omega (arith, two)))
+          ∙ mod-add-mod (A * t) (p R) A ∙ ap (λ k. k % p R) (sym (mul-suc A t))
 
       pub block-same : (t : ℕ) → Fm.blockAt (Sc R) j r t ≡ Steps.blockAfter (P R) m i L j r t
       block-same t = block-is t ∙ sym (block-after R j ij jn r h mv own t)
-
-      move-pair : (B D : Map (E R) Ω) (a : Ω) → move R B (D a) ≡ (B *′ D) a
-      unfolding move
-      move-pair B D a = sym (at-mul (E R) B D a)
 
       pub left-same : (b : ℕ) → b < p R → Fm.leftAt (Sc R) j r b ≡ col (Steps.leftSide (P R) m i L j r) (b * deg R r) .exp
       unfolding Fm.leftAt held member-of
@@ -192,5 +173,5 @@ module _ (R : Rung) where
           let z : Z R = φo (mem b) in
           let Xj = stands .intertwines j (omega arith) jn (rep R (z .0)) (rep-below R (z .0)) in
           ap (λ (x : Moved). act m (repOf L (Fm.orbit (Sc R) r (x .block)) .matrix j) (x .at) .exp) a ∙ ap (λ t. act m (repOf L t .matrix j) (stand R z) .exp) (orbit-back z e)
-          ∙ ap (λ (x : Entry). x .exp) (act-shows R Xj z refl) ∙ stand-exp R _ ∙ ap (λ y. y .1 .0) (move-pair (F .X j) φo (mem b))
+          ∙ ap (λ (x : Entry). x .exp) (act-shows R Xj z refl) ∙ stand-exp R _ ∙ ap (λ y. y .1 .0) (move-pair R (F .X j) φo (mem b))
           ∙ sym (ap (λ (x : Entry). x .exp) (at-block R j ij jn r h mv own (left-shows R j ij jn r h mv own) b l))

@@ -1,16 +1,19 @@
 -- The closed formulas ask of the level below only what its lines say: sources that agree there give the same lines.
 --
+--   level-length, level-at  how many representations the level of a source has, and each of them
+--   not-above               two choices by whether a generator is above the one on top
 --   Twins                   two sources that agree on the listed representations, and on the words and matrices of the
 --                           generators below n
 --   left, right             the two
 --   orbit-same .. scalar-same      every function of the formulas
 --   twins-words             their levels have the same lines
-use mathlib.Core.Path.{_≡_, refl, sym, _∙_, ap, ap₂, subst}
+use mathlib.Core.Path.{_≡_, refl, sym, _∙_, ap, ap₂, subst, fun-ext}
+use mathlib.Core.Logic.{by-cases}
 use mathlib.Core.Bool.{Bool, true, false, cond}
 use mathlib.Core.List.{[], _∷_, map}
 use Prim.Native.Nat.{ℕ, zero, suc, _+_, _*_, _/_, _%_, _≤_, _<_}
 use native.Mathlib.Omega.{arith}
-use native.Mathlib.Decide.{decLt, ℕ-discrete}
+use native.Mathlib.Decide.{decLt}
 use lib.Dec.{eqb, ltb, leb}
 use lib.ListN.{length, getD}
 use borrow.Author.Tests.{eq-eqb, le-leb}
@@ -22,7 +25,7 @@ use Rattle.definitions.specs.Steps.{lift}
 use Rattle.definitions.specs.Table.{lineOf, repWords, levelWords}
 use Rattle.formulas.specs.Formulas as Fm
 use Rattle.formulas.specs.Formulas.{Source, Moved}
-use Rattle.numbers.proofs.Bools.{cond-true, cond-eq, cond-lt}
+use Rattle.numbers.proofs.Bools.{compared, cond-true, cond-eq, cond-lt}
 use Rattle.numbers.proofs.Lists.{iter-zero, iter-suc, length-blocks}
 use Rattle.numbers.proofs.Sums.{sum-below, owner}
 use Rattle.numbers.proofs.Searches.{anyBelow-intro, anyBelow-below, least-least}
@@ -39,22 +42,42 @@ least-below : (n : ℕ) (q q′ : ℕ → Bool) → ((j : ℕ) → j < n → q j
 unfolding least
 least-below n q q′ h = leastFrom-below n 0 q q′ (λ j a b. h j (omega arith))
 
+-- ---- The level of a source
+
+-- what stands above a representation that is fixed (b), or that leads (c)
+abbrev given : Source → ℕ → Bool → Bool → Level
+given S r b c = cond b (map (Fm.extensionAt S r) (upto (S .p))) (cond c (Fm.inductionAt S r ∷ []) [])
+
+module _ (S : Source) where
+  given-length : (r : ℕ) → length (Fm.givenAt S r) ≡ Fm.made S r
+  unfolding Fm.givenAt Fm.made
+  given-length r = go (Fm.fixed S r) (eqb (Fm.leader S r) r)
+    where
+      go : (b c : Bool) → length (given S r b c) ≡ cond b (S .p) (cond c 1 0)
+      go true c = length-table (Fm.extensionAt S r) (S .p)
+      go false true = refl
+      go false false = refl
+
+  pub level-length : length (Fm.levelBy S) ≡ sum (S .count) (Fm.made S)
+  unfolding Fm.levelBy
+  level-length = length-blocks (S .count) (Fm.givenAt S) ∙ sum-below (S .count) _ (Fm.made S) (λ r l. given-length r)
+
+  pub level-at : (s κ : ℕ) → s < S .count → κ < Fm.made S s → repOf (Fm.levelBy S) (sum s (Fm.made S) + κ) ≡ getD (Fm.givenAt S s) κ noRep
+  unfolding Fm.levelBy repOf
+  level-at s κ h l =
+      ap (λ z. getD (blocks (S .count) (Fm.givenAt S)) (z + κ) noRep) (sym (sum-below s (λ k. length (Fm.givenAt S k)) (Fm.made S) (λ k a. given-length k)))
+      ∙ getD-blocks noRep (S .count) (Fm.givenAt S) s κ h (subst (λ z. κ < z) (sym (given-length s)) l)
+
 -- ---- By the kind of a generator: below the one on top, that one, or above
 
 by-kind : (g i b : ℕ) {x x′ y y′ : ℕ} → x ≡ x′ → (i < g → y ≡ y′) → cond (ltb g i) b (cond (eqb g i) x y) ≡ cond (ltb g i) b (cond (eqb g i) x′ y′)
-by-kind g i b {x} {x′} {y} {y′} e h = go (decLt i g) (ℕ-discrete g i)
-  where
-    go : Dec (i < g) → Dec (g ≡ i) → cond (ltb g i) b (cond (eqb g i) x y) ≡ cond (ltb g i) b (cond (eqb g i) x′ y′)
-    go (yes a) d = ap₂ (λ x y. cond (ltb g i) b (cond (eqb g i) x y)) e (h a)
-    go (no a) (yes q) = ap (cond (ltb g i) b) (cond-eq g i _ _ q ∙ e ∙ sym (cond-eq g i _ _ q))
-    go (no a) (no q) = cond-lt g i _ _ (omega arith) ∙ sym (cond-lt g i _ _ (omega arith))
+by-kind g i b e h = compared g i (λ a. cond-lt g i _ _ a ∙ sym (cond-lt g i _ _ a))
+    (λ q. ap (cond (ltb g i) b) (cond-eq g i _ _ q ∙ e ∙ sym (cond-eq g i _ _ q)))
+    (λ a. ap₂ (λ x y. cond (ltb g i) b (cond (eqb g i) x y)) e (h a))
 
-not-above : (g i : ℕ) {x x′ y y′ : ℕ} → x ≡ x′ → (i < g → y ≡ y′) → cond (leb g i) x y ≡ cond (leb g i) x′ y′
-not-above g i {x} {x′} {y} {y′} e h = go (decLt i g)
-  where
-    go : Dec (i < g) → cond (leb g i) x y ≡ cond (leb g i) x′ y′
-    go (yes a) = ap₂ (cond (leb g i)) e (h a)
-    go (no a) = cond-true (leb g i) _ _ (le-leb g i (omega arith)) ∙ e ∙ sym (cond-true (leb g i) _ _ (le-leb g i (omega arith)))
+pub not-above : (g i : ℕ) {x x′ y y′ : ℕ} → x ≡ x′ → (i < g → y ≡ y′) → cond (leb g i) x y ≡ cond (leb g i) x′ y′
+not-above g i e h = by-cases (decLt i g) (λ a. ap₂ (cond (leb g i)) e (h a))
+    (λ a. let t = le-leb g i (omega arith) in cond-true (leb g i) _ _ t ∙ e ∙ sym (cond-true (leb g i) _ _ t))
 
 pub record Twins : Type 0 where
   pub m : ℕ
@@ -105,8 +128,7 @@ module _ (T : Twins) where
   leader-in : (r : ℕ) → r < count → Fm.leader left r < count
   leader-in r h =
       let own = anyBelow-intro p (λ k. eqb (iter (target i) k r) r) 0 (T .p-pos) (eq-eqb _ _ (iter-zero (target i) r)) in
-      let a : Fm.leader left r ≤ r = least-least count (λ q. anyBelow p (λ k. eqb (iter (target i) k q) r)) r own in
-      omega arith
+      let a : Fm.leader left r ≤ r = least-least count (λ q. anyBelow p (λ k. eqb (iter (target i) k q) r)) r own in omega arith
 
   position-same : (r : ℕ) → r < count → Fm.position left r ≡ Fm.position right r
   position-same r h = least-below p _ _ (λ k l. ap (λ s. eqb s r) (orbit-same k (Fm.leader left r) (leader-in r h) .0 ∙ ap (iter (target′ i) k) (leader-same r)))
@@ -143,8 +165,7 @@ module _ (T : Twins) where
   top-same r h x = ap₂ (λ c M. Fm.plus m (c / p) (act m M x)) (shift-same r h) (T .matrix-same r i h in-range)
 
   iter-same : {A : Type 0} (f g : A → A) → ((x : A) → f x ≡ g x) → (k : ℕ) (x : A) → iter f k x ≡ iter g k x
-  iter-same f g h zero x = iter-zero f x ∙ sym (iter-zero g x)
-  iter-same f g h (suc k) x = iter-suc f k x ∙ iter-same f g h k (f x) ∙ ap (iter g k) (h x) ∙ sym (iter-suc g k x)
+  iter-same f g h k x = ap (λ t. iter t k x) (fun-ext h)
 
   landing-same : (j r : ℕ) → i < j → j < n → r < count → Fm.landing left j r ≡ Fm.landing right j r
   unfolding Fm.landing
@@ -180,8 +201,7 @@ module _ (T : Twins) where
 
     left-same : (k : ℕ) → Fm.leftAt left j r k ≡ Fm.leftAt right j r k
     unfolding Fm.leftAt
-    left-same k =
-        ap (λ (x : Moved). act m (matrix (Fm.orbit left r (x .block)) j) (x .at) .exp) (conj-same k)
+    left-same k = ap (λ (x : Moved). act m (matrix (Fm.orbit left r (x .block)) j) (x .at) .exp) (conj-same k)
         ∙ ap (λ M. act m M (Fm.conjugateEntry right j r k .at) .exp) (orbit-matrix r (Fm.conjugateEntry right j r k .block) j h b)
 
     -- the representation to which block k is mapped
@@ -261,40 +281,13 @@ module _ (T : Twins) where
     mat-same : (g : ℕ) → g < n → D .matrix g ≡ D′ .matrix g
     ref-same : (g c : ℕ) → g < n → D .ref g c ≡ D′ .ref g c
 
-  -- what stands above a representation that is fixed (b), or that leads (c)
-  abbrev given : Source → ℕ → Bool → Bool → Level
-  given S r b c = cond b (map (Fm.extensionAt S r) (upto (S .p))) (cond c (Fm.inductionAt S r ∷ []) [])
-
-  given-length : (S : Source) (r : ℕ) → length (Fm.givenAt S r) ≡ Fm.made S r
-  unfolding Fm.givenAt Fm.made
-  given-length S r = go (Fm.fixed S r) (eqb (Fm.leader S r) r)
-    where
-      go : (b c : Bool) → length (given S r b c) ≡ cond b (S .p) (cond c 1 0)
-      go true c = length-table (Fm.extensionAt S r) (S .p)
-      go false true = refl
-      go false false = refl
-
-  level-length : (S : Source) → length (Fm.levelBy S) ≡ sum (S .count) (Fm.made S)
-  unfolding Fm.levelBy
-  level-length S = length-blocks (S .count) (Fm.givenAt S) ∙ sum-below (S .count) _ (Fm.made S) (λ r l. given-length S r)
-
-  level-at : (S : Source) (s κ : ℕ) → s < S .count → κ < Fm.made S s → repOf (Fm.levelBy S) (sum s (Fm.made S) + κ) ≡ getD (Fm.givenAt S s) κ noRep
-  unfolding Fm.levelBy repOf
-  level-at S s κ h l =
-      ap (λ z. getD (blocks (S .count) (Fm.givenAt S)) (z + κ) noRep) (sym (sum-below s (λ k. length (Fm.givenAt S k)) (Fm.made S) (λ k a. given-length S k)))
-      ∙ getD-blocks noRep (S .count) (Fm.givenAt S) s κ h (subst (λ z. κ < z) (sym (given-length S s)) l)
-
   extension-alike : (r k : ℕ) → r < count → Alike (Fm.extensionAt left r k) (Fm.extensionAt right r k)
-  extension-alike r k h = record { deg-same = deg-of; mat-same = extension-matrix r h k; ref-same = λ g c l. extension-ref r h k g c l }
-    where
-      deg-of : Fm.extensionAt left r k .deg ≡ Fm.extensionAt right r k .deg
-      deg-of = unfold Fm.extensionAt in (T .degree-same r h)
+  unfolding Fm.extensionAt
+  extension-alike r k h = record { deg-same = T .degree-same r h; mat-same = extension-matrix r h k; ref-same = extension-ref r h k }
 
   induction-alike : (r : ℕ) → r < count → Alike (Fm.inductionAt left r) (Fm.inductionAt right r)
-  induction-alike r h = record { deg-same = deg-of; mat-same = induction-matrix r h; ref-same = λ g c l. induction-ref r h g c l }
-    where
-      deg-of : Fm.inductionAt left r .deg ≡ Fm.inductionAt right r .deg
-      deg-of = unfold Fm.inductionAt in (ap (λ d. p * d) (T .degree-same r h))
+  unfolding Fm.inductionAt
+  induction-alike r h = record { deg-same = ap (λ d. p * d) (T .degree-same r h); mat-same = induction-matrix r h; ref-same = induction-ref r h }
 
   given-alike : (s κ : ℕ) → s < count → κ < Fm.made left s → Alike (getD (Fm.givenAt left s) κ noRep) (getD (Fm.givenAt right s) κ noRep)
   unfolding Fm.givenAt Fm.made
@@ -329,7 +322,6 @@ module _ (T : Twins) where
       ∙ ap (λ z. blocks z (λ r. repWords n k r (repOf (Fm.levelBy right) r))) twins-length
     where
       rep-words : (r : ℕ) (D D′ : Rep) → Alike D D′ → repWords n k r D ≡ repWords n k r D′
-      rep-words r D D′ a =
-          blocks-below n _ (λ g. blocks (D′ .deg) (λ c. lineOf k r D′ g c)) (λ g l.
+      rep-words r D D′ a = blocks-below n _ (λ g. blocks (D′ .deg) (λ c. lineOf k r D′ g c)) (λ g l.
           blocks-below (D .deg) _ (λ c. lineOf k r D′ g c) (λ c b. λ o. k ∷ r ∷ a .deg-same o ∷ suc g ∷ a .ref-same g c l o ∷ c ∷ col (a .mat-same g l o) c .row ∷ col (a .mat-same g l o) c .exp ∷ [])
           ∙ ap (λ d. blocks d (λ c. lineOf k r D′ g c)) (a .deg-same))

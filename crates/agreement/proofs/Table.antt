@@ -2,9 +2,9 @@
 --
 --   rungs                   every level of an accepted presentation stands, with what its step needs
 --   table-by-formulas       the table of the steps is the lines of the closed formulas
---   ReadsLevel, level-from       a source that reads level i as it is written gives the lines of level suc i
---   level-told              the same, where the words are those of the presentation for the generators above i
-use mathlib.Core.Path.{_≡_, refl, _∙_, subst}
+--   ReadsLevel, level-told  a source that reads level i as it is written, with the words of the presentation for the generators above i, gives the lines
+--                           of level suc i
+use mathlib.Core.Path.{_≡_, _∙_, subst}
 use Prim.Native.Nat.{ℕ, suc, _≤_, _<_}
 use native.Mathlib.Omega.{arith}
 use lib.ListN.{length}
@@ -33,17 +33,14 @@ module _ (A : Accepted) where
   abbrev pub m : ℕ
   m = order P n
 
-  abbrev pub rungs : (i : ℕ) → i < A .C .P .n → Rung
-  rungs i l = rung (setting A) i l (levels (A .C .P) (order (A .C .P) (A .C .P .n)) i) (standing (setting A) i (omega arith))
+  abbrev pub rungs : (i : ℕ) → i < n → Rung
+  rungs i l = rung (setting A) i l (levels P m i) (standing (setting A) i (omega arith))
 
-  pub level-by-formulas : (i : ℕ) → i < A .C .P .n
-      → levelWords (A .C .P .n) (suc i) (levels (A .C .P) (order (A .C .P) (A .C .P .n)) (suc i))
-      ≡ levelWords (A .C .P .n) (suc i) (levelBy (sourceOf (A .C .P) (order (A .C .P) (A .C .P .n)) i (levels (A .C .P) (order (A .C .P) (A .C .P .n)) i)))
+  pub level-by-formulas : (i : ℕ) → i < n → levelWords n (suc i) (levels P m (suc i)) ≡ levelWords n (suc i) (levelBy (sourceOf P m i (levels P m i)))
   unfolding levels rung
   level-by-formulas i l = same-words (rungs i l)
 
-  pub table-by-formulas : tableOf (A .C .P)
-      ≡ blocks (A .C .P .n) (λ i. levelWords (A .C .P .n) (suc i) (levelBy (sourceOf (A .C .P) (order (A .C .P) (A .C .P .n)) i (levels (A .C .P) (order (A .C .P) (A .C .P .n)) i))))
+  pub table-by-formulas : tableOf P ≡ blocks n (λ i. levelWords n (suc i) (levelBy (sourceOf P m i (levels P m i))))
   unfolding tableOf tableWith
   table-by-formulas = blocks-below n _ _ level-by-formulas
 
@@ -54,14 +51,14 @@ module _ (A : Accepted) where
     pub matrices : (r g : ℕ) → r < length (levels P m i) → g < n → repOf (levels P m i) r .matrix g ≡ matrix r g
     pub targets : (j r : ℕ) → i ≤ j → j < n → r < length (levels P m i) → repOf (levels P m i) r .ref j 0 ≡ target j r
 
-  module _ (i : ℕ) (l : i < A .C .P .n) (degree : ℕ → ℕ) (matrix : ℕ → ℕ → Matrix) (target : ℕ → ℕ → ℕ) (reads : ReadsLevel i degree matrix target) where
+  module _ (i : ℕ) (l : i < n) (degree : ℕ → ℕ) (matrix : ℕ → ℕ → Matrix) (target : ℕ → ℕ → ℕ) (reads : ReadsLevel i degree matrix target) where
     pub target-in : (j r : ℕ) → i ≤ j → j < n → r < length (levels P m i) → repOf (levels P m i) r .ref j 0 < length (levels P m i)
     target-in j r a b h =
         let St = standing (setting A) i (omega arith) in
         subst (λ s. s < length (levels P m i)) (St .literal j r) (target-listed (A .C) n m (order-positive (A .C) n) i (levels P m i) (St .F) (St .stands) j a b r h)
 
     -- the level, and what reads it
-    abbrev pub twins : (w : (j : ℕ) → NF (suc i)) → ((j : ℕ) → i < j → j < A .C .P .n → A .C .P .w i j ≡ w j) → Twins
+    abbrev pub twins : (w : (j : ℕ) → NF (suc i)) → ((j : ℕ) → i < j → j < n → P .w i j ≡ w j) → Twins
     twins w told = record {
       m = m;
       i = i;
@@ -86,32 +83,8 @@ module _ (A : Accepted) where
       target-below = target-in;
     }
 
-    pub level-told : (w : (j : ℕ) → NF (suc i)) → ((j : ℕ) → i < j → j < A .C .P .n → A .C .P .w i j ≡ w j)
-        → levelWords (A .C .P .n) (suc i) (levels (A .C .P) (order (A .C .P) (A .C .P .n)) (suc i))
-        ≡ levelWords (A .C .P .n) (suc i) (levelBy (record {
-          m = order (A .C .P) (A .C .P .n);
-          i = i;
-          p = A .C .P .p i;
-          u = A .C .P .u i;
-          w = w;
-          count = length (levels (A .C .P) (order (A .C .P) (A .C .P .n)) i);
-          degree = degree;
-          matrix = matrix;
-          target = target;
-        }))
+    pub level-told : (w : (j : ℕ) → NF (suc i)) → ((j : ℕ) → i < j → j < n → P .w i j ≡ w j)
+        → levelWords n (suc i) (levels P m (suc i)) ≡ levelWords n (suc i)
+        (levelBy (record { m = m; i = i; p = P .p i; u = P .u i; w = w; count = length (levels P m i); degree = degree; matrix = matrix; target = target }))
     unfolding sourceOf
     level-told w told = level-by-formulas i l ∙ twins-words (twins w told) (suc i)
-
-    pub level-from : levelWords (A .C .P .n) (suc i) (levels (A .C .P) (order (A .C .P) (A .C .P .n)) (suc i))
-        ≡ levelWords (A .C .P .n) (suc i) (levelBy (record {
-          m = order (A .C .P) (A .C .P .n);
-          i = i;
-          p = A .C .P .p i;
-          u = A .C .P .u i;
-          w = A .C .P .w i;
-          count = length (levels (A .C .P) (order (A .C .P) (A .C .P .n)) i);
-          degree = degree;
-          matrix = matrix;
-          target = target;
-        }))
-    level-from = level-told (P .w i) (λ j a b. refl)

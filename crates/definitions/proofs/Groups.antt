@@ -128,8 +128,7 @@ twisted-table =
     ∷ "2 5 1 1 2 0 0 8,2 5 1 2 2 0 0 8,2 5 1 3 2 0 0 0,3 0 1 1 0 0 0 0,3 0 1 2 0 0 0 0,3 0 1 3 0 0 0 0,3 1 1 1 0 0 0 0,3 1 1 2 0 0 0 0"
     ∷ "3 1 1 3 0 0 0 6,3 2 1 1 1 0 0 0,3 2 1 2 1 0 0 6,3 2 1 3 1 0 0 0,3 3 1 1 1 0 0 0,3 3 1 2 1 0 0 6,3 3 1 3 1 0 0 6,3 4 2 1 2 0 0 4"
     ∷ "3 4 2 1 5 1 1 8,3 4 2 2 2 0 0 4,3 4 2 2 5 1 1 8,3 4 2 3 2 0 1 0,3 4 2 3 5 1 0 0,3 5 2 1 3 0 0 4,3 5 2 1 4 1 1 8,3 5 2 2 3 0 0 10"
-    ∷ "3 5 2 2 4 1 1 2,3 5 2 3 3 0 1 0,3 5 2 3 4 1 0 0"
-    ∷ []
+    ∷ "3 5 2 2 4 1 1 2,3 5 2 3 3 0 1 0,3 5 2 3 4 1 0 0" ∷ []
 
 -- order 12: the extensions of a target are numbered from where that target starts
 abbrev pub rooted : Relations
@@ -143,8 +142,7 @@ rooted-table =
     ∷ "2 5 1 1 2 0 0 8,2 5 1 2 2 0 0 6,2 5 1 3 3 0 0 0,3 0 1 1 0 0 0 0,3 0 1 2 0 0 0 0,3 0 1 3 0 0 0 0,3 1 1 1 0 0 0 0,3 1 1 2 0 0 0 0"
     ∷ "3 1 1 3 0 0 0 6,3 2 1 1 1 0 0 0,3 2 1 2 1 0 0 6,3 2 1 3 1 0 0 3,3 3 1 1 1 0 0 0,3 3 1 2 1 0 0 6,3 3 1 3 1 0 0 9,3 4 2 1 2 0 0 4"
     ∷ "3 4 2 1 4 1 1 8,3 4 2 2 2 0 0 0,3 4 2 2 4 1 1 0,3 4 2 3 2 0 1 0,3 4 2 3 4 1 0 0,3 5 2 1 3 0 0 4,3 5 2 1 5 1 1 8,3 5 2 2 3 0 0 6"
-    ∷ "3 5 2 2 5 1 1 6,3 5 2 3 3 0 1 0,3 5 2 3 5 1 0 6"
-    ∷ []
+    ∷ "3 5 2 2 5 1 1 6,3 5 2 3 3 0 1 0,3 5 2 3 5 1 0 6" ∷ []
 
 -- the affine group over seven elements: the products of the intertwiners along an orbit depend on their order
 abbrev pub affine : Relations
@@ -162,8 +160,7 @@ affine-table =
     ∷ "3 3 1 3 1 0 0 0,3 4 1 1 1 0 0 0,3 4 1 2 1 0 0 21,3 4 1 3 1 0 0 14,3 5 1 1 1 0 0 0,3 5 1 2 1 0 0 21,3 5 1 3 1 0 0 28,3 6 6 1 2 0 0 6"
     ∷ "3 6 6 1 2 1 1 36,3 6 6 1 4 2 2 18,3 6 6 1 4 3 3 24,3 6 6 1 3 4 4 12,3 6 6 1 3 5 5 30,3 6 6 2 2 0 1 0,3 6 6 2 2 1 0 0,3 6 6 2 4 2 3 0"
     ∷ "3 6 6 2 4 3 2 0,3 6 6 2 3 4 5 0,3 6 6 2 3 5 4 0,3 6 6 3 2 0 3 0,3 6 6 3 2 1 2 36,3 6 6 3 4 2 5 0,3 6 6 3 4 3 4 24,3 6 6 3 3 4 0 18"
-    ∷ "3 6 6 3 3 5 1 6"
-    ∷ []
+    ∷ "3 6 6 3 3 5 1 6" ∷ []
 
 -- order 36: the right side of an induction's equation has the block cycle of the target
 abbrev pub linked : Relations
@@ -190,71 +187,53 @@ linked-table =
     ∷ "4 6 2 1 6 0 0 12,4 6 2 1 6 1 1 24,4 6 2 2 6 0 0 0,4 6 2 2 6 1 1 0,4 6 2 3 6 0 1 0,4 6 2 3 6 1 0 0,4 6 2 4 6 0 1 12,4 6 2 4 6 1 0 24"
     ∷ "4 7 2 1 6 0 0 12,4 7 2 1 6 1 1 24,4 7 2 2 6 0 0 0,4 7 2 2 6 1 1 0,4 7 2 3 6 0 1 0,4 7 2 3 6 1 0 0,4 7 2 4 6 0 1 30,4 7 2 4 6 1 0 6"
     ∷ "4 8 4 1 7 0 0 12,4 8 4 1 7 1 1 24,4 8 4 1 8 2 2 12,4 8 4 1 8 3 3 24,4 8 4 2 7 0 0 12,4 8 4 2 7 1 1 12,4 8 4 2 8 2 2 24,4 8 4 2 8 3 3 24"
-    ∷ "4 8 4 3 7 0 1 0,4 8 4 3 7 1 0 12,4 8 4 3 8 2 3 0,4 8 4 3 8 3 2 24,4 8 4 4 7 0 3 0,4 8 4 4 7 1 2 12,4 8 4 4 8 2 1 24,4 8 4 4 8 3 0 0"
-    ∷ []
+    ∷ "4 8 4 3 7 0 1 0,4 8 4 3 7 1 0 12,4 8 4 3 8 2 3 0,4 8 4 3 8 3 2 24,4 8 4 4 7 0 3 0,4 8 4 4 7 1 2 12,4 8 4 4 8 2 1 24,4 8 4 4 8 3 0 0" ∷ []
 
 -- ---- Tables that are refused
 
 -- S3: one representation of degree 2 on each level, and 4 is above the order of level 1
 unfoldable pub wide-S3 : List String
-wide-S3 =
-    "1 0 2 1 0 0 0 0,1 0 2 1 0 1 1 0,1 0 2 2 0 0 0 0,1 0 2 2 0 1 1 0,2 0 2 1 0 0 0 0,2 0 2 1 0 1 1 0,2 0 2 2 0 0 0 0,2 0 2 2 0 1 1 0"
-    ∷ []
+wide-S3 = "1 0 2 1 0 0 0 0,1 0 2 1 0 1 1 0,1 0 2 2 0 0 0 0,1 0 2 2 0 1 1 0,2 0 2 1 0 0 0 0,2 0 2 1 0 1 1 0,2 0 2 2 0 0 0 0,2 0 2 2 0 1 1 0" ∷ []
 
 -- C4: both generators exchange two basis indices, so the square of the second is not the first
 unfoldable pub swapped-C4 : List String
-swapped-C4 =
-    "1 0 1 1 0 0 0 0,1 0 1 2 0 0 0 0,1 1 1 1 0 0 0 2,1 1 1 2 1 0 0 0,2 0 2 1 0 0 1 0,2 0 2 1 0 1 0 0,2 0 2 2 0 0 1 0,2 0 2 2 0 1 0 0"
-    ∷ []
+swapped-C4 = "1 0 1 1 0 0 0 0,1 0 1 2 0 0 0 0,1 1 1 1 0 0 0 2,1 1 1 2 1 0 0 0,2 0 2 1 0 0 1 0,2 0 2 1 0 1 0 0,2 0 2 2 0 0 1 0,2 0 2 2 0 1 0 0" ∷ []
 
 -- C2³: an intertwiner of level 2 leads from degree 1 to degree 2
 unfoldable pub unequal-C2-cubed : List String
 unequal-C2-cubed =
     "1 0 1 1 0 0 0 0,1 0 1 2 0 0 0 0,1 0 1 3 0 0 0 0,1 1 1 1 0 0 0 4,1 1 1 2 1 0 0 0,1 1 1 3 1 0 0 0,2 0 1 1 0 0 0 0,2 0 1 2 0 0 0 0"
     ∷ "2 0 1 3 1 0 0 0,2 1 2 1 0 0 0 0,2 1 2 1 0 1 1 0,2 1 2 2 0 0 0 0,2 1 2 2 0 1 1 4,2 1 2 3 1 0 0 0,2 1 2 3 1 1 1 0,3 0 1 1 0 0 0 0"
-    ∷ "3 0 1 2 0 0 0 0,3 0 1 3 0 0 0 0"
-    ∷ []
+    ∷ "3 0 1 2 0 0 0 0,3 0 1 3 0 0 0 0" ∷ []
 
 -- V4: a diagonal representation of degree 2, whose basis index 1 is not reached
 unfoldable pub diagonal-V4 : List String
-diagonal-V4 =
-    "1 0 1 1 0 0 0 0,1 0 1 2 0 0 0 0,1 1 1 1 0 0 0 2,1 1 1 2 1 0 0 0,2 0 2 1 0 0 0 0,2 0 2 1 0 1 1 0,2 0 2 2 0 0 0 0,2 0 2 2 0 1 1 2"
-    ∷ []
+diagonal-V4 = "1 0 1 1 0 0 0 0,1 0 1 2 0 0 0 0,1 1 1 1 0 0 0 2,1 1 1 2 1 0 0 0,2 0 2 1 0 0 0 0,2 0 2 1 0 1 1 0,2 0 2 2 0 0 0 0,2 0 2 2 0 1 1 2" ∷ []
 
 -- V4: a representation of degree 2 whose two basis indices are not separated
 unfoldable pub exchanging-V4 : List String
-exchanging-V4 =
-    "1 0 1 1 0 0 0 0,1 0 1 2 0 0 0 0,1 1 1 1 0 0 0 2,1 1 1 2 1 0 0 0,2 0 2 1 0 0 0 0,2 0 2 1 0 1 1 0,2 0 2 2 0 0 1 0,2 0 2 2 0 1 0 0"
-    ∷ []
+exchanging-V4 = "1 0 1 1 0 0 0 0,1 0 1 2 0 0 0 0,1 1 1 1 0 0 0 2,1 1 1 2 1 0 0 0,2 0 2 1 0 0 0 0,2 0 2 1 0 1 1 0,2 0 2 2 0 0 1 0,2 0 2 2 0 1 0 0" ∷ []
 
 -- V4: representation 1 of level 1 stands there twice
 unfoldable pub doubled-V4 : List String
 doubled-V4 =
     "1 0 1 1 0 0 0 0,1 0 1 2 0 0 0 0,1 1 1 1 0 0 0 2,1 1 1 2 1 0 0 0,1 2 1 1 0 0 0 2,1 2 1 2 1 0 0 0,2 0 1 1 0 0 0 0,2 0 1 2 0 0 0 0"
-    ∷ "2 1 1 1 0 0 0 0,2 1 1 2 0 0 0 2,2 2 1 1 1 0 0 2,2 2 1 2 1 0 0 0,2 3 1 1 1 0 0 2,2 3 1 2 1 0 0 2"
-    ∷ []
+    ∷ "2 1 1 1 0 0 0 0,2 1 1 2 0 0 0 2,2 2 1 1 1 0 0 2,2 2 1 2 1 0 0 0,2 3 1 1 1 0 0 2,2 3 1 2 1 0 0 2" ∷ []
 
 -- V4: the trivial representation stands last on level 2, and its last line is missing
 unfoldable pub cut-V4 : List String
 cut-V4 =
     "1 0 1 1 0 0 0 0,1 0 1 2 0 0 0 0,1 1 1 1 0 0 0 2,1 1 1 2 1 0 0 0,2 0 1 1 0 0 0 0,2 0 1 2 0 0 0 2,2 1 1 1 1 0 0 2,2 1 1 2 1 0 0 0"
-    ∷ "2 2 1 1 1 0 0 2,2 2 1 2 1 0 0 2,2 3 1 1 0 0 0 0"
-    ∷ []
+    ∷ "2 2 1 1 1 0 0 2,2 2 1 2 1 0 0 2,2 3 1 1 0 0 0 0" ∷ []
 
 -- for level 3 of S3-C2: degree 1, and refers to degree 2
 unfoldable pub short-block : List String
-short-block =
-    "3 6 1 1 2 0 0 0,3 6 1 2 2 0 0 0,3 6 1 3 2 0 0 0"
-    ∷ []
+short-block = "3 6 1 1 2 0 0 0,3 6 1 2 2 0 0 0,3 6 1 3 2 0 0 0" ∷ []
 
 -- for level 3 of S3-C2: degree 2, and its second column refers elsewhere
 unfoldable pub mixed-block : List String
-mixed-block =
-    "3 6 2 1 2 0 0 0,3 6 2 1 0 1 1 0,3 6 2 2 2 0 0 0,3 6 2 2 0 1 1 0,3 6 2 3 2 0 0 0,3 6 2 3 0 1 1 0"
-    ∷ []
+mixed-block = "3 6 2 1 2 0 0 0,3 6 2 1 0 1 1 0,3 6 2 2 2 0 0 0,3 6 2 2 0 1 1 0,3 6 2 3 2 0 0 0,3 6 2 3 0 1 1 0" ∷ []
 
 -- for level 2 of S3: representation 2 once more, with other exponents of the second generator
 unfoldable pub shifted : List String
-shifted =
-    "2 3 2 1 1 0 0 2,2 3 2 1 2 1 1 4,2 3 2 2 1 0 1 1,2 3 2 2 2 1 0 5"
-    ∷ []
+shifted = "2 3 2 1 1 0 0 2,2 3 2 1 2 1 1 4,2 3 2 2 1 0 1 1,2 3 2 2 2 1 0 5" ∷ []

@@ -18,7 +18,7 @@
 --   leaves-refused, leaves-finished     what a refused call leaves, and a finished one
 use mathlib.Core.Path.{_≡_, refl, sym, _∙_, ap, subst}
 use mathlib.Core.Logic.{_↔_, inl, inr}
-use mathlib.Core.Bool.{Bool, true, false, _&&_, cond, false≢true, not-eq-not}
+use mathlib.Core.Bool.{Bool, true, false, _&&_, cond, false≢true, not-eq-not, and-eq-true-iff}
 use mathlib.Core.List.{List, [], _∷_, _++_, map}
 use Prim.Native.Nat.{ℕ}
 use native.Mathlib.Omega.{arith}
@@ -28,7 +28,7 @@ use Rattle.definitions.specs.Text.{Bytes}
 use Rattle.definitions.specs.Presentation.{Presentation, Relations, Says, presentation}
 use Rattle.definitions.specs.Answers.{First, firstOf, says, presentationRefusals, short, buildRefusals, judgements, tableRefusals, checkRefusals}
 use Rattle.definitions.specs.Answers.{judgement, readRefusals, writeRefusals, Leaves, Accept}
-use Rattle.definitions.proofs.Rendering.{and-left, and-right, says-unique}
+use Rattle.definitions.proofs.Rendering.{says-unique}
 
 pub first-unique : (cs : List (ℕ × Type 0)) (a b : ℕ) → First cs a → First cs b → a ≡ b
 first-unique [] a b p q = p ∙ sym q
@@ -63,8 +63,8 @@ None (c ∷ cs) = (¬ c .1) × None cs
 
 pub first-none : (cs : List (ℕ × Type 0)) → numbered cs ≡ true → First cs 0 → None cs
 first-none [] q f = tt
-first-none (c ∷ cs) q (inl h) = absurd (omega (arith, ltb-true 0 (c .0) (and-left (ltb 0 (c .0)) (numbered cs) q), h .1))
-first-none (c ∷ cs) q (inr h) = (h .0, first-none cs (and-right (ltb 0 (c .0)) (numbered cs) q) (h .1))
+first-none (c ∷ cs) q (inl h) = absurd (omega (arith, ltb-true 0 (c .0) (and-eq-true-iff (ltb 0 (c .0)) (numbered cs) .0 q .0), h .1))
+first-none (c ∷ cs) q (inr h) = (h .0, first-none cs (and-eq-true-iff (ltb 0 (c .0)) (numbered cs) .0 q .1) (h .1))
 
 pub none-first : (cs : List (ℕ × Type 0)) → None cs → First cs 0
 none-first [] h = refl
@@ -138,12 +138,9 @@ module _ (t : Bytes) (U : Unrefused t) (R : Relations) (s : Says t R) (modulus :
 
   judged : First (checkRefusals t modulus T) (judgement (presentation R) (modulus (presentation R)) T)
   unfolding judgement
-  judged =
-      first-behind (tableRefusals t modulus T) _ (presentationRefusals t) U
-      (first-tests (λ (q : Test). says t (λ Q. judges q Q ≡ true)) (λ (q : Test). judges q R) told (λ q e. (R, s, e)) judgements)
-    where
-      told : (q : Test) → says t (λ Q. judges q Q ≡ true) → judges q R ≡ true
-      told q (Q, z, e) = ap (judges q) (says-unique t R Q s z) ∙ e
+  judged = first-behind (tableRefusals t modulus T) _ (presentationRefusals t) U
+      (first-tests (λ (q : Test). says t (λ Q. judges q Q ≡ true)) (λ (q : Test). judges q R)
+      (λ q (Q, z, e). ap (judges q) (says-unique t R Q s z) ∙ e) (λ q e. (R, s, e)) judgements)
 
   pub check-judged : (a : ℕ) → First (checkRefusals t modulus T) a ↔ (a ≡ judgement (presentation R) (modulus (presentation R)) T)
   check-judged a = (λ f. first-unique (checkRefusals t modulus T) a _ f judged, λ e. subst (First (checkRefusals t modulus T)) (sym e) judged)

@@ -12,19 +12,19 @@
 --   decimal-nonempty              at least one digit
 --   decimal-length, decimal-nine  at most k digits exactly if below 10 ^ k; nine exactly if at most `largest`
 --   Plain, Field, Fields          no separator; a field; a list of fields
+--   above-plain                   bytes above 32 are no separators
 --   decimal-field, decimal-fields a value is a field; a row of values is a list of fields
 --   field-unique, line-unique     where a field and a line end
 --   line-nil, line-cons           a line's first field, what ends it, and the rest
 --   valueLine-unique, lines-unique     the same for a line and for lines of values
 --   render-unique, render-injective    the names and the rows of a rendering
 --   length-upto, presentationNames-fields, -length, -injective    the names line of presentation text
---   and-left, and-right           the two parts of a conjunction of tests
 --   rowFormed, FormedRows, wellFormed-formed, formed-wellFormed       the conditions of `wellFormed`
 --   says-unique                   a text says the relations of one presentation
 use mathlib.Core.Path.{_≡_, refl, sym, ap, ap₂, subst, _∙_}
 use mathlib.Core.Logic.{_↔_, _≢_}
-use mathlib.Core.Bool.{Bool, true, false, _&&_, cond, false≢true}
-use mathlib.Core.List.{List, [], _∷_, _++_, map, flatMap, zipWith, append-assoc, head-eq-of-cons-eq, tail-eq-of-cons-eq, nil≢cons, cons≢nil}
+use mathlib.Core.Bool.{Bool, true, _&&_, cond, and-eq-true-iff}
+use mathlib.Core.List.{List, [], _∷_, _++_, map, flatMap, zipWith, append-assoc, head-eq-of-cons-eq, tail-eq-of-cons-eq}
 use Prim.Native.Nat.{ℕ, zero, suc, _+_, _*_, _-_, _/_, _%_, _^_, _<_, _≤_}
 use native.Mathlib.Nat.{mod-lt, div-add-mod', div-lt-iff-lt-mul, pow-suc, one-le-pow, not-suc-le-zero, suc-inj, suc-ne-zero}
 use native.Mathlib.Decide.{decLt}
@@ -56,31 +56,24 @@ tenth-less v l = omega (arith, div-add-mod' v 10)
 module _ (P : ℕ → Type 0) (one : (v : ℕ) → v < 10 → P v) (more : (v : ℕ) → 10 ≤ v → P (v / 10) → P v) where
   tenths-below : (f v : ℕ) → v < f → P v
   tenths-below zero v l = absurd (not-suc-le-zero l)
-  tenths-below (suc f) v l = pick (decLt v 10) (λ m. tenths-below f (v / 10) (omega (arith, tenth-less v m)))
-    where
-      pick : Dec (v < 10) → (10 ≤ v → P (v / 10)) → P v
-      pick (yes m) rec = one v m
-      pick (no m) rec = let t : 10 ≤ v = omega arith in more v t (rec t)
+  tenths-below (suc f) v l = elim (decLt v 10) [
+    | yes m ↦ one v m
+    | no m ↦ let t : 10 ≤ v = omega arith in more v t (tenths-below f (v / 10) (omega (arith, tenth-less v t)))
+  ]
 
   pub tenths : (v : ℕ) → P v
   tenths v = tenths-below (suc v) v (omega arith)
 
-digits-enough : (v f g : ℕ) → v < f → v < g → digits f v ≡ digits g v
-digits-enough = tenths (λ v. (f g : ℕ) → v < f → v < g → digits f v ≡ digits g v) one more
-  where
-    one : (v : ℕ) → v < 10 → (f g : ℕ) → v < f → v < g → digits f v ≡ digits g v
-    one v s zero g l m = absurd (not-suc-le-zero l)
-    one v s (suc f) zero l m = absurd (not-suc-le-zero m)
-    one v s (suc f) (suc g) l m = digits-one f v s ∙ sym (digits-one g v s)
-
-    more : (v : ℕ) → 10 ≤ v → ((f g : ℕ) → v / 10 < f → v / 10 < g → digits f (v / 10) ≡ digits g (v / 10))
-        → (f g : ℕ) → v < f → v < g → digits f v ≡ digits g v
-    more v t rec zero g l m = absurd (not-suc-le-zero l)
-    more v t rec (suc f) zero l m = absurd (not-suc-le-zero m)
-    more v t rec (suc f) (suc g) l m =
-        let less : v / 10 < v = tenth-less v t in
-        let same : digits f (v / 10) ≡ digits g (v / 10) = rec f g (omega arith) (omega arith) in
-        digits-more f v t ∙ ap (λ (xs : Bytes). xs ++ ((48 + v % 10) ∷ [])) same ∙ sym (digits-more g v t)
+digits-enough : (f g v : ℕ) → v < f → v < g → digits f v ≡ digits g v
+digits-enough zero g v l m = absurd (not-suc-le-zero l)
+digits-enough (suc f) zero v l m = absurd (not-suc-le-zero m)
+digits-enough (suc f) (suc g) v l m = elim (decLt v 10) [
+  | yes s ↦ digits-one f v s ∙ sym (digits-one g v s)
+  | no s ↦
+      let t : 10 ≤ v = omega arith in
+      let less : v / 10 < v = tenth-less v t in
+      digits-more f v t ∙ ap (λ (xs : Bytes). xs ++ ((48 + v % 10) ∷ [])) (digits-enough f g (v / 10) (omega arith) (omega arith)) ∙ sym (digits-more g v t)
+]
 
 pub decimal-one : (v : ℕ) → v < 10 → decimal v ≡ (48 + v) ∷ []
 unfolding decimal
@@ -89,12 +82,11 @@ decimal-one v l = digits-one v v l
 pub decimal-more : (v : ℕ) → 10 ≤ v → decimal v ≡ decimal (v / 10) ++ ((48 + v % 10) ∷ [])
 unfolding decimal
 decimal-more v l =
-    digits-more v v l ∙ ap (λ (xs : Bytes). xs ++ ((48 + v % 10) ∷ [])) (digits-enough (v / 10) v (suc (v / 10)) (tenth-less v l) (omega arith))
+    digits-more v v l ∙ ap (λ (xs : Bytes). xs ++ ((48 + v % 10) ∷ [])) (digits-enough v (suc (v / 10)) (v / 10) (tenth-less v l) (omega arith))
 
 -- one digit more behind a value above 0
 pub decimal-snoc : (v d : ℕ) → 0 < v → d < 10 → decimal (v * 10 + d) ≡ decimal v ++ ((48 + d) ∷ [])
-decimal-snoc v d p l =
-    decimal-more (v * 10 + d) (omega arith)
+decimal-snoc v d p l = decimal-more (v * 10 + d) (omega arith)
     ∙ ap₂ (λ (q r : ℕ). decimal q ++ ((48 + r) ∷ [])) (digits-div v l) (digits-mod v l)
 
 -- the value of a run of digits behind the value a
@@ -109,17 +101,9 @@ number-append a (x ∷ xs) ys = number-append (a * 10 + (x - 48)) xs ys
 
 pub number-decimal : (v : ℕ) → number 0 (decimal v) ≡ v
 unfolding number
-number-decimal = tenths (λ v. number 0 (decimal v) ≡ v) one more
-  where
-    one : (v : ℕ) → v < 10 → number 0 (decimal v) ≡ v
-    one v l = ap (number 0) (decimal-one v l) ∙ omega arith
-
-    more : (v : ℕ) → 10 ≤ v → number 0 (decimal (v / 10)) ≡ v / 10 → number 0 (decimal v) ≡ v
-    more v l q =
-        ap (number 0) (decimal-more v l)
-        ∙ number-append 0 (decimal (v / 10)) ((48 + v % 10) ∷ [])
-        ∙ ap (λ (a : ℕ). number a ((48 + v % 10) ∷ [])) q
-        ∙ omega (arith, div-add-mod' v 10)
+number-decimal = tenths (λ v. number 0 (decimal v) ≡ v) (λ v l. ap (number 0) (decimal-one v l) ∙ omega arith)
+    (λ v l q. ap (number 0) (decimal-more v l) ∙ number-append 0 (decimal (v / 10)) ((48 + v % 10) ∷ [])
+    ∙ ap (λ (a : ℕ). number a ((48 + v % 10) ∷ [])) q ∙ omega (arith, div-add-mod' v 10))
 
 pub decimal-injective : (v w : ℕ) → decimal v ≡ decimal w → v ≡ w
 decimal-injective v w q = sym (number-decimal v) ∙ ap (number 0) q ∙ number-decimal w
@@ -143,15 +127,9 @@ abbrev pub Digit : ℕ → Type 0
 Digit b = (48 ≤ b) × (b < 58)
 
 pub decimal-digits : (v : ℕ) → Each Digit (decimal v)
-decimal-digits = tenths (λ v. Each Digit (decimal v)) one more
-  where
-    one : (v : ℕ) → v < 10 → Each Digit (decimal v)
-    one v l = subst (Each Digit) (sym (decimal-one v l)) (omega arith)
-
-    more : (v : ℕ) → 10 ≤ v → Each Digit (decimal (v / 10)) → Each Digit (decimal v)
-    more v l h =
-        subst (Each Digit) (sym (decimal-more v l))
-        (each-append Digit (decimal (v / 10)) ((48 + v % 10) ∷ []) h (omega (arith, mod-lt v {m = 10} (omega arith))))
+decimal-digits = tenths (λ v. Each Digit (decimal v)) (λ v l. subst (Each Digit) (sym (decimal-one v l)) (omega arith))
+    (λ v l h. subst (Each Digit) (sym (decimal-more v l))
+    (each-append Digit (decimal (v / 10)) ((48 + v % 10) ∷ []) h (omega (arith, mod-lt v {m = 10} (omega arith)))))
 
 getD-front : (xs ys : Bytes) → 48 < getD xs 0 0 → 48 < getD (xs ++ ys) 0 0
 getD-front [] ys h = absurd (omega arith)
@@ -159,15 +137,10 @@ getD-front (x ∷ xs) ys h = h
 
 -- no leading zero
 pub decimal-lead : (v : ℕ) → 0 < v → 48 < getD (decimal v) 0 0
-decimal-lead = tenths (λ v. 0 < v → 48 < getD (decimal v) 0 0) one more
-  where
-    one : (v : ℕ) → v < 10 → 0 < v → 48 < getD (decimal v) 0 0
-    one v l p = subst (λ (xs : Bytes). 48 < getD xs 0 0) (sym (decimal-one v l)) (omega arith)
-
-    more : (v : ℕ) → 10 ≤ v → (0 < v / 10 → 48 < getD (decimal (v / 10)) 0 0) → 0 < v → 48 < getD (decimal v) 0 0
-    more v l h p =
-        subst (λ (xs : Bytes). 48 < getD xs 0 0) (sym (decimal-more v l))
-        (getD-front (decimal (v / 10)) ((48 + v % 10) ∷ []) (h (omega (arith, div-add-mod' v 10, mod-lt v {m = 10} (omega arith)))))
+decimal-lead = tenths (λ v. 0 < v → 48 < getD (decimal v) 0 0)
+    (λ v l p. subst (λ (xs : Bytes). 48 < getD xs 0 0) (sym (decimal-one v l)) (omega arith))
+    (λ v l h p. subst (λ (xs : Bytes). 48 < getD xs 0 0) (sym (decimal-more v l))
+    (getD-front (decimal (v / 10)) ((48 + v % 10) ∷ []) (h (omega (arith, div-add-mod' v 10, mod-lt v {m = 10} (omega arith))))))
 
 pub decimal-zero : decimal 0 ≡ 48 ∷ []
 decimal-zero = decimal-one 0 (omega arith)
@@ -180,25 +153,18 @@ decimal-nonempty = tenths (λ v. 0 < length (decimal v)) (λ v l. omega (arith, 
 
 -- at most suc k digits, exactly if below 10 ^ suc k
 pub decimal-length : (k v : ℕ) → (length (decimal v) ≤ suc k) ↔ (v < 10 ^ suc k)
-decimal-length zero v = pick (decLt v 10)
-  where
-    pick : Dec (v < 10) → (length (decimal v) ≤ 1) ↔ (v < 10)
-    pick (yes l) = (λ h. l, λ h. omega (arith, ap length (decimal-one v l)))
-    pick (no l) =
-        let t : 10 ≤ v = omega arith in
-        (λ h. absurd (omega (arith, decimal-length-more v t, decimal-nonempty (v / 10))), λ h. absurd (l h))
-decimal-length (suc k) v = pick (decLt v 10) (decimal-length k (v / 10))
-  where
-    pick : Dec (v < 10) → (length (decimal (v / 10)) ≤ suc k) ↔ (v / 10 < 10 ^ suc k) → (length (decimal v) ≤ suc (suc k)) ↔ (v < 10 ^ suc (suc k))
-    pick (yes l) h =
-        (λ _. omega (arith, pow-suc 10 (suc k), one-le-pow (suc k) 10 (omega arith)), λ _. omega (arith, ap length (decimal-one v l)))
-    pick (no l) h =
-        let t : 10 ≤ v = omega arith in
-        let q = decimal-length-more v t in
-        let ten : 0 < 10 = omega arith in (
-          λ m. omega (arith, pow-suc 10 (suc k), div-lt-iff-lt-mul {k = 10} {x = v} {y = 10 ^ suc k} ten .0 (h .0 (omega arith))),
-          λ m. omega (arith, h .1 (div-lt-iff-lt-mul {k = 10} {x = v} {y = 10 ^ suc k} ten .1 (omega (arith, pow-suc 10 (suc k))))),
-        )
+decimal-length zero v = elim (decLt v 10) [
+  | yes l ↦ (λ h. l, λ h. omega (arith, ap length (decimal-one v l)))
+  | no l ↦ (λ h. absurd (omega (arith, decimal-length-more v (omega arith), decimal-nonempty (v / 10))), λ h. absurd (l h))
+]
+decimal-length (suc k) v = elim (decLt v 10) [
+  | yes l ↦ (λ _. omega (arith, pow-suc 10 (suc k), one-le-pow (suc k) 10 (omega arith)), λ _. omega (arith, ap length (decimal-one v l)))
+  | no l ↦
+      let q = decimal-length-more v (omega arith) in
+      let (to, from) = decimal-length k (v / 10) in
+      let tenth = div-lt-iff-lt-mul {k = 10} {x = v} {y = 10 ^ suc k} (omega arith) in
+      (λ m. omega (arith, pow-suc 10 (suc k), tenth .0 (to (omega arith))), λ m. omega (arith, from (tenth .1 (omega (arith, pow-suc 10 (suc k))))))
+]
 
 pub decimal-nine : (v : ℕ) → (length (decimal v) ≤ 9) ↔ (v ≤ largest)
 unfolding largest
@@ -219,15 +185,15 @@ abbrev pub Fields : List Bytes → Type 0
 Fields [] = Unit {0}
 Fields (x ∷ xs) = Field x × Fields xs
 
-digit-plain : (b : ℕ) → Digit b → Plain b
-digit-plain b h = (λ q. omega arith, λ q. omega arith)
+pub above-plain : (b : ℕ) → 32 < b → Plain b
+above-plain b l = (λ q. omega arith, λ q. omega arith)
 
 pub field-each : (x : Bytes) → Field x → Each Plain x
 field-each [] h = tt
 field-each (b ∷ bs) h = h
 
 pub decimal-field : (v : ℕ) → Field (decimal v)
-decimal-field v = build (decimal v) (decimal-nonempty v) (each-map Digit Plain digit-plain (decimal v) (decimal-digits v))
+decimal-field v = build (decimal v) (decimal-nonempty v) (each-map Digit Plain (λ b h. above-plain b (omega arith)) (decimal v) (decimal-digits v))
   where
     build : (x : Bytes) → 0 < length x → Each Plain x → Field x
     build [] p h = absurd (omega arith)
@@ -279,8 +245,7 @@ pub line-unique : (xs ys : List Bytes) (r s : Bytes) → Fields xs → Fields ys
 line-unique [] [] r s h k q = (refl, tail-eq-of-cons-eq (sym (line-nil r) ∙ q ∙ line-nil s))
 line-unique [] (y ∷ ys) r s h k q = absurd (line-none y ys r s (k .0) q)
 line-unique (x ∷ xs) [] r s h k q = absurd (line-none x xs s r (h .0) (sym q))
-line-unique (x ∷ xs) (y ∷ ys) r s h k q =
-    next xs ys (line-unique xs ys r s (h .1) (k .1))
+line-unique (x ∷ xs) (y ∷ ys) r s h k q = next xs ys (line-unique xs ys r s (h .1) (k .1))
     (field-unique x y (stop xs) (stop ys) (rest xs ++ r) (rest ys ++ s) (field-each x (h .0)) (field-each y (k .0)) (stop-stops xs) (stop-stops ys)
     (sym (line-cons x xs r) ∙ q ∙ line-cons y ys s))
   where
@@ -293,19 +258,16 @@ line-unique (x ∷ xs) (y ∷ ys) r s h k q =
 
 -- ---- Renderings
 
-map-decimal-injective : (vs ws : List ℕ) → map decimal vs ≡ map decimal ws → vs ≡ ws
-map-decimal-injective [] [] q = refl
-map-decimal-injective [] (w ∷ ws) q = absurd (nil≢cons q)
-map-decimal-injective (v ∷ vs) [] q = absurd (cons≢nil q)
-map-decimal-injective (v ∷ vs) (w ∷ ws) q =
-    ap₂ (λ (z : ℕ) (zs : List ℕ). z ∷ zs) (decimal-injective v w (head-eq-of-cons-eq q)) (map-decimal-injective vs ws (tail-eq-of-cons-eq q))
+numbers-decimal : (vs : List ℕ) → map (number 0) (map decimal vs) ≡ vs
+numbers-decimal [] = refl
+numbers-decimal (v ∷ vs) = ap₂ (λ (z : ℕ) (zs : List ℕ). z ∷ zs) (number-decimal v) (numbers-decimal vs)
 
 -- where a line of values ends, and its values
 pub valueLine-unique : (vs ws : List ℕ) (r s : Bytes) → valueLine vs ++ r ≡ valueLine ws ++ s → (vs ≡ ws) × (r ≡ s)
 unfolding valueLine
 valueLine-unique vs ws r s q =
     let t = line-unique (map decimal vs) (map decimal ws) r s (decimal-fields vs) (decimal-fields ws) q in
-    (map-decimal-injective vs ws (t .0), t .1)
+    (sym (numbers-decimal vs) ∙ ap (map (number 0)) (t .0) ∙ numbers-decimal ws, t .1)
 
 pub flatMap-cons : {A : Type 0} (f : A → Bytes) (x : A) (xs : List A) → flatMap f (x ∷ xs) ≡ f x ++ flatMap f xs
 unfolding flatMap
@@ -335,8 +297,7 @@ pub render-unique : (names names′ : List Bytes) (rows rows′ : List (List ℕ
     → render names rows ≡ render names′ rows′ → (names ≡ names′) × (rows ≡ rows′)
 unfolding render
 render-unique names names′ rows rows′ h k q =
-    let t = line-unique names names′ (flatMap valueLine rows) (flatMap valueLine rows′) h k q in
-    (t .0, lines-unique rows rows′ (t .1))
+    let t = line-unique names names′ (flatMap valueLine rows) (flatMap valueLine rows′) h k q in (t .0, lines-unique rows rows′ (t .1))
 
 pub render-injective : (names : List Bytes) (rows rows′ : List (List ℕ)) → Fields names → render names rows ≡ render names rows′ → rows ≡ rows′
 render-injective names rows rows′ h q = render-unique names names rows rows′ h h q .1
@@ -351,14 +312,13 @@ length-upto (suc n) = length-append (upto n) (n ∷ []) ∙ ap (λ (k : ℕ). k 
 -- e1, e2, .. are fields
 exponent-fields : (xs : List ℕ) → Fields (map (λ k. 101 ∷ decimal (suc k)) xs)
 exponent-fields [] = tt
-exponent-fields (k ∷ ks) = (((λ q. omega arith, λ q. omega arith), field-each (decimal (suc k)) (decimal-field (suc k))), exponent-fields ks)
-
-letter : (b : ℕ) → 32 < b → Field (b ∷ [])
-letter b l = ((λ q. omega arith, λ q. omega arith), tt)
+exponent-fields (k ∷ ks) = ((above-plain 101 (omega arith), field-each (decimal (suc k)) (decimal-field (suc k))), exponent-fields ks)
 
 pub presentationNames-fields : (n : ℕ) → Fields (presentationNames n)
 unfolding presentationNames
-presentationNames-fields n = (letter 106 (omega arith), (letter 105 (omega arith), (letter 112 (omega arith), exponent-fields (upto n))))
+presentationNames-fields n =
+    let letter : (b : ℕ) → 32 < b → Field (b ∷ []) = λ b l. (above-plain b l, tt) in
+    (letter 106 (omega arith), (letter 105 (omega arith), (letter 112 (omega arith), exponent-fields (upto n))))
 
 pub presentationNames-length : (n : ℕ) → length (presentationNames n) ≡ n + 3
 unfolding presentationNames
@@ -381,14 +341,6 @@ rowValues-injective (p ∷ ps) (r ∷ rs) (r′ ∷ rs′) l m q =
     let first : r ≡ r′ = λ i. record { p = head-eq-of-cons-eq h i; word = tail-eq-of-cons-eq h i } in
     ap₂ (λ (z : Row) (zs : List Row). z ∷ zs) first (rowValues-injective ps rs rs′ (suc-inj l) (suc-inj m) (tail-eq-of-cons-eq q))
 
-pub and-left : (a b : Bool) → (a && b) ≡ true → a ≡ true
-and-left true b h = refl
-and-left false b h = h
-
-pub and-right : (a b : Bool) → (a && b) ≡ true → b ≡ true
-and-right true b h = h
-and-right false b h = absurd (false≢true h)
-
 -- the four conditions of `wellFormed`
 abbrev pub rowFormed : ℕ → Row → Bool
 rowFormed n r = eqb (length (r .word)) n && leb (r .p) largest && small (r .word)
@@ -406,13 +358,14 @@ wellFormed-formed R h =
     let b : Bool = leb (R .n) largest in
     let c : Bool = eqb (length (R .rows)) (length (pairs (R .n))) in
     let d : Bool = all (rowFormed (R .n)) (R .rows) in
-    let abc : (a && b && c) ≡ true = and-left (a && b && c) d h in
-    let ab : (a && b) ≡ true = and-left (a && b) c abc in
+    let (abc, each) = and-eq-true-iff (a && b && c) d .0 h in
+    let (ab, one) = and-eq-true-iff (a && b) c .0 abc in
+    let (some, few) = and-eq-true-iff a b .0 ab in
     record {
-      some = leb-true 1 (R .n) (and-left a b ab);
-      few = leb-true (R .n) largest (and-right a b ab);
-      one-each = eqb-true (length (R .rows)) (length (pairs (R .n))) (and-right (a && b) c abc);
-      formed-each = and-right (a && b && c) d h;
+      some = leb-true 1 (R .n) some;
+      few = leb-true (R .n) largest few;
+      one-each = eqb-true (length (R .rows)) (length (pairs (R .n))) one;
+      formed-each = each;
     }
 
 pub formed-wellFormed : (R : Relations) → FormedRows R → wellFormed R ≡ true

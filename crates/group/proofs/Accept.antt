@@ -7,7 +7,7 @@
 --   decide                consistency is decided
 use mathlib.Core.Path.{_≡_, refl, sym, _∙_, ap, ap₂, subst}
 use mathlib.Core.Bool.{true, Bool-discrete, So-prop}
-use mathlib.Core.Logic.{_↔_, ∥∥₁-elim}
+use mathlib.Core.Logic.{_↔_, ∥∥₁-elim, by-cases}
 use mathlib.Core.List.{[], _∷_, _++_}
 use Prim.Native.Nat.{ℕ, zero, suc, _≤_, _<_}
 use native.Mathlib.Omega.{arith}
@@ -15,10 +15,10 @@ use native.Mathlib.Decide.{decLt, map-dec}
 use lib.ListN.{replicate}
 use Rattle.definitions.specs.Lists.{iter}
 use Rattle.definitions.specs.Presentation.{NF, Presentation, Mul, power, value}
-use Rattle.definitions.specs.Consistency.{gen, inv, Word, word, Sides, power-relation, commutator-relation, gen-inv, inv-gen, Step, forth, back, Chain, done}
+use Rattle.definitions.specs.Consistency.{gen, inv, Word, word, Sides, power-relation, commutator-relation, gen-inv, inv-gen, forth, back, Chain, done}
 use Rattle.definitions.specs.Consistency.{link, Consistent, sameForm, levelTest, test}
 use Rattle.numbers.proofs.Lists.{below-suc, allBelow-elim, allBelow-intro}
-use Rattle.group.specs.Models.{Laws, Hom, Satisfies}
+use Rattle.group.specs.Models.{Laws, Hom}
 use Rattle.group.specs.Context.{Context, Nf}
 use Rattle.group.proofs.Values.{power-zero, power-suc, power-one, power-past, iter-past, power-hom, value-suc, value-trivial, value-hom, value-ext}
 use Rattle.group.proofs.Clauses.{sameForm-eq, eq-sameForm}
@@ -88,57 +88,26 @@ module _ (C : Context) (t : test (C .P) ≡ true) where
   evaluate-word zero x = refl
   evaluate-word (suc i) x = evaluate-append (replicate (x .0) (gen i)) (word i (x .1)) ∙ ap₂ (_*_) (evaluate-power i (x .0)) (evaluate-word i (x .1))
 
-  left : (x : Nf C n) → inverse C n x * x ≡ one
-  unfolding T tested testedBelow
-  left = inverse-left T n (omega arith)
-
-  right : (x : Nf C n) → x * inverse C n x ≡ one
-  unfolding T tested testedBelow
-  right = inverse-right T n (omega arith)
-
-  undo : (x y : Nf C n) → inverse C n x * (x * y) ≡ y
-  unfolding T tested testedBelow
-  undo = undo-left T n (omega arith)
-
   evaluate-sides : (l r : Word) → Sides P l r → evaluate l ≡ evaluate r
+  unfolding T tested testedBelow
   evaluate-sides l r (power-relation j h) = evaluate-power j _ ∙ G .satisfies .powers j h ∙ sym (evaluate-word j _)
-  evaluate-sides l r (commutator-relation k j a b) = simp (evaluate-gen, evaluate-inv, evaluate-nil, G .laws .idr, G .satisfies .commutators k j a b, undo) (sym (evaluate-word (suc k) _))
-  evaluate-sides l r (gen-inv k h) = simp (evaluate-gen, evaluate-inv, evaluate-nil, G .laws .idr, right)
-  evaluate-sides l r (inv-gen k h) = simp (evaluate-gen, evaluate-inv, evaluate-nil, G .laws .idr, left)
+  evaluate-sides l r (commutator-relation k j a b) =
+      simp (evaluate-gen, evaluate-inv, evaluate-nil, G .laws .idr, G .satisfies .commutators k j a b, undo-left T n (omega arith))
+      (sym (evaluate-word (suc k) _))
+  evaluate-sides l r (gen-inv k h) = simp (evaluate-gen, evaluate-inv, evaluate-nil, G .laws .idr, inverse-right T n (omega arith))
+  evaluate-sides l r (inv-gen k h) = simp (evaluate-gen, evaluate-inv, evaluate-nil, G .laws .idr, inverse-left T n (omega arith))
 
   evaluate-within : (a b l r : Word) → evaluate l ≡ evaluate r → evaluate (a ++ l ++ b) ≡ evaluate (a ++ r ++ b)
   evaluate-within a b l r q = simp (evaluate-append, q)
 
   evaluate-chain : {a b : Word} → Chain P a b → evaluate a ≡ evaluate b
   evaluate-chain (done a) = refl
-  evaluate-chain (link a b c s q) = step s ∙ evaluate-chain q
-    where
-      step : {a b : Word} → Step P a b → evaluate a ≡ evaluate b
-      step (forth a b l r s) = evaluate-within a b l r (evaluate-sides l r s)
-      step (back a b l r s) = evaluate-within a b r l (sym (evaluate-sides l r s))
+  evaluate-chain (link a b c (forth x y l r s) q) = evaluate-within x y l r (evaluate-sides l r s) ∙ evaluate-chain q
+  evaluate-chain (link a b c (back x y l r s) q) = evaluate-within x y r l (sym (evaluate-sides l r s)) ∙ evaluate-chain q
 
   pub test-consistent : Consistent (C .P)
   unfolding Consistent
   test-consistent x y a b q = ap (λ s. s .0) (sym (G .gen-value (x, a)) ∙ sym (evaluate-word n x) ∙ evaluate-chain q ∙ evaluate-word n y ∙ G .gen-value (y, b))
-
--- ---- Conjugation by an invertible element of a monoid
-
-module _ {M : Type 0} {𝓜 : Mul M} (𝓛 : Laws 𝓜) (g g′ : M) (gg′ : 𝓜 .mul g g′ ≡ 𝓜 .one) (g′g : 𝓜 .mul g′ g ≡ 𝓜 .one) where
-  infixl 70 _*_
-  open Mul 𝓜 using (mul as _*_)
-  open Laws 𝓛 using (assoc, idl, idr)
-
-  unfoldable inner : M → M
-  inner q = g′ * (q * g)
-
-  inner-hom : Hom 𝓜 𝓜 inner
-  unfolding inner
-  inner-hom = record { on-one = simp (inner, idl, g′g); on-mul = λ x y. simp (inner, assoc) (ap (λ t. g′ * (x * t)) (sym (idl _) ∙ ap (λ t. t * (y * g)) (sym gg′) ∙ assoc _ _ _)) }
-
-  -- what g carries to q is the conjugate of q
-  inner-unique : (q r : M) → g * r ≡ q * g → r ≡ inner q
-  unfolding inner
-  inner-unique q r a = sym (idl r) ∙ ap (λ t. t * r) (sym g′g) ∙ assoc _ _ _ ∙ ap (λ t. g′ * t) a
 
 -- ---- Consistency gives the test
 
@@ -162,10 +131,6 @@ module _ (C : Context) (c : Consistent (C .P)) where
   ψ : (i : ℕ) → Nf C i → Class P
   ψ i x = value (classes P) h i (x .0)
 
-  ψ-hom : (i : ℕ) → i ≤ n′ → Hom (level C i) (classes P) (ψ i)
-  unfolding ψ level free
-  ψ-hom i l = record { on-one = value-trivial (classes-laws P) h i; on-mul = λ x y. S i l .mul-value (x .0) (y .0) }
-
   Injective : ℕ → Type 0
   Injective i = (x y : Nf C i) → ψ i x ≡ ψ i y → x ≡ y
 
@@ -185,11 +150,8 @@ module _ (C : Context) (c : Consistent (C .P)) where
 
   injective-down : (m i : ℕ) → Injective m → i ≤ m → Injective i
   injective-down zero i j l = let q : 0 ≡ i = omega arith in subst Injective q j
-  injective-down (suc m) i j l = go (λ a. injective-down m i (injective-low m j) a) (decLt i (suc m))
-    where
-      go : (i ≤ m → Injective i) → Dec (i < suc m) → Injective i
-      go b (yes a) = b (omega arith)
-      go b (no a) = let q : suc m ≡ i = omega arith in subst Injective q j
+  injective-down (suc m) i j l =
+      by-cases (decLt i (suc m)) (λ a. injective-down m i (injective-low m j) (omega arith)) (λ a. let q : suc m ≡ i = omega arith in subst Injective q j)
 
   ψ-top : (i : ℕ) → ψ (suc i) (top C i) ≡ h i
   unfolding ψ top
@@ -202,14 +164,20 @@ module _ (C : Context) (c : Consistent (C .P)) where
 
   module _ (i : ℕ) (l : i < n′) where
     -- conjugation by generator i among the classes
-    abbrev χ : Class P → Class P
-    χ = inner (classes-laws P) (h i) (invClass P i) (gen-inv-class P i l) (inv-gen-class P i l)
+    unfoldable χ : Class P → Class P
+    χ q = invClass P i ⋆ (q ⋆ h i)
 
     χ-hom : Hom (classes P) (classes P) χ
-    χ-hom = inner-hom (classes-laws P) (h i) (invClass P i) (gen-inv-class P i l) (inv-gen-class P i l)
+    unfolding χ
+    χ-hom = record {
+      on-one = simp (χ, idl, inv-gen-class P i l);
+      on-mul = λ x y. simp (χ, assoc) (ap (λ t. invClass P i ⋆ (x ⋆ t)) (sym (idl _) ∙ ap (λ t. t ⋆ (y ⋆ h i)) (sym (gen-inv-class P i l)) ∙ assoc _ _ _));
+    }
 
+    -- what the generator carries to q is the conjugate of q
     χ-unique : (q r : Class P) → h i ⋆ r ≡ q ⋆ h i → r ≡ χ q
-    χ-unique = inner-unique (classes-laws P) (h i) (invClass P i) (gen-inv-class P i l) (inv-gen-class P i l)
+    unfolding χ
+    χ-unique q r a = sym (idl r) ∙ ap (λ t. t ⋆ r) (sym (inv-gen-class P i l)) ∙ assoc _ _ _ ∙ ap (λ t. invClass P i ⋆ t) a
 
     ψ-past : (x : Nf C i) → h i ⋆ ψ i (conjNf C i i x) ≡ ψ i x ⋆ h i
     unfolding ψ conjNf free
@@ -219,31 +187,29 @@ module _ (C : Context) (c : Consistent (C .P)) where
     ψ-image k a = χ-unique _ _ (ψ-past _) ∙ ap χ (ψ-gen i k a)
 
     H : Hom (level C i) (classes P) (ψ i)
-    H = ψ-hom i (omega arith)
+    unfolding ψ level free
+    H = record { on-one = value-trivial (classes-laws P) h i; on-mul = λ x y. S i (omega arith) .mul-value (x .0) (y .0) }
 
     -- a value over the images, under ψ
     ψ-value : (k : ℕ) → k ≤ i → (x : NF k) → ψ i (value (level C i) (imageNf C i i) k x) ≡ χ (value (classes P) h k x)
     ψ-value k a x = value-hom H (imageNf C i i) k x ∙ value-ext (classes P) (λ m. ψ i (imageNf C i i m)) (λ m. χ (h m)) k (λ m b. ψ-image m (omega arith)) x
         ∙ sym (value-hom χ-hom h k x)
 
-    R : Satisfies P (classes P) h n′
-    R = classes-satisfy P
-
     injective : Injective i
     injective = injective-down n′ i injective-n (omega arith)
 
     ψ-u : ψ i (uNf C i) ≡ power (classes P) (h i) (P .p i)
     unfolding ψ uNf
-    ψ-u = sym (R .powers i l)
+    ψ-u = sym (classes-satisfy P .powers i l)
 
     consistent-level : Test C i
     unfolding Injective
     consistent-level = record {
       keeps = record {
         powers = λ k a. injective _ _ (power-hom H _ _ ∙ ap (λ s. power (classes P) s (P .p k)) (ψ-image k a) ∙ sym (power-hom χ-hom _ _)
-            ∙ ap χ (R .powers k (omega arith)) ∙ sym (ψ-value k (omega arith) _));
+            ∙ ap χ (classes-satisfy P .powers k (omega arith)) ∙ sym (ψ-value k (omega arith) _));
         commutators = λ k j a b. injective _ _ (H .on-mul _ _ ∙ ap₂ (_⋆_) (ψ-image k (omega arith)) (ψ-image j b) ∙ sym (χ-hom .on-mul _ _)
-            ∙ ap χ (R .commutators k j a (omega arith)) ∙ χ-hom .on-mul _ _ ∙ ap (λ s. χ (h j) ⋆ s) (χ-hom .on-mul _ _)
+            ∙ ap χ (classes-satisfy P .commutators k j a (omega arith)) ∙ χ-hom .on-mul _ _ ∙ ap (λ s. χ (h j) ⋆ s) (χ-hom .on-mul _ _)
             ∙ sym (H .on-mul _ _ ∙ ap₂ (_⋆_) (ψ-image j b) (H .on-mul _ _ ∙ ap₂ (_⋆_) (ψ-image k (omega arith)) (ψ-value (suc k) (omega arith) _))));
       };
       fixes = injective _ _ (χ-unique _ _ (ψ-past _) ∙ ap χ ψ-u ∙ sym (χ-unique _ _ (power-past (classes-laws P) (h i) (h i) (h i) refl (P .p i))) ∙ sym ψ-u);

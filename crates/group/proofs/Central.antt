@@ -5,14 +5,14 @@
 --   fixed                  and conjugation by generator i fixes it
 --   central-low, central-high    its commutator relations with the generators above it and below it are kept
 --   central-inner          as many conjugations as the prime of generator i are conjugation by its power word
-use mathlib.Core.Path.{_≡_, refl, sym, _∙_, ap, ap₂, subst}
+use mathlib.Core.Path.{_≡_, sym, _∙_, ap, ap₂}
 use mathlib.Core.Bool.{true}
 use Prim.Native.Nat.{ℕ, suc, _≤_, _<_}
 use native.Mathlib.Omega.{arith}
-use native.Mathlib.Decide.{decLt}
 use Rattle.definitions.specs.Lists.{iter}
 use Rattle.definitions.specs.Presentation.{NF, trivial, Mul, value}
 use Rattle.definitions.specs.Consistency.{mul, conj, forms, generator, image, levelTest}
+use Rattle.numbers.proofs.Bools.{compared}
 use Rattle.numbers.proofs.Lists.{iter-fix}
 use Rattle.group.specs.Context.{Context, Nf}
 use Rattle.group.proofs.Values.{value-trivial}
@@ -38,19 +38,12 @@ module _ (C : Context) (i c : ℕ) (l : c < i) (G : Group C i)
   empty-value h k x e = ap (value (level C i) h k) e ∙ value-trivial (G .laws) h k
 
   pub commutes : (x : Nf C i) → level C i .mul (genNf C i c) x ≡ level C i .mul x (genNf C i c)
-  commutes = with-generators C i G g (λ k a. at k a (decLt k c) (decLt c k))
-    where
-      Q : Nf C i → Type 0
-      Q y = g * y ≡ y * g
-
-      at : (k : ℕ) → k < i → Dec (k < c) → Dec (c < k) → Q (genNf C i k)
-      at k a (yes b) d =
-          let e = empty-value (genNf C i) (suc k) _ (below k b) in
-          sym (G .satisfies .commutators k c b l ∙ ap (λ t. g * (genNf C i k * t)) e ∙ ap (λ t. g * t) (G .laws .idr _))
-      at k a (no b) (yes d) =
-          let e = empty-value (genNf C i) (suc c) _ (above k d (omega arith)) in
-          G .satisfies .commutators c k d a ∙ ap (λ t. genNf C i k * (g * t)) e ∙ ap (λ t. genNf C i k * t) (G .laws .idr _)
-      at k a (no b) (no d) = let e : c ≡ k = omega arith in subst (λ m. Q (genNf C i m)) e refl
+  commutes = with-generators C i G g (λ k a. compared k c
+      (λ b. sym (G .satisfies .commutators k c b l ∙ ap (λ t. g * (genNf C i k * t)) (empty-value (genNf C i) (suc k) _ (below k b))
+      ∙ ap (λ t. g * t) (G .laws .idr _)))
+      (λ e. ap₂ (λ s t. genNf C i s * genNf C i t) (sym e) e)
+      (λ d. G .satisfies .commutators c k d a ∙ ap (λ t. genNf C i k * (g * t)) (empty-value (genNf C i) (suc c) _ (above k d (omega arith)))
+      ∙ ap (λ t. genNf C i k * t) (G .laws .idr _)))
 
   pub fixed : imageNf C i i c ≡ genNf C i c
   fixed = G .conj-gen i (omega arith) c l ∙ ap (λ t. g * t) (empty-value (genNf C i) (suc c) _ (above i l (omega arith))) ∙ G .laws .idr g

@@ -6,11 +6,13 @@
 --   mul-suc, conj-suc                product and conjugation one level up
 --   generator-below, generator-top   a generator one level up
 --   sameForm-eq, eq-sameForm         the test of equality is true exactly of equal forms
-use mathlib.Core.Path.{_≡_, refl, sym, _∙_, ap, ap₂}
-use mathlib.Core.Bool.{Bool, true, false, cond}
+use mathlib.Core.Path.{_≡_, refl, ap, ap₂}
+use mathlib.Core.Logic.{by-cases}
+use mathlib.Core.Bool.{true}
 use Prim.Native.Nat.{ℕ, zero, suc, _+_, _-_, _≤_, _<_}
 use native.Mathlib.Omega.{arith}
-use lib.Dec.{ltb, eqb}
+use native.Mathlib.Decide.{decLt}
+use lib.Dec.{eqb}
 use borrow.Author.Tests.{eqb-true, eq-eqb}
 use Rattle.definitions.specs.Lists.{iter}
 use Rattle.definitions.specs.Presentation.{NF, trivial, Presentation, power}
@@ -38,16 +40,10 @@ module _ {A : Type 0} (p : ℕ) (m : A → A → A) where
 pub mulStep-map : {A B : Type 0} (φ : A → B) (p : ℕ) (m : A → A → A) (f : A → A) (u : A) (m′ : B → B → B) (f′ : B → B)
     → ((x y : A) → φ (m x y) ≡ m′ (φ x) (φ y)) → ((x : A) → φ (f x) ≡ f′ (φ x))
     → (x y : ℕ × A) → _≡_ {A = ℕ × B} ((mulStep p m f u x y) .0, φ ((mulStep p m f u x y) .1)) (mulStep p m′ f′ (φ u) (x .0, φ (x .1)) (y .0, φ (y .1)))
-unfolding mulStep carry
-mulStep-map {A} {B} φ p m f u m′ f′ hm hf x y = go (ltb (x .0 + y .0) p)
-  where
-    go : (b : Bool) → _≡_ {A = ℕ × B} (
-      (cond {A = ℕ × A} b (x .0 + y .0, m (iter f (y .0) (x .1)) (y .1)) (x .0 + y .0 - p, m u (m (iter f (y .0) (x .1)) (y .1)))) .0,
-      φ ((cond {A = ℕ × A} b (x .0 + y .0, m (iter f (y .0) (x .1)) (y .1)) (x .0 + y .0 - p, m u (m (iter f (y .0) (x .1)) (y .1)))) .1),
-    )
-        (cond b (x .0 + y .0, m′ (iter f′ (y .0) (φ (x .1))) (φ (y .1))) (x .0 + y .0 - p, m′ (φ u) (m′ (iter f′ (y .0) (φ (x .1))) (φ (y .1)))))
-    go true = simp (hm, iter-map φ f f′ hf)
-    go false = simp (hm, iter-map φ f f′ hf)
+mulStep-map φ p m f u m′ f′ hm hf x y = by-cases (decLt (x .0 + y .0) p)
+    (λ l. simp (mulStep-below p m f u x y l, mulStep-below p m′ f′ (φ u) (x .0, φ (x .1)) (y .0, φ (y .1)) l, hm, iter-map φ f f′ hf))
+    (λ n. let l : p ≤ x .0 + y .0 = omega arith in
+    simp (mulStep-over p m f u x y l, mulStep-over p m′ f′ (φ u) (x .0, φ (x .1)) (y .0, φ (y .1)) l, hm, iter-map φ f f′ hf))
 
 module _ (P : Presentation) where
   pub mul-suc : (i : ℕ) (x y : NF (suc i)) → mul P (suc i) x y ≡ mulStep (P .p i) (mul P i) (conj P i i) (P .u i) x y
@@ -70,14 +66,10 @@ generator-top i = cond-eq i i _ _ refl
 pub sameForm-eq : (i : ℕ) (x y : NF i) → sameForm i x y ≡ true → x ≡ y
 unfolding sameForm
 sameForm-eq zero x y h = refl
-sameForm-eq (suc i) x y h =
-    ap₂ (λ s t. (s, t)) (eqb-true (x .0) (y .0) (and-left (eqb (x .0) (y .0)) (sameForm i (x .1) (y .1)) h))
+sameForm-eq (suc i) x y h = ap₂ (λ s t. (s, t)) (eqb-true (x .0) (y .0) (and-left (eqb (x .0) (y .0)) (sameForm i (x .1) (y .1)) h))
     (sameForm-eq i (x .1) (y .1) (and-right (eqb (x .0) (y .0)) (sameForm i (x .1) (y .1)) h))
 
-sameForm-refl : (i : ℕ) (x : NF i) → sameForm i x x ≡ true
-unfolding sameForm
-sameForm-refl zero x = refl
-sameForm-refl (suc i) x = and-intro _ _ (eq-eqb (x .0) (x .0) refl) (sameForm-refl i (x .1))
-
 pub eq-sameForm : (i : ℕ) (x y : NF i) → x ≡ y → sameForm i x y ≡ true
-eq-sameForm i x y q = ap (λ t. sameForm i x t) (sym q) ∙ sameForm-refl i x
+unfolding sameForm
+eq-sameForm zero x y q = refl
+eq-sameForm (suc i) x y q = and-intro _ _ (eq-eqb (x .0) (y .0) (ap (λ z. z .0) q)) (eq-sameForm i (x .1) (y .1) (ap (λ z. z .1) q))

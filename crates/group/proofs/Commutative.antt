@@ -2,11 +2,11 @@
 --
 --   with-generators                   what commutes with every generator commutes with every form
 --   empty-abelian, abelian-empty      where the words are empty, any two forms commute; and the other way
-use mathlib.Core.Path.{_≡_, refl, sym, _∙_, ap, subst}
+use mathlib.Core.Path.{_≡_, sym, _∙_, ap, ap₂, subst}
 use Prim.Native.Nat.{ℕ, suc, _≤_, _<_}
 use native.Mathlib.Omega.{arith}
-use native.Mathlib.Decide.{decLt}
 use Rattle.definitions.specs.Presentation.{Mul, value}
+use Rattle.numbers.proofs.Bools.{compared}
 use Rattle.group.specs.Models.{Abelian, WordsEmpty}
 use Rattle.group.specs.Context.{Context, Nf}
 use Rattle.group.proofs.Values.{value-trivial, value-ind}
@@ -21,16 +21,9 @@ module _ (C : Context) (i : ℕ) (G : Group C i) where
 
   pub with-generators : (z : Nf C i) → ((k : ℕ) → k < i → level C i .mul z (genNf C i k) ≡ level C i .mul (genNf C i k) z)
       → (x : Nf C i) → level C i .mul z x ≡ level C i .mul x z
-  with-generators z h x = subst Q (G .gen-value x) (value-ind (level C i) Q q-one q-mul (genNf C i) i h (x .0))
-    where
-      Q : Nf C i → Type 0
-      Q y = z * y ≡ y * z
-
-      q-one : Q one
-      q-one = G .laws .idr z ∙ sym (G .laws .idl z)
-
-      q-mul : (x y : Nf C i) → Q x → Q y → Q (x * y)
-      q-mul x y a b = sym (G .laws .assoc z x y) ∙ ap (λ t. t * y) a ∙ G .laws .assoc x z y ∙ ap (λ t. x * t) b ∙ sym (G .laws .assoc x y z)
+  with-generators z h x = subst (λ y. z * y ≡ y * z) (G .gen-value x) (value-ind (level C i) (λ y. z * y ≡ y * z) (G .laws .idr z ∙ sym (G .laws .idl z))
+      (λ x y a b. sym (G .laws .assoc z x y) ∙ ap (λ t. t * y) a ∙ G .laws .assoc x z y ∙ ap (λ t. x * t) b ∙ sym (G .laws .assoc x y z))
+      (genNf C i) i h (x .0))
 
 module _ (T : TestedContext) (i : ℕ) (l : i ≤ T .n) where
   open TestedContext T using (context as C)
@@ -45,18 +38,14 @@ module _ (T : TestedContext) (i : ℕ) (l : i ≤ T .n) where
   g = genNf C i
 
   pub empty-abelian : WordsEmpty (T .context .P) i → Abelian (level (T .context) i)
-  empty-abelian empty x y = with-generators C i G x (λ k a. sym (with-generators C i G (g k) (λ j b. pair k j a b (decLt k j) (decLt j k)) x)) y
+  empty-abelian empty x y = with-generators C i G x (λ k a. sym (with-generators C i G (g k)
+      (λ j b. compared k j (λ c. swap k j c b) (λ e. ap₂ (λ s t. g s * g t) e (sym e)) (λ c. sym (swap j k c a))) x)) y
     where
       -- the relation of two generators whose word is empty
       swap : (k j : ℕ) → k < j → j < i → g k * g j ≡ g j * g k
       swap k j a b =
           let e : value (level C i) g (suc k) (C .P .w k j) ≡ one = ap (value (level C i) g (suc k)) (empty k j a b) ∙ value-trivial (G .laws) g (suc k) in
           G .satisfies .commutators k j a b ∙ ap (λ t. g j * (g k * t)) e ∙ ap (λ t. g j * t) (G .laws .idr (g k))
-
-      pair : (k j : ℕ) → k < i → j < i → Dec (k < j) → Dec (j < k) → g k * g j ≡ g j * g k
-      pair k j a b (yes c) d = swap k j c b
-      pair k j a b (no c) (yes d) = sym (swap j k d a)
-      pair k j a b (no c) (no d) = let e : k ≡ j = omega arith in subst (λ j. g k * g j ≡ g j * g k) e refl
 
   pub abelian-empty : Abelian (level (T .context) i) → WordsEmpty (T .context .P) i
   unfolding embed wNf level

@@ -8,6 +8,7 @@
 --   conj-period               done as often as the order of level suc j, it is the identity
 --   conj-injective, conj-onto it is an automorphism
 use mathlib.Core.Path.{_≡_, sym, _∙_, ap, subst}
+use mathlib.Core.Logic.{by-cases}
 use Prim.Native.Nat.{ℕ, zero, suc, _+_, _-_, _≤_, _<_}
 use native.Mathlib.Omega.{arith}
 use native.Mathlib.Decide.{decLe}
@@ -18,7 +19,7 @@ use Rattle.group.specs.Models.{Laws, Hom}
 use Rattle.group.specs.Context.{Context, Nf}
 use Rattle.group.proofs.Values.{iter-past, value-trivial}
 use Rattle.group.proofs.Sound.{sound}
-use Rattle.group.proofs.Level.{level, conjNf, genNf, low, low-inj, gen-low, low-value}
+use Rattle.group.proofs.Level.{level, conjNf, genNf, low-inj, gen-low, low-value}
 use Rattle.group.proofs.Group.{TestedContext, group, model}
 use Rattle.group.proofs.Order.{order-positive, order-one, cancel-left}
 
@@ -36,14 +37,10 @@ module _ (T : TestedContext) where
   pub embed-inj : (i m : ℕ) → i ≤ m → m ≤ T .n → (x y : Nf (T .context) i) → embed (T .context) i m x ≡ embed (T .context) i m y → x ≡ y
   unfolding embed
   embed-inj i zero a l x y q = let e : 0 ≡ i = omega arith in embed-here 0 l i e x y q
-  embed-inj i (suc m) a l x y q = go (λ h. embed-inj i m h (omega arith) x y) (decLe i m)
-    where
-      up : i ≤ m → (x : Nf C i) → embed C i (suc m) x ≡ low C m (embed C i m x)
-      up h x = low-value C m (genNf C m) (genNf C (suc m)) i (λ k b. gen-low C m k (omega arith)) (x .0)
-
-      go : (i ≤ m → embed C i m x ≡ embed C i m y → x ≡ y) → Dec (i ≤ m) → x ≡ y
-      go r (yes h) = r h (low-inj C m _ _ (sym (up h x) ∙ q ∙ up h y))
-      go r (no h) = let e : suc m ≡ i = omega arith in embed-here (suc m) l i e x y q
+  embed-inj i (suc m) a l x y q = by-cases (decLe i m)
+      (λ h. let up = low-value C m (genNf C m) (genNf C (suc m)) i (λ k b. gen-low C m k (omega arith)) in
+      embed-inj i m h (omega arith) x y (low-inj C m _ _ (sym (up (x .0)) ∙ q ∙ up (y .0))))
+      (λ h. let e : suc m ≡ i = omega arith in embed-here (suc m) l i e x y q)
 
   pub embed-hom : (i m : ℕ) → i ≤ m → (l : m ≤ T .n) → Hom (level (T .context) i) (level (T .context) m) (embed (T .context) i m)
   unfolding embed level model
@@ -54,7 +51,7 @@ module _ (T : TestedContext) where
 
   module _ (i j : ℕ) (l : i ≤ j) (b : j < T .n) where
     infixl 70 _*_ _⋆_
-    open Mul (level C (suc j)) using (mul as _*_, one)
+    open Mul (level C (suc j)) using (mul as _*_)
     open Mul (level C i) using (mul as _⋆_)
 
     abbrev e : Nf C i → Nf C (suc j)
@@ -78,21 +75,17 @@ module _ (T : TestedContext) where
     injective : (x y : Nf C i) → e x ≡ e y → x ≡ y
     injective = embed-inj i (suc j) (omega arith) b
 
-    e-mul : (x y : Nf C i) → e (x ⋆ y) ≡ e x * e y
-    e-mul = embed-hom i (suc j) (omega arith) b .on-mul
-
-    e-one : e (level C i .one) ≡ one
-    e-one = embed-hom i (suc j) (omega arith) b .on-one
+    H : Hom (level C i) (level C (suc j)) e
+    H = embed-hom i (suc j) (omega arith) b
 
     pub conj-hom : Hom (level (T .context) i) (level (T .context) i) (conjNf (T .context) i j)
-    conj-hom = record { on-one = unit; on-mul = product }
-      where
-        unit : f (level C i .one) ≡ level C i .one
-        unit = injective _ _ (cancel-left T (suc j) b g _ _ (embed-past _ ∙ ap (λ s. s * g) e-one ∙ 𝓛 .idl g ∙ sym (𝓛 .idr g) ∙ ap (λ s. g * s) (sym e-one)))
-
-        product : (x y : Nf C i) → f (x ⋆ y) ≡ f x ⋆ f y
-        product x y = injective _ _ (cancel-left T (suc j) b g _ _ (embed-past (x ⋆ y) ∙ ap (λ s. s * g) (e-mul x y) ∙ 𝓛 .assoc _ _ _ ∙ ap (λ s. e x * s) (sym (embed-past y))
-            ∙ sym (𝓛 .assoc _ _ _) ∙ ap (λ s. s * e (f y)) (sym (embed-past x)) ∙ 𝓛 .assoc _ _ _ ∙ ap (λ s. g * s) (sym (e-mul (f x) (f y)))))
+    conj-hom = record {
+      on-one = injective _ _ (cancel-left T (suc j) b g _ _ (embed-past _ ∙ ap (λ s. s * g) (H .on-one)
+          ∙ 𝓛 .idl g ∙ sym (𝓛 .idr g) ∙ ap (λ s. g * s) (sym (H .on-one))));
+      on-mul = λ x y. injective _ _ (cancel-left T (suc j) b g _ _ (embed-past (x ⋆ y) ∙ ap (λ s. s * g) (H .on-mul x y) ∙ 𝓛 .assoc _ _ _
+          ∙ ap (λ s. e x * s) (sym (embed-past y)) ∙ sym (𝓛 .assoc _ _ _) ∙ ap (λ s. s * e (f y)) (sym (embed-past x))
+          ∙ 𝓛 .assoc _ _ _ ∙ ap (λ s. g * s) (sym (H .on-mul (f x) (f y)))));
+    }
 
     pub conj-period : (x : Nf (T .context) i) → iter (conjNf (T .context) i j) (order (T .context .P) (suc j)) x ≡ x
     conj-period x = injective _ _ (sym (𝓛 .idl _) ∙ ap (λ s. s * e (iter f (order (C .P) (suc j)) x)) (sym (order-one T (suc j) b g))
@@ -102,14 +95,12 @@ module _ (T : TestedContext) where
     abbrev back : ℕ
     back = order (C .P) (suc j) - 1
 
-    whole : suc back ≡ order (C .P) (suc j)
-    whole = omega (arith, order-positive C (suc j))
-
     pub conj-injective : (x y : Nf (T .context) i) → conjNf (T .context) i j x ≡ conjNf (T .context) i j y → x ≡ y
     conj-injective x y q = sym (undo x) ∙ ap (iter f back) q ∙ undo y
       where
         undo : (x : Nf C i) → iter f back (f x) ≡ x
-        undo x = sym (iter-suc f back x) ∙ ap (λ k. iter f k x) whole ∙ conj-period x
+        undo x = let e : suc back ≡ order (C .P) (suc j) = omega (arith, order-positive C (suc j)) in
+            sym (iter-suc f back x) ∙ ap (λ k. iter f k x) e ∙ conj-period x
 
     pub conj-onto : (x : Nf (T .context) i) → conjNf (T .context) i j (iter (conjNf (T .context) i j) (order (T .context .P) (suc j) - 1) x) ≡ x
     conj-onto x = let e : back + 1 ≡ order (C .P) (suc j) = omega (arith, order-positive C (suc j)) in

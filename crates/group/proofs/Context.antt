@@ -9,24 +9,26 @@
 --   decision         its consistency is decided
 --   groupOf          the levels of a consistent one, as groups
 use mathlib.Core.Path.{_≡_, sym, _∙_, ap, subst}
-use mathlib.Core.Bool.{Bool, true, false, _&&_, _||_, not}
-use mathlib.Core.Logic.{_↔_}
+use mathlib.Core.Bool.{Bool, true, false, _&&_, _||_}
+use mathlib.Core.Logic.{_↔_, by-cases}
 use mathlib.Core.List.{List, []}
-use Prim.Native.Nat.{ℕ, suc, _%_, _≤_, _<_}
+use Prim.Native.Nat.{ℕ, suc, _≤_, _<_}
 use native.Mathlib.Omega.{arith}
 use native.Mathlib.Decide.{decLt}
 use lib.Dec.{eqb, leb, ltb}
 use lib.ListN.{length, getD, List·getD-eq-default}
 use borrow.Author.Tests.{ltb-true, leb-true, eqb-true, not-false}
-use Rattle.definitions.specs.Lists.{all, allBelow, sum}
+use Rattle.definitions.specs.Lists.{allBelow, sum}
 use Rattle.definitions.specs.Text.{largest, small}
-use Rattle.definitions.specs.Presentation.{Row, Relations, pairs, pairNumber, wellFormed, rowOf, presentation, isPrime, someNotPrime, allowed, rowWell, misused}
+use Rattle.definitions.specs.Presentation.{Row, Relations, pairNumber, wellFormed, rowOf, presentation, isPrime, someNotPrime, allowed, rowWell, misused}
 use Rattle.definitions.specs.Consistency.{Consistent, test}
+use Rattle.definitions.proofs.Rendering.{rowFormed, wellFormed-formed}
 use Rattle.numbers.proofs.Bools.{and-left, and-right}
 use Rattle.numbers.proofs.Lists.{allBelow-elim, all-getD, sum-mono}
+use Rattle.numbers.proofs.Prime as Prime
 use Rattle.group.specs.Context.{Context}
 use Rattle.group.proofs.Rows.{toNF-valid}
-use Rattle.group.proofs.Pairs.{length-pairs, pairNumber-power, pairNumber-below, PairAt, pair-at}
+use Rattle.group.proofs.Pairs.{length-pairs, pairNumber-power, pairNumber-below, pair-at}
 use Rattle.group.proofs.Group.{TestedContext}
 use Rattle.group.proofs.Accept.{accepts, decide, tested}
 
@@ -40,11 +42,9 @@ module _ (R : Relations) (used : misused R ≡ false) where
       → (ltb (getD (rowOf R j i .word) m 0) (presentation R .p m) && (allowed j i m || eqb (getD (rowOf R j i .word) m 0) 0)) ≡ true
   unfolding misused rowWell
   exponent-well j i m a b l =
+      let fits : ℕ → Bool = λ k. ltb (getD (rowOf R j i .word) k 0) (presentation R .p k) && (allowed j i k || eqb (getD (rowOf R j i .word) k 0) 0) in
       let row = allBelow-elim (suc j) (λ i. rowWell R j i) (allBelow-elim (R .n) (λ j. allBelow (suc j) (λ i. rowWell R j i)) (not-false _ used) j a) i b in
-      allBelow-elim (R .n) (λ k. fits k) (and-right (eqb i j || eqb (rowOf R j i .p) 0) (allBelow (R .n) (λ k. fits k)) row) m l
-    where
-      fits : ℕ → Bool
-      fits k = ltb (getD (rowOf R j i .word) k 0) (presentation R .p k) && (allowed j i k || eqb (getD (rowOf R j i .word) k 0) 0)
+      allBelow-elim (R .n) fits (and-right (eqb i j || eqb (rowOf R j i .p) 0) (allBelow (R .n) fits) row) m l
 
   pub exponent-unused : (j i m : ℕ) → i ≤ j → j < R .n → m < R .n → allowed j i m ≡ false → getD (rowOf R j i .word) m 0 ≡ 0
   exponent-unused j i m a b l h =
@@ -53,46 +53,30 @@ module _ (R : Relations) (used : misused R ≡ false) where
       eqb-true e 0 (sym (ap (λ t. t || eqb e 0) h) ∙ well)
 
 module _ (R : Relations) (formed : wellFormed R ≡ true) where
-  abbrev wide : Row → Bool
-  wide r = eqb (length (r .word)) (R .n) && leb (r .p) largest && small (r .word)
-
   length-rows : length (R .rows) ≡ sum (R .n) suc
-  unfolding wellFormed
-  length-rows = eqb-true _ _ (and-right (leb 1 (R .n) && leb (R .n) largest) (eqb (length (R .rows)) (length (pairs (R .n))))
-      (and-left (leb 1 (R .n) && leb (R .n) largest && eqb (length (R .rows)) (length (pairs (R .n)))) (all wide (R .rows)) formed)) ∙ length-pairs (R .n)
+  length-rows = wellFormed-formed R formed .one-each ∙ length-pairs (R .n)
 
-  row-wide : (r : ℕ) → r < length (R .rows) → wide (getD (R .rows) r none) ≡ true
-  unfolding wellFormed
-  row-wide r l = all-getD wide (R .rows) none (and-right (leb 1 (R .n) && leb (R .n) largest && eqb (length (R .rows)) (length (pairs (R .n)))) (all wide (R .rows)) formed) r l
-
-  length-word : (r : ℕ) → r < length (R .rows) → length (getD (R .rows) r none .word) ≡ R .n
-  length-word r l =
+  -- a row has n exponents, and its prime at most nine digits
+  row-formed : (r : ℕ) → r < length (R .rows) → (length (getD (R .rows) r none .word) ≡ R .n) × (getD (R .rows) r none .p ≤ largest)
+  row-formed r l =
       let row = getD (R .rows) r none in
-      eqb-true _ _ (and-left (eqb (length (row .word)) (R .n)) (leb (row .p) largest)
-      (and-left (eqb (length (row .word)) (R .n) && leb (row .p) largest) (small (row .word)) (row-wide r l)))
+      let wide = eqb (length (row .word)) (R .n) in
+      let few = leb (row .p) largest in
+      let both = and-left (wide && few) (small (row .word)) (all-getD (rowFormed (R .n)) (R .rows) none (wellFormed-formed R formed .formed-each) r l) in
+      (eqb-true _ _ (and-left wide few both), leb-true _ _ (and-right wide few both))
 
   pub prime-small : (j : ℕ) → j < R .n → presentation R .p j ≤ largest
   unfolding presentation rowOf
-  prime-small j l =
-      let row = getD (R .rows) (pairNumber j j) none in
-      leb-true (row .p) largest (and-right (eqb (length (row .word)) (R .n)) (leb (row .p) largest)
-      (and-left (eqb (length (row .word)) (R .n) && leb (row .p) largest) (small (row .word))
-      (row-wide (pairNumber j j) (omega (arith, length-rows, pairNumber-below (R .n) j j (omega arith) l)))))
+  prime-small j l = row-formed (pairNumber j j) (omega (arith, length-rows, pairNumber-below (R .n) j j (omega arith) l)) .1
 
   module _ (primes : someNotPrime R ≡ false) where
     pub prime-two : (j : ℕ) → 1 < presentation R .p j
     unfolding someNotPrime isPrime presentation rowOf
-    prime-two j = go (decLt j (R .n))
-      where
-        go : Dec (j < R .n) → 1 < getD (R .rows) (pairNumber j j) none .p
-        go (yes l) =
-            let p = presentation R .p j in
-            ltb-true 1 p (and-left (ltb 1 p) (allBelow p (λ d. ltb d 2 || not (eqb (p % d) 0)))
-            (allBelow-elim (R .n) (λ j. isPrime (presentation R .p j)) (not-false _ primes) j l))
-        go (no l) =
-            let q : getD (R .rows) (pairNumber j j) none ≡ none
-            = List·getD-eq-default (R .rows) none (omega (arith, length-rows, pairNumber-power j, sum-mono (R .n) j suc (omega arith))) in
-            subst (λ (r : Row). 1 < r .p) (sym q) (omega arith)
+    prime-two j = by-cases (decLt j (R .n))
+        (λ l. Prime.prime-two (presentation R .p j) (allBelow-elim (R .n) (λ j. isPrime (presentation R .p j)) (not-false _ primes) j l))
+        (λ l. let q : getD (R .rows) (pairNumber j j) none ≡ none
+        = List·getD-eq-default (R .rows) none (omega (arith, length-rows, pairNumber-power j, sum-mono (R .n) j suc (omega arith))) in
+        subst (λ (r : Row). 1 < r .p) (sym q) (omega arith))
 
     module _ (used : misused R ≡ false) where
       -- exponent m of the row of a pair of generators below n
@@ -103,18 +87,12 @@ module _ (R : Relations) (formed : wellFormed R ≡ true) where
 
       row-below : (r m : ℕ) → getD (getD (R .rows) r none .word) m 0 < presentation R .p m
       unfolding rowOf
-      row-below r m = go (decLt r (length (R .rows))) (decLt m (R .n))
-        where
-          zero-below : (w : List ℕ) → getD w m 0 ≡ 0 → getD w m 0 < presentation R .p m
-          zero-below w q = omega (arith, prime-two m)
-
-          of-pair : PairAt (R .n) r → m < R .n → getD (getD (R .rows) r none .word) m 0 < presentation R .p m
-          of-pair q l = subst (λ r. getD (getD (R .rows) r none .word) m 0 < presentation R .p m) (q .is) (pair-below (q .j) (q .i) m (q .j-below) (q .i-below) l)
-
-          go : Dec (r < length (R .rows)) → Dec (m < R .n) → getD (getD (R .rows) r none .word) m 0 < presentation R .p m
-          go (yes a) (yes b) = of-pair (pair-at (R .n) r (omega (arith, length-rows))) b
-          go (yes a) (no b) = zero-below (getD (R .rows) r none .word) (List·getD-eq-default (getD (R .rows) r none .word) 0 {n = m} (omega (arith, length-word r a)))
-          go (no a) d = zero-below (getD (R .rows) r none .word) (ap (λ (t : Row). getD (t .word) m 0) (List·getD-eq-default (R .rows) none {n = r} (omega arith)))
+      row-below r m = by-cases (decLt r (length (R .rows)))
+          (λ a. by-cases (decLt m (R .n))
+          (λ b. let q = pair-at (R .n) r (omega (arith, length-rows)) in
+          subst (λ r. getD (getD (R .rows) r none .word) m 0 < presentation R .p m) (q .is) (pair-below (q .j) (q .i) m (q .j-below) (q .i-below) b))
+          (λ b. omega (arith, prime-two m, List·getD-eq-default (getD (R .rows) r none .word) 0 {n = m} (omega (arith, row-formed r a .0)))))
+          (λ a. omega (arith, prime-two m, ap (λ (t : Row). getD (t .word) m 0) (List·getD-eq-default (R .rows) none {n = r} (omega arith))))
 
       pub exponent-below : (j i m : ℕ) → getD (rowOf R j i .word) m 0 < presentation R .p m
       unfolding rowOf

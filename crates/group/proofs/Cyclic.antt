@@ -5,10 +5,12 @@
 --   cyclic-assoc, cyclic-idl, cyclic-idr    the product with carry is associative and has a unit
 --   division-unique                division with remainder has one quotient
 use mathlib.Core.Path.{_≡_, refl, sym, _∙_, ap}
-use Prim.Native.Nat.{ℕ, zero, suc, _+_, _*_ as _·_, _-_, _<_}
+use mathlib.Core.Logic.{by-cases}
+use Prim.Native.Nat.{ℕ, zero, suc, _+_, _*_ as _·_, _-_, _/_, _<_}
 use native.Mathlib.Nat.{zero-add, add-zero, zero-mul, suc-mul}
 use native.Mathlib.Omega.{arith}
 use native.Mathlib.Decide.{decLt}
+use lib.Arith.{digits-div}
 use Rattle.definitions.specs.Lists.{iter}
 use Rattle.definitions.specs.Presentation.{Mul, power}
 use Rattle.definitions.specs.Consistency.{mulStep}
@@ -18,10 +20,7 @@ use Rattle.group.proofs.Values.{power-zero, power-suc, power-one, power
 use Rattle.group.proofs.Clauses.{mulStep-below, mulStep-over}
 
 pub division-unique : (p r t k l : ℕ) → r < p → t < p → r + k · p ≡ t + l · p → k ≡ l
-division-unique p r t zero zero a b q = refl
-division-unique p r t zero (suc l) a b q = omega arith
-division-unique p r t (suc k) zero a b q = omega arith
-division-unique p r t (suc k) (suc l) a b q = ap suc (division-unique p r t k l a b (omega arith))
+division-unique p r t k l a b q = let e : k · p + r ≡ l · p + t = omega arith in sym (digits-div k a) ∙ ap (λ n. n / p) e ∙ digits-div l b
 
 pub record Cyclic {A : Type 0} (𝓐 : Mul A) (p : ℕ) (f : A → A) (u : A) : Type 0 where
   pub laws : Laws 𝓐
@@ -50,8 +49,7 @@ module _ {A : Type 0} {𝓐 : Mul A} {p : ℕ} {f : A → A} {u : A} (C : Cyclic
   -- u^l f^(l p) (x) = x u^l
   inner-power : (l : ℕ) (x : A) → U l * iter f (l · p) x ≡ x * U l
   inner-power zero x = simp (zero-mul, iter-zero, power-zero, idl, idr)
-  inner-power (suc l) x =
-      simp (suc-mul, ← iter-add f (l · p) p x, power-suc, power-past laws u u u refl l, assoc, C .inner)
+  inner-power (suc l) x = simp (suc-mul, ← iter-add f (l · p) p x, power-suc, power-past laws u u u refl l, assoc, C .inner)
       (sym (assoc _ _ _) ∙ ap (λ t. t * u) (inner-power l x) ∙ assoc _ _ _)
 
   -- a pair c with exponent s before z, brought below p: the exponent r and how often p was taken off
@@ -66,18 +64,21 @@ module _ {A : Type 0} {𝓐 : Mul A} {p : ℕ} {f : A → A} {u : A} (C : Cyclic
   mulE = mulStep p _*_ f u
 
   reduced : (x y : ℕ × A) → x .0 < p → y .0 < p → Reduced (x .0 + y .0) (iter f (y .0) (x .1) * y .1) (mulE x y)
-  reduced x y a b = go (decLt (x .0 + y .0) p)
-    where
-      go : Dec (x .0 + y .0 < p) → Reduced (x .0 + y .0) (iter f (y .0) (x .1) * y .1) (mulE x y)
-      go (yes h) = record { r = x .0 + y .0; k = 0; small = h; split = simp zero-mul (omega arith); is = mulStep-below p _*_ f u x y h ∙ simp (power-zero, idl) }
-      go (no h) = record { r = x .0 + y .0 - p; k = 1; small = omega arith; split = omega arith; is = mulStep-over p _*_ f u x y (omega arith) ∙ simp (power-one laws) }
+  reduced x y a b = by-cases (decLt (x .0 + y .0) p)
+      (λ h. record { r = x .0 + y .0; k = 0; small = h; split = simp zero-mul (omega arith); is = mulStep-below p _*_ f u x y h ∙ simp (power-zero, idl) })
+      (λ h. record {
+        r = x .0 + y .0 - p;
+        k = 1;
+        small = omega arith;
+        split = omega arith;
+        is = mulStep-over p _*_ f u x y (omega arith) ∙ simp (power-one laws);
+      })
 
   left-form : (k k′ b c : ℕ) (x y z : A) → U k * (iter f c (U k′ * (iter f b x * y)) * z) ≡ U (k + k′) * (iter f (b + c) x * (iter f c y * z))
   left-form k k′ b c x y z = simp (iter-mul, iter-U, iter-add, power-add laws, assoc)
 
   right-form : (l l′ t : ℕ) (x q : A) → U l * (iter f t x * (U l′ * q)) ≡ U (l + l′) * (iter f (t + l′ · p) x * q)
-  right-form l l′ t x q =
-      simp (power-add laws, ← iter-add f t (l′ · p) x, assoc)
+  right-form l l′ t x q = simp (power-add laws, ← iter-add f t (l′ · p) x, assoc)
       (ap (λ s. U l * s) (sym (assoc _ _ _) ∙ ap (λ s. s * q) (sym (inner-power l′ (iter f t x))) ∙ assoc _ _ _))
 
   -- both ways of bracketing take p off equally often, since both divide a + b + c by p
@@ -85,30 +86,15 @@ module _ {A : Type 0} {𝓐 : Mul A} {p : ℕ} {f : A → A} {u : A} (C : Cyclic
       → _≡_ {A = ℕ × A} (r, U k * (iter f c (U k′ * (iter f b x * y)) * z)) (t, U l * (iter f t′ x * (U l′ * (iter f c y * z))))
   middle x y z a b c r r′ k k′ t t′ l l′ h h′ e1 e2 e3 e4 =
       let ks : k + k′ ≡ l + l′ = division-unique p r t (k + k′) (l + l′) h h′ (omega arith) in
-      let rs : r ≡ t = omega (arith, ap (λ n. n · p) ks) in
-      rw (left-form, right-form, ks, rs, e3)
+      let rs : r ≡ t = omega (arith, ap (λ n. n · p) ks) in rw (left-form, right-form, ks, rs, e3)
 
   pub cyclic-assoc : (x y z : ℕ × A) → x .0 < p → y .0 < p → z .0 < p → mulStep p _*_ f u (mulStep p _*_ f u x y) z ≡ mulStep p _*_ f u x (mulStep p _*_ f u y z)
   cyclic-assoc x y z a b c =
-      rw (xy .is, yz .is) (l2 .is ∙ middle _ _ _ _ _ _ _ _ _ _ _ _ _ _ (l2 .small) (r2 .small) (xy .split) (l2 .split) (yz .split) (r2 .split) ∙ sym (r2 .is))
-    where
-      xy : Reduced (x .0 + y .0) (iter f (y .0) (x .1) * y .1) (mulE x y)
-      xy = reduced x y a b
-
-      yz : Reduced (y .0 + z .0) (iter f (z .0) (y .1) * z .1) (mulE y z)
-      yz = reduced y z b c
-
-      l1 : ℕ × A
-      l1 = (xy .r, U (xy .k) * (iter f (y .0) (x .1) * y .1))
-
-      r1 : ℕ × A
-      r1 = (yz .r, U (yz .k) * (iter f (z .0) (y .1) * z .1))
-
-      l2 : Reduced (xy .r + z .0) (iter f (z .0) (l1 .1) * z .1) (mulE l1 z)
-      l2 = reduced l1 z (xy .small) c
-
-      r2 : Reduced (x .0 + yz .r) (iter f (yz .r) (x .1) * r1 .1) (mulE x r1)
-      r2 = reduced x r1 a (yz .small)
+      let xy = reduced x y a b in
+      let yz = reduced y z b c in
+      let l = reduced (xy .r, U (xy .k) * (iter f (y .0) (x .1) * y .1)) z (xy .small) c in
+      let r = reduced x (yz .r, U (yz .k) * (iter f (z .0) (y .1) * z .1)) a (yz .small) in
+      rw (xy .is, yz .is) (l .is ∙ middle _ _ _ _ _ _ _ _ _ _ _ _ _ _ (l .small) (r .small) (xy .split) (l .split) (yz .split) (r .split) ∙ sym (r .is))
 
   pub cyclic-idl : (x : ℕ × A) → x .0 < p → mulStep p _*_ f u (0, one) x ≡ x
   cyclic-idl x a = mulStep-below p _*_ f u (0, one) x (omega arith) ∙ simp (zero-add, iter-fix f one (C .f-one), idl)

@@ -27,24 +27,20 @@ module _ (P : Presentation) where
   chain-trans (done a) q = q
   chain-trans (link a b c s p) q = link a b _ s (chain-trans p q)
 
-  step-sym : {a b : Word} → Step P a b → Step P b a
-  step-sym (forth a b l r s) = back a b l r s
-  step-sym (back a b l r s) = forth a b l r s
-
   pub chain-sym : {a b : Word} → Chain P a b → Chain P b a
   chain-sym (done a) = done a
-  chain-sym (link a b c s p) = chain-trans (chain-sym p) (link b a a (step-sym s) (done a))
+  chain-sym (link a b c (forth x y l r s) p) = chain-trans (chain-sym p) (link _ _ _ (back x y l r s) (done _))
+  chain-sym (link a b c (back x y l r s) p) = chain-trans (chain-sym p) (link _ _ _ (forth x y l r s) (done _))
 
   regroup : (x y a b l : Word) → (x ++ a) ++ l ++ (b ++ y) ≡ x ++ (a ++ l ++ b) ++ y
   regroup x y a b l = simp append-assoc
 
-  step-within : (x y : Word) {a b : Word} → Step P a b → Step P (x ++ a ++ y) (x ++ b ++ y)
-  step-within x y (forth a b l r s) = subst₂ (Step P) (regroup x y a b l) (regroup x y a b r) (forth (x ++ a) (b ++ y) l r s)
-  step-within x y (back a b l r s) = subst₂ (Step P) (regroup x y a b r) (regroup x y a b l) (back (x ++ a) (b ++ y) l r s)
-
   chain-within : (x y : Word) {a b : Word} → Chain P a b → Chain P (x ++ a ++ y) (x ++ b ++ y)
   chain-within x y (done a) = done _
-  chain-within x y (link a b c s p) = link _ _ _ (step-within x y s) (chain-within x y p)
+  chain-within x y (link a b c (forth u v l r s) p) =
+      link _ _ _ (subst₂ (Step P) (regroup x y u v l) (regroup x y u v r) (forth (x ++ u) (v ++ y) l r s)) (chain-within x y p)
+  chain-within x y (link a b c (back u v l r s) p) =
+      link _ _ _ (subst₂ (Step P) (regroup x y u v r) (regroup x y u v l) (back (x ++ u) (v ++ y) l r s)) (chain-within x y p)
 
   pub chain-both : {a b c d : Word} → Chain P a b → Chain P c d → Chain P (a ++ c) (b ++ d)
   chain-both {a} {b} {c} {d} p q = chain-trans (chain-within [] c p) (subst₂ (Chain P) (append-nil (b ++ c)) (append-nil (b ++ d)) (chain-within b [] q))
@@ -115,14 +111,14 @@ module _ (P : Presentation) where
   inv-gen-class k l = class-mul _ _ ∙ sides-class _ _ (inv-gen k l)
 
   -- j k w = j k (k⁻¹ j⁻¹ k j) = j j⁻¹ k j = k j
-  classes-commutator : (k j : ℕ) → k < j → j < P .n → classes .mul (genClass k) (genClass j) ≡ classes .mul (genClass j) (classes .mul (genClass k) (value classes genClass (suc k) (P .w k j)))
-  classes-commutator k j a b = sym (ap (λ t. classes .mul (genClass j) (classes .mul (genClass k) t)) (class-value (suc k) (P .w k j) ∙ sym (sides-class _ _ (commutator-relation k j a b)))
-      ∙ ap (classes .mul (genClass j)) (class-mul _ _) ∙ class-mul _ _
-      ∙ joined-class _ _ (chain-sides (gen j ∷ []) (inv j ∷ gen k ∷ gen j ∷ []) _ _ (gen-inv k (omega arith)))
-      ∙ joined-class _ _ (chain-sides [] (gen k ∷ gen j ∷ []) _ _ (gen-inv j b)) ∙ sym (class-mul _ _))
-
   pub classes-satisfy : Satisfies P classes genClass (P .n)
-  classes-satisfy = record { powers = λ j l. power-class (gen j) (P .p j) ∙ sides-class _ _ (power-relation j l) ∙ sym (class-value j (P .u j)); commutators = classes-commutator }
+  classes-satisfy = record {
+    powers = λ j l. power-class (gen j) (P .p j) ∙ sides-class _ _ (power-relation j l) ∙ sym (class-value j (P .u j));
+    commutators = λ k j a b. sym (ap (λ t. classes .mul (genClass j) (classes .mul (genClass k) t))
+        (class-value (suc k) (P .w k j) ∙ sym (sides-class _ _ (commutator-relation k j a b))) ∙ ap (classes .mul (genClass j)) (class-mul _ _) ∙ class-mul _ _
+        ∙ joined-class _ _ (chain-sides (gen j ∷ []) (inv j ∷ gen k ∷ gen j ∷ []) _ _ (gen-inv k (omega arith)))
+        ∙ joined-class _ _ (chain-sides [] (gen k ∷ gen j ∷ []) _ _ (gen-inv j b)) ∙ sym (class-mul _ _));
+  }
 
   unfoldable pub free : Model P (P .n) Class
   free = record { product = classes; laws = classes-laws; h = genClass; satisfies = classes-satisfy }

@@ -11,6 +11,7 @@
 --   low-top              the next generator carries a lower form to its conjugate
 use mathlib.Core.Path.{_≡_, refl, sym, _∙_, ap, ap₂, subst}
 use Prim.Native.Nat.{ℕ, zero, suc, _+_, _-_, _≤_, _<_}
+use native.Mathlib.Nat.{add-zero}
 use native.Mathlib.Omega.{arith}
 use Rattle.definitions.specs.Lists.{iter}
 use Rattle.definitions.specs.Presentation.{NF, trivial, Mul, power, value}
@@ -77,18 +78,12 @@ module _ (C : Context) where
       f-one = conj-one i i;
       f-mul = conj-mul;
       f-u = T .fixes;
-      inner = λ x. subst Q (G .gen-value x) (value-ind (level C i) Q q-one q-mul (genNf C i) i (T .inner) (x .0));
+      inner = λ x. subst (λ x. u * iter f p x ≡ x * u) (G .gen-value x) (value-ind (level C i) (λ x. u * iter f p x ≡ x * u)
+          (simp (iter-fix f one (conj-one i i), G .laws .idl, G .laws .idr))
+          (λ x y a b. simp (iter-op f (_*_) conj-mul, G .laws .assoc)
+          (sym (G .laws .assoc _ _ _) ∙ ap (λ t. t * iter f p y) a ∙ G .laws .assoc _ _ _ ∙ ap (λ t. x * t) b))
+          (genNf C i) i (T .inner) (x .0));
     }
-      where
-        Q : Nf C i → Type 0
-        Q x = u * iter f p x ≡ x * u
-
-        q-one : Q one
-        q-one = simp (iter-fix f one (conj-one i i), G .laws .idl, G .laws .idr)
-
-        q-mul : (x y : Nf C i) → Q x → Q y → Q (x * y)
-        q-mul x y a b = simp (iter-op f (_*_) conj-mul, G .laws .assoc)
-            (sym (G .laws .assoc _ _ _) ∙ ap (λ t. t * iter f p y) a ∙ G .laws .assoc _ _ _ ∙ ap (λ t. x * t) b)
 
     next : Laws (level C (suc i))
     next = laws-suc C i cyclic
@@ -107,15 +102,12 @@ module _ (C : Context) where
 
     power-top-p : power (level C (suc i)) (top C i) p ≡ low C i u
     unfolding level top low uNf
-    power-top-p = Nf-path C (suc i) _ _ (ap (λ n. power (level C (suc i)) (top C i) n .0) q ∙ ap (λ t. t .0) (power-suc (level C (suc i)) (top C i) (p - 1))
+    power-top-p =
+        let q : p ≡ suc (p - 1) = omega (arith, two i) in
+        let z : 1 + (p - 1) - p ≡ 0 = omega (arith, two i) in
+        Nf-path C (suc i) _ _ (ap (λ n. power (level C (suc i)) (top C i) n .0) q ∙ ap (λ t. t .0) (power-suc (level C (suc i)) (top C i) (p - 1))
         ∙ ap (mul P (suc i) (1, trivial i)) (power-top (p - 1) (omega (arith, two i))) ∙ mul-top-over C i 1 (p - 1) (trivial i) (trivial-valid C i) (omega (arith, two i))
         ∙ ap₂ (λ s t. (s, t .0)) z (G .laws .idr u))
-      where
-        q : p ≡ suc (p - 1)
-        q = omega (arith, two i)
-
-        z : 1 + (p - 1) - p ≡ 0
-        z = omega (arith, two i)
 
     -- ---- Values and conjugation one level up
 
@@ -126,27 +118,21 @@ module _ (C : Context) where
     gen-value-suc : (x : Nf C (suc i)) → value (level C (suc i)) (genNf C (suc i)) (suc i) (x .0) ≡ x
     unfolding level low
     gen-value-suc x = value-climbs (genNf C i) (genNf C (suc i)) (λ m l. gen-low C i m l) (top C i) (gen-top C i) (x .0)
-        ∙ ap (λ t. power (level C (suc i)) (top C i) (x .0 .0) ⊛ low C i t) (G .gen-value (rest x)) ∙ Nf-path C (suc i) _ _ raw
-      where
-        z : x .0 .0 + 0 ≡ x .0 .0
-        z = omega arith
-
-        raw : (power (level C (suc i)) (top C i) (x .0 .0) ⊛ low C i (rest x)) .0 ≡ x .0
-        raw = ap (λ t. mul P (suc i) t (0, x .0 .1)) (power-top (x .0 .0) (x .1 .0)) ∙ mul-top-below C i (x .0 .0) 0 (x .0 .1) (x .1 .1) (omega (arith, x .1 .0)) ∙ ap (λ t. (t, x .0 .1)) z
+        ∙ ap (λ t. power (level C (suc i)) (top C i) (x .0 .0) ⊛ low C i t) (G .gen-value (rest x))
+        ∙ Nf-path C (suc i) _ _ (ap (λ t. mul P (suc i) t (0, x .0 .1)) (power-top (x .0 .0) (x .1 .0))
+        ∙ mul-top-below C i (x .0 .0) 0 (x .0 .1) (x .1 .1) (omega (arith, x .1 .0)) ∙ ap (λ t. (t, x .0 .1)) (add-zero (x .0 .0)))
 
     pub conj-low : (j : ℕ) → suc i ≤ j → (x : Nf C i) → conjNf C (suc i) j (low C i x) ≡ low C i (conjNf C i j x)
     unfolding low
     conj-low j l x = conj-clause C i j (low C i x) ∙ simp (power-zero, next .idl)
 
-    conj-top : (j : ℕ) → suc i ≤ j → conjNf C (suc i) j (top C i) ≡ top C i ⊛ wNf C i j
-    unfolding top level
-    conj-top j l = conj-clause C i j (top C i) ∙ ap₂ (_⊛_) (power-one next _) (ap (low C i) (conj-one i j) ∙ low-hom C i .on-one) ∙ next .idr _
-
     image-low : (j : ℕ) → suc i ≤ j → (m : ℕ) → m < i → imageNf (suc i) j m ≡ low C i (imageNf i j m)
     image-low j l m h = ap (conjNf C (suc i) j) (gen-low C i m h) ∙ conj-low j l (genNf C i m)
 
     image-top : (j : ℕ) → suc i ≤ j → imageNf (suc i) j i ≡ top C i ⊛ wNf C i j
-    image-top j l = ap (conjNf C (suc i) j) (gen-top C i) ∙ conj-top j l
+    unfolding top level
+    image-top j l = ap (conjNf C (suc i) j) (gen-top C i) ∙ conj-clause C i j (top C i)
+        ∙ ap₂ (_⊛_) (power-one next _) (ap (low C i) (conj-one i j) ∙ low-hom C i .on-one) ∙ next .idr _
 
     conj-value-suc : (j : ℕ) → suc i ≤ j → (x : Nf C (suc i)) → value (level C (suc i)) (imageNf (suc i) j) (suc i) (x .0) ≡ conjNf C (suc i) j x
     conj-value-suc j l x = value-climbs (imageNf i j) (imageNf (suc i) j) (image-low j l) (top C i ⊛ wNf C i j) (image-top j l) (x .0)
@@ -175,48 +161,35 @@ module _ (C : Context) where
 
     satisfies-suc : Satisfies P (level C (suc i)) (genNf C (suc i)) (suc i)
     unfolding uNf
-    satisfies-suc = record { powers = below-suc i Power power-below power-at; commutators = λ k j a b. below-suc i Commutator commutator-below commutator-at j b k a }
-      where
-        Power : ℕ → Type 0
-        Power j = power (level C (suc i)) (genNf C (suc i) j) (P .p j) ≡ value (level C (suc i)) (genNf C (suc i)) j (P .u j)
-
-        power-below : (j : ℕ) → j < i → Power j
-        power-below j h = ap (λ g. power (level C (suc i)) g (P .p j)) (gen-low C i j h) ∙ sym (power-hom (low-hom C i) (genNf C i j) (P .p j))
-            ∙ ap (low C i) (G .satisfies .powers j h) ∙ gen-climbs j (omega arith) (P .u j)
-
-        power-at : Power i
-        power-at = ap (λ g. power (level C (suc i)) g (P .p i)) (gen-top C i) ∙ power-top-p ∙ ap (low C i) (sym (G .gen-value u)) ∙ gen-climbs i (omega arith) (P .u i)
-
-        Commutator : ℕ → Type 0
-        Commutator j = (k : ℕ) → k < j → genNf C (suc i) k ⊛ genNf C (suc i) j
-            ≡ genNf C (suc i) j ⊛ (genNf C (suc i) k ⊛ value (level C (suc i)) (genNf C (suc i)) (suc k) (P .w k j))
-
-        commutator-below : (j : ℕ) → j < i → Commutator j
-        commutator-below j h k a = ap₂ (_⊛_) (gen-low C i k (omega arith)) (gen-low C i j h) ∙ sym (low-hom C i .on-mul _ _)
-            ∙ ap (low C i) (G .satisfies .commutators k j a h) ∙ low-hom C i .on-mul _ _
-            ∙ ap₂ (_⊛_) (sym (gen-low C i j h)) (commutator-climbs j k (omega arith))
-
-        commutator-at : Commutator i
-        commutator-at k a = ap₂ (_⊛_) (gen-low C i k a) (gen-top C i) ∙ low-top (genNf C i k)
-            ∙ ap₂ (λ s t. s ⊛ low C i t) (sym (gen-top C i)) (G .conj-gen i (omega arith) k a) ∙ ap (λ t. genNf C (suc i) i ⊛ t) (commutator-climbs i k a)
+    satisfies-suc = record {
+      powers = below-suc i (λ j. power (level C (suc i)) (genNf C (suc i) j) (P .p j) ≡ value (level C (suc i)) (genNf C (suc i)) j (P .u j))
+          (λ j h. ap (λ g. power (level C (suc i)) g (P .p j)) (gen-low C i j h) ∙ sym (power-hom (low-hom C i) (genNf C i j) (P .p j))
+          ∙ ap (low C i) (G .satisfies .powers j h) ∙ gen-climbs j (omega arith) (P .u j))
+          (ap (λ g. power (level C (suc i)) g (P .p i)) (gen-top C i) ∙ power-top-p ∙ ap (low C i) (sym (G .gen-value u))
+          ∙ gen-climbs i (omega arith) (P .u i));
+      commutators = λ k j a b. below-suc i
+          (λ j. k < j → genNf C (suc i) k ⊛ genNf C (suc i) j
+          ≡ genNf C (suc i) j ⊛ (genNf C (suc i) k ⊛ value (level C (suc i)) (genNf C (suc i)) (suc k) (P .w k j)))
+          (λ j h a. ap₂ (_⊛_) (gen-low C i k (omega arith)) (gen-low C i j h) ∙ sym (low-hom C i .on-mul _ _) ∙ ap (low C i) (G .satisfies .commutators k j a h)
+          ∙ low-hom C i .on-mul _ _ ∙ ap₂ (_⊛_) (sym (gen-low C i j h)) (commutator-climbs j k (omega arith)))
+          (λ a. ap₂ (_⊛_) (gen-low C i k a) (gen-top C i) ∙ low-top (genNf C i k)
+          ∙ ap₂ (λ s t. s ⊛ low C i t) (sym (gen-top C i)) (G .conj-gen i (omega arith) k a) ∙ ap (λ t. genNf C (suc i) i ⊛ t) (commutator-climbs i k a))
+          j b a;
+    }
 
     group-suc : Group (suc i)
     group-suc = record { laws = next; gen-value = gen-value-suc; conj-value = conj-value-suc; conj-gen = conj-gen-suc; satisfies = satisfies-suc }
 
-  group-zero : Group zero
-  group-zero = record {
-    laws = record { assoc = λ x y z. all _ _; idl = λ x. all _ _; idr = λ x. all _ _ };
-    gen-value = λ x. all _ _;
-    conj-value = λ j l x. all _ _;
-    conj-gen = λ j l k h. all _ _;
-    satisfies = record { powers = λ j l. all _ _; commutators = λ k j a b. all _ _ };
-  }
-    where
-      all : (x y : Nf C 0) → x ≡ y
-      all x y = Nf-path C 0 x y refl
-
   climb : (i : ℕ) → ((k : ℕ) → k < i → Test k) → Group i
-  climb zero t = group-zero
+  climb zero t =
+      let all : (x y : Nf C 0) → x ≡ y = λ x y. Nf-path C 0 x y refl in
+      record {
+        laws = record { assoc = λ x y z. all _ _; idl = λ x. all _ _; idr = λ x. all _ _ };
+        gen-value = λ x. all _ _;
+        conj-value = λ j l x. all _ _;
+        conj-gen = λ j l k h. all _ _;
+        satisfies = record { powers = λ j l. all _ _; commutators = λ k j a b. all _ _ };
+      }
   climb (suc i) t = group-suc i (climb i (λ k l. t k (omega arith))) (t i (omega arith))
 
 -- ---- All levels

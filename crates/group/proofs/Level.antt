@@ -10,8 +10,9 @@
 --   low-hom, low-value, conj-clause  how product, values and conjugation climb
 --   laws-suc                         the laws climb by a cyclic extension
 use mathlib.Core.Path.{_≡_, refl, sym, _∙_, ap, subst}
+use mathlib.Core.Logic.{by-cases}
 use mathlib.Core.HLevel.{Σ-prop-path, ×-prop, Unit-prop}
-use mathlib.Core.Bool.{Bool, true, false, cond}
+use mathlib.Core.Bool.{true, false, cond}
 use Prim.Native.Nat.{ℕ, zero, suc, _+_, _<_}
 use lib.Dec.{eqb}
 use native.Mathlib.Bridge.{le-prop}
@@ -41,14 +42,10 @@ iter-keeps In f fi (suc k) x h = iter-keeps In f fi k (f x) (fi x h)
 mulStep-keeps : {A : Type 0} (In : A → Type 0) (p : ℕ) (m : A → A → A) (f : A → A) (u : A)
     → ((x y : A) → In x → In y → In (m x y)) → ((x : A) → In x → In (f x)) → In u
     → (x y : ℕ × A) → (x .0 < p) × In (x .1) → (y .0 < p) × In (y .1) → ((mulStep p m f u x y) .0 < p) × In ((mulStep p m f u x y) .1)
-mulStep-keeps {A} In p m f u mi fi ui x y hx hy = go (decLt (x .0 + y .0) p)
-  where
-    z : In (m (iter f (y .0) (x .1)) (y .1))
-    z = mi _ _ (iter-keeps In f fi (y .0) (x .1) (hx .1)) (hy .1)
-
-    go : Dec (x .0 + y .0 < p) → ((mulStep p m f u x y) .0 < p) × In ((mulStep p m f u x y) .1)
-    go (yes l) = subst (λ (t : ℕ × A). (t .0 < p) × In (t .1)) (sym (mulStep-below p m f u x y l)) (l, z)
-    go (no l) = subst (λ (t : ℕ × A). (t .0 < p) × In (t .1)) (sym (mulStep-over p m f u x y (omega arith))) (omega (arith, hx .0, hy .0), mi _ _ ui z)
+mulStep-keeps In p m f u mi fi ui x y hx hy =
+    let z = mi _ _ (iter-keeps In f fi (y .0) (x .1) (hx .1)) (hy .1) in
+    by-cases (decLt (x .0 + y .0) p) (λ l. rw (mulStep-below p m f u x y l) (l, z))
+    (λ l. rw (mulStep-over p m f u x y (omega arith)) (omega (arith, hx .0, hy .0), mi _ _ ui z))
 
 module _ (C : Context) where
   open Context C using (P, two, u-valid, w-valid)
@@ -67,18 +64,18 @@ module _ (C : Context) where
     on-mul : (x y : NF i) → Valid P i x → Valid P i y → Valid P i (mul P i x y)
     on-conj : (j : ℕ) (x : NF i) → Valid P i x → Valid P i (conj P i j x)
 
-  closed-suc : (i : ℕ) → Closed i → Closed (suc i)
-  closed-suc i c = record { on-mul = m; on-conj = λ j x h. subst (Valid P (suc i)) (sym (conj-suc P i j x)) (m _ _ (image-valid j (x .0)) (omega (arith, two i), c .on-conj j (x .1) (h .1))) }
-    where
-      m : (x y : NF (suc i)) → Valid P (suc i) x → Valid P (suc i) y → Valid P (suc i) (mul P (suc i) x y)
-      m x y a b = subst (Valid P (suc i)) (sym (mul-suc P i x y)) (mulStep-keeps (Valid P i) (P .p i) (mul P i) (conj P i i) (P .u i) (c .on-mul) (c .on-conj i) (u-valid i) x y a b)
-
-      image-valid : (j k : ℕ) → Valid P (suc i) (power (forms P (suc i)) (mul P (suc i) (1, trivial i) (P .w i j)) k)
-      image-valid j k = power-ind (forms P (suc i)) (Valid P (suc i)) (trivial-valid (suc i)) m _ (m _ _ (two i, trivial-valid i) (w-valid i j)) k
-
   closed : (i : ℕ) → Closed i
   closed zero = record { on-mul = λ x y h k. tt; on-conj = λ j x h. tt }
-  closed (suc i) = closed-suc i (closed i)
+  closed (suc i) =
+      let c = closed i in
+      let m : (x y : NF (suc i)) → Valid P (suc i) x → Valid P (suc i) y → Valid P (suc i) (mul P (suc i) x y) = λ x y a b. subst (Valid P (suc i))
+      (sym (mul-suc P i x y)) (mulStep-keeps (Valid P i) (P .p i) (mul P i) (conj P i i) (P .u i) (c .on-mul) (c .on-conj i) (u-valid i) x y a b) in
+      record {
+        on-mul = m;
+        on-conj = λ j x h. subst (Valid P (suc i)) (sym (conj-suc P i j x)) (m _ _
+            (power-ind (forms P (suc i)) (Valid P (suc i)) (trivial-valid (suc i)) m _ (m _ _ (two i, trivial-valid i) (w-valid i j)) (x .0))
+            (omega (arith, two i), c .on-conj j (x .1) (h .1)));
+      }
 
   pub mul-valid : (i : ℕ) (x y : NF i) → Valid P i x → Valid P i y → Valid P i (mul P i x y)
   mul-valid i = closed i .on-mul
@@ -89,11 +86,8 @@ module _ (C : Context) where
   pub generator-valid : (i k : ℕ) → Valid P i (generator i k)
   unfolding generator
   generator-valid zero k = tt
-  generator-valid (suc i) k = go (generator-valid i k) (eqb k i)
-    where
-      go : Valid P i (generator i k) → (b : Bool) → Valid P (suc i) (cond b (1, trivial i) (0, generator i k))
-      go v true = (two i, trivial-valid i)
-      go v false = (omega (arith, two i), v)
+  generator-valid (suc i) k = elim (eqb k i) as (λ b. Valid P (suc i) (cond b (1, trivial i) (0, generator i k)))
+      [ true ↦ (two i, trivial-valid i) | false ↦ (omega (arith, two i), generator-valid i k) ]
 
   -- ---- Valid forms as a product and a unit
 
@@ -152,8 +146,7 @@ module _ (C : Context) where
   pub conj-clause : (i j : ℕ) (x : Nf C (suc i))
       → conjNf (suc i) j x ≡ level (suc i) .mul (power (level (suc i)) (level (suc i) .mul (top i) (wNf i j)) (x .0 .0)) (low i (conjNf i j (x .0 .1, x .1 .1)))
   unfolding conjNf level low top wNf
-  conj-clause i j x =
-      Nf-path (suc i) _ _ (conj-suc P i j (x .0) ∙ ap (λ t. mul P (suc i) t (0, conj P i j (x .0 .1)))
+  conj-clause i j x = Nf-path (suc i) _ _ (conj-suc P i j (x .0) ∙ ap (λ t. mul P (suc i) t (0, conj P i j (x .0 .1)))
       (sym (power-hom (forget (suc i)) (level (suc i) .mul (top i) (wNf i j)) (x .0 .0))))
 
   module _ (i : ℕ) (E : Cyclic (level i) (P .p i) (conjNf i i) (uNf i)) where
@@ -172,16 +165,11 @@ module _ (C : Context) where
 
     pub laws-suc : Laws (level (suc i))
     unfolding level trivial
-    laws-suc = record { assoc = λ x y z. Nf-path (suc i) _ _ (associative x y z); idl = λ x. Nf-path (suc i) _ _ (left x); idr = λ x. Nf-path (suc i) _ _ (right x) }
-      where
-        associative : (x y z : Nf C (suc i)) → mul P (suc i) (mul P (suc i) (x .0) (y .0)) (z .0) ≡ mul P (suc i) (x .0) (mul P (suc i) (y .0) (z .0))
-        associative x y z =
-            ap (λ t. mul P (suc i) t (z .0)) (sym (join-mul (split x) (split y))) ∙ sym (join-mul (mulE (split x) (split y)) (split z))
-            ∙ ap join (cyclic-assoc E (split x) (split y) (split z) (x .1 .0) (y .1 .0) (z .1 .0))
-            ∙ join-mul (split x) (mulE (split y) (split z)) ∙ ap (λ t. mul P (suc i) (x .0) t) (join-mul (split y) (split z))
-
-        left : (x : Nf C (suc i)) → mul P (suc i) (trivial (suc i)) (x .0) ≡ x .0
-        left x = sym (join-mul (0, level i .one) (split x)) ∙ ap join (cyclic-idl E (split x) (x .1 .0))
-
-        right : (x : Nf C (suc i)) → mul P (suc i) (x .0) (trivial (suc i)) ≡ x .0
-        right x = sym (join-mul (split x) (0, level i .one)) ∙ ap join (cyclic-idr E (split x) (x .1 .0))
+    laws-suc = record {
+      assoc = λ x y z. Nf-path (suc i) _ _ (
+          ap (λ t. mul P (suc i) t (z .0)) (sym (join-mul (split x) (split y))) ∙ sym (join-mul (mulE (split x) (split y)) (split z))
+          ∙ ap join (cyclic-assoc E (split x) (split y) (split z) (x .1 .0) (y .1 .0) (z .1 .0))
+          ∙ join-mul (split x) (mulE (split y) (split z)) ∙ ap (λ t. mul P (suc i) (x .0) t) (join-mul (split y) (split z)));
+      idl = λ x. Nf-path (suc i) _ _ (sym (join-mul (0, level i .one) (split x)) ∙ ap join (cyclic-idl E (split x) (x .1 .0)));
+      idr = λ x. Nf-path (suc i) _ _ (sym (join-mul (split x) (0, level i .one)) ∙ ap join (cyclic-idr E (split x) (x .1 .0)));
+    }

@@ -6,26 +6,20 @@
 --   inverse                          a power that is the inverse
 --   inverse-right, inverse-left      on both sides
 --   undo-left, cancel-left           a factor on the left is taken off
-use mathlib.Core.Path.{_≡_, refl, sym, _∙_, ap, subst}
+use mathlib.Core.Path.{_≡_, refl, sym, _∙_, ap}
+use mathlib.Core.Logic.{by-cases}
 use Prim.Native.Nat.{ℕ, zero, suc, _+_, _*_ as _·_, _-_, _≤_, _<_}
 use native.Mathlib.Nat.{mul-pos}
 use native.Mathlib.Omega.{arith}
 use native.Mathlib.Decide.{decLt}
 use Rattle.definitions.specs.Presentation.{trivial, order, power}
-use Rattle.definitions.specs.Consistency.{mulStep, mul, conj}
+use Rattle.definitions.specs.Consistency.{mul, conj}
 use Rattle.group.specs.Context.{Context, Nf}
 use Rattle.group.proofs.Values.{power-suc, power-mul, power-past, power-hom}
 use Rattle.group.proofs.Clauses.{mulStep-below, mulStep-over, mul-suc}
 use Rattle.group.proofs.Cyclic.{division-unique}
 use Rattle.group.proofs.Level.{Nf-path, level, low, low-hom}
 use Rattle.group.proofs.Group.{TestedContext, group}
-
-mulStep-top : {A : Type 0} (p : ℕ) (m : A → A → A) (f : A → A) (u : A) (x y : ℕ × A) → (k : ℕ) × ((mulStep p m f u x y) .0 + k · p ≡ x .0 + y .0)
-mulStep-top p m f u x y = go (decLt (x .0 + y .0) p)
-  where
-    go : Dec (x .0 + y .0 < p) → (k : ℕ) × ((mulStep p m f u x y) .0 + k · p ≡ x .0 + y .0)
-    go (yes l) = (0, omega (arith, ap (λ t. t .0) (mulStep-below p m f u x y l)))
-    go (no l) = (1, omega (arith, ap (λ t. t .0) (mulStep-over p m f u x y (omega arith))))
 
 module _ (C : Context) where
   open Context C using (P, two)
@@ -37,7 +31,9 @@ module _ (C : Context) where
 
   mul-top : (i : ℕ) (x y : Nf C (suc i)) → (k : ℕ) × (level C (suc i) .mul x y .0 .0 + k · P .p i ≡ x .0 .0 + y .0 .0)
   unfolding level
-  mul-top i x y = subst (λ t. (k : ℕ) × (t .0 + k · P .p i ≡ x .0 .0 + y .0 .0)) (sym (mul-suc P i (x .0) (y .0))) (mulStep-top (P .p i) (mul P i) (conj P i i) (P .u i) (x .0) (y .0))
+  mul-top i x y = by-cases (decLt (x .0 .0 + y .0 .0) (P .p i))
+      (λ l. (0, omega (arith, ap (λ t. t .0) (mul-suc P i (x .0) (y .0) ∙ mulStep-below (P .p i) (mul P i) (conj P i i) (P .u i) (x .0) (y .0) l))))
+      (λ l. (1, omega (arith, ap (λ t. t .0) (mul-suc P i (x .0) (y .0) ∙ mulStep-over (P .p i) (mul P i) (conj P i i) (P .u i) (x .0) (y .0) (omega arith)))))
 
   power-top : (i : ℕ) (x : Nf C (suc i)) (m : ℕ) → (k : ℕ) × (power (level C (suc i)) x m .0 .0 + k · P .p i ≡ m · x .0 .0)
   unfolding power level trivial

@@ -8,7 +8,7 @@ use mathlib.Core.Path.{_≡_, refl, sym, _∙_, ap}
 use mathlib.Core.Bool.{true, _&&_}
 use Prim.Native.Nat.{ℕ, suc, _<_}
 use Rattle.definitions.specs.Lists.{iter}
-use Rattle.definitions.specs.Presentation.{NF, power, value}
+use Rattle.definitions.specs.Presentation.{NF, value}
 use Rattle.definitions.specs.Consistency.{mul, conj, forms, generator, image, keepsPowers, keepsCommutators, fixesPower, powerIsInner, levelTest}
 use Rattle.numbers.proofs.Bools.{and-left, and-right, and-intro}
 use Rattle.numbers.proofs.Lists.{allBelow-elim, allBelow-intro, iter-map}
@@ -21,9 +21,6 @@ use Rattle.group.proofs.Group.{imageNf, Test, TestedContext}
 module _ (C : Context) (i : ℕ) where
   open Context C using (P)
 
-  power-raw : (x : Nf C i) (k : ℕ) → power (level C i) x k .0 ≡ power (forms P i) (x .0) k
-  power-raw x k = power-hom (forget C i) x k
-
   value-raw : (k : ℕ) (x : NF k) → value (level C i) (imageNf C i i) k x .0 ≡ value (forms P i) (image P i) k x
   unfolding conjNf genNf
   value-raw k x = value-hom (forget C i) (imageNf C i i) k x
@@ -32,48 +29,22 @@ module _ (C : Context) (i : ℕ) where
   unfolding conjNf
   iter-raw x k = iter-map (λ x. x .0) (conjNf C i i) (conj P i i) (λ x. refl) k x
 
-  -- the four tests as equations of normal forms
-  record Raw : Type 0 where
-    powers : (k : ℕ) → k < i → power (forms P i) (image P i k) (P .p k) ≡ value (forms P i) (image P i) k (P .u k)
-    commutators : (j : ℕ) → j < i → (k : ℕ) → k < j
-        → mul P i (image P i k) (image P i j) ≡ mul P i (image P i j) (mul P i (image P i k) (value (forms P i) (image P i) (suc k) (P .w k j)))
-    fixed : conj P i i (P .u i) ≡ P .u i
-    inner : (k : ℕ) → k < i → mul P i (P .u i) (iter (conj P i i) (P .p i) (generator i k)) ≡ mul P i (generator i k) (P .u i)
-
-  raw-of-test : levelTest P i ≡ true → Raw
-  unfolding levelTest keepsPowers keepsCommutators fixesPower powerIsInner
-  raw-of-test h =
+  pub test-holds : levelTest (C .P) i ≡ true → Test C i
+  unfolding level conjNf uNf genNf levelTest keepsPowers keepsCommutators fixesPower powerIsInner
+  test-holds h =
       let abc = and-left (keepsPowers P i && keepsCommutators P i && fixesPower P i) (powerIsInner P i) h in
       let ab = and-left (keepsPowers P i && keepsCommutators P i) (fixesPower P i) abc in
-      record {
-        powers = λ k l. sameForm-eq i _ _ (allBelow-elim i _ (and-left (keepsPowers P i) (keepsCommutators P i) ab) k l);
-        commutators = λ j b k a. sameForm-eq i _ _ (allBelow-elim j _ (allBelow-elim i _ (and-right (keepsPowers P i) (keepsCommutators P i) ab) j b) k a);
-        fixed = sameForm-eq i _ _ (and-right (keepsPowers P i && keepsCommutators P i) (fixesPower P i) abc);
-        inner = λ k l. sameForm-eq i _ _ (allBelow-elim i _ (and-right (keepsPowers P i && keepsCommutators P i && fixesPower P i) (powerIsInner P i) h) k l);
-      }
-
-  test-of-raw : Raw → levelTest P i ≡ true
-  unfolding levelTest keepsPowers keepsCommutators fixesPower powerIsInner
-  test-of-raw r =
-      and-intro (keepsPowers P i && keepsCommutators P i && fixesPower P i) (powerIsInner P i)
-      (and-intro (keepsPowers P i && keepsCommutators P i) (fixesPower P i)
-      (and-intro (keepsPowers P i) (keepsCommutators P i)
-      (allBelow-intro i _ (λ k l. eq-sameForm i _ _ (r .powers k l)))
-      (allBelow-intro i _ (λ j b. allBelow-intro j _ (λ k a. eq-sameForm i _ _ (r .commutators j b k a)))))
-      (eq-sameForm i _ _ (r .fixed)))
-      (allBelow-intro i _ (λ k l. eq-sameForm i _ _ (r .inner k l)))
-
-  pub test-holds : levelTest (C .P) i ≡ true → Test C i
-  unfolding level conjNf uNf genNf
-  test-holds h =
-      let r = raw-of-test h in
+      let powers = allBelow-elim i _ (and-left (keepsPowers P i) (keepsCommutators P i) ab) in
+      let commutators = allBelow-elim i _ (and-right (keepsPowers P i) (keepsCommutators P i) ab) in
+      let inners = allBelow-elim i _ (and-right (keepsPowers P i && keepsCommutators P i && fixesPower P i) (powerIsInner P i) h) in
       record {
         keeps = record {
-          powers = λ k l. Nf-path C i _ _ (power-raw _ _ ∙ r .powers k l ∙ sym (value-raw k _));
-          commutators = λ k j a b. Nf-path C i _ _ (r .commutators j b k a ∙ ap (λ t. mul P i (image P i j) (mul P i (image P i k) t)) (sym (value-raw (suc k) _)));
+          powers = λ k l. Nf-path C i _ _ (power-hom (forget C i) _ _ ∙ sameForm-eq i _ _ (powers k l) ∙ sym (value-raw k _));
+          commutators = λ k j a b. Nf-path C i _ _ (sameForm-eq i _ _ (allBelow-elim j _ (commutators j b) k a)
+              ∙ ap (λ t. mul P i (image P i j) (mul P i (image P i k) t)) (sym (value-raw (suc k) _)));
         };
-        fixes = Nf-path C i _ _ (r .fixed);
-        inner = λ k l. Nf-path C i _ _ (ap (mul P i (P .u i)) (iter-raw _ _) ∙ r .inner k l);
+        fixes = Nf-path C i _ _ (sameForm-eq i _ _ (and-right (keepsPowers P i && keepsCommutators P i) (fixesPower P i) abc));
+        inner = λ k l. Nf-path C i _ _ (ap (mul P i (P .u i)) (iter-raw _ _) ∙ sameForm-eq i _ _ (inners k l));
       }
 
   pub commutator-raw : (k j : ℕ)
@@ -88,13 +59,14 @@ module _ (C : Context) (i : ℕ) where
   inner-raw k q = ap (mul P i (P .u i)) (sym (iter-raw _ _)) ∙ ap (λ x. x .0) q
 
   pub holds-test : Test C i → levelTest (C .P) i ≡ true
-  unfolding level conjNf uNf genNf
-  holds-test t = test-of-raw (record {
-    powers = λ k l. sym (power-raw _ _) ∙ ap (λ x. x .0) (t .keeps .powers k l) ∙ value-raw k _;
-    commutators = λ j b k a. commutator-raw k j (t .keeps .commutators k j a b);
-    fixed = ap (λ x. x .0) (t .fixes);
-    inner = λ k l. inner-raw k (t .inner k l);
-  })
+  unfolding level conjNf uNf genNf levelTest keepsPowers keepsCommutators fixesPower powerIsInner
+  holds-test t = and-intro (keepsPowers P i && keepsCommutators P i && fixesPower P i) (powerIsInner P i)
+      (and-intro (keepsPowers P i && keepsCommutators P i) (fixesPower P i)
+      (and-intro (keepsPowers P i) (keepsCommutators P i)
+      (allBelow-intro i _ (λ k l. eq-sameForm i _ _ (sym (power-hom (forget C i) _ _) ∙ ap (λ x. x .0) (t .keeps .powers k l) ∙ value-raw k _)))
+      (allBelow-intro i _ (λ j b. allBelow-intro j _ (λ k a. eq-sameForm i _ _ (commutator-raw k j (t .keeps .commutators k j a b))))))
+      (eq-sameForm i _ _ (ap (λ x. x .0) (t .fixes))))
+      (allBelow-intro i _ (λ k l. eq-sameForm i _ _ (inner-raw k (t .inner k l))))
 
 -- the levels of a context in which the test passes below n
 unfoldable pub testedBelow : (C : Context) (n : ℕ) → ((i : ℕ) → i < n → levelTest (C .P) i ≡ true) → TestedContext

@@ -8,6 +8,7 @@
 --   conj-empty, conj-zero                  conjugation where the word on top is empty, or the exponent 0
 use mathlib.Core.Path.{_≡_, refl, sym, _∙_, ap, ap₂}
 use Prim.Native.Nat.{ℕ, zero, suc, _+_, _-_, _≤_, _<_}
+use native.Mathlib.Nat.{zero-add, add-zero}
 use native.Mathlib.Omega.{arith}
 use Rattle.definitions.specs.Presentation.{NF, trivial, Valid, power}
 use Rattle.definitions.specs.Consistency.{mul, conj, forms}
@@ -34,13 +35,12 @@ module _ (C : Context) where
   units-suc i U = record { left = l; right = r; conj-one = c }
     where
       l : (x : NF (suc i)) → Valid P (suc i) x → mul P (suc i) (trivial (suc i)) x ≡ x
-      l x v = let z : 0 + x .0 ≡ x .0 = omega arith in
-          ap (λ t. mul P (suc i) t x) (trivial-suc i) ∙ top-below i U 0 (x .0) (x .1) (v .1) (omega (arith, v .0)) ∙ ap (λ t. (t, x .1)) z
+      l x v = ap (λ t. mul P (suc i) t x) (trivial-suc i) ∙ top-below i U 0 (x .0) (x .1) (v .1) (omega (arith, v .0)) ∙ ap (λ t. (t, x .1)) (zero-add (x .0))
 
       r : (x : NF (suc i)) → Valid P (suc i) x → mul P (suc i) x (trivial (suc i)) ≡ x
-      r x v = let z : x .0 + 0 ≡ x .0 = omega arith in
-          ap (mul P (suc i) x) (trivial-suc i) ∙ mul-suc P i _ _ ∙ mulStep-below (P .p i) (mul P i) (conj P i i) (P .u i) x (0, trivial i) (omega (arith, v .0))
-          ∙ ap₂ (λ s t. (s, mul P i t (trivial i))) z (iter-zero (conj P i i) (x .1)) ∙ ap (λ t. (x .0, t)) (U .right (x .1) (v .1))
+      r x v = ap (mul P (suc i) x) (trivial-suc i) ∙ mul-suc P i _ _ ∙ mulStep-below (P .p i) (mul P i) (conj P i i) (P .u i) x (0, trivial i)
+          (omega (arith, v .0)) ∙ ap₂ (λ s t. (s, mul P i t (trivial i))) (add-zero (x .0)) (iter-zero (conj P i i) (x .1))
+          ∙ ap (λ t. (x .0, t)) (U .right (x .1) (v .1))
 
       c : (j : ℕ) → conj P (suc i) j (trivial (suc i)) ≡ trivial (suc i)
       c j = ap (conj P (suc i) j) (trivial-suc i) ∙ conj-suc P i j (0, trivial i) ∙ ap₂ (mul P (suc i)) (power-zero (forms P (suc i)) _) (ap (λ t. (0, t)) (U .conj-one j))
@@ -83,6 +83,5 @@ module _ (C : Context) where
       ∙ mul-top-below i (x .0) 0 (conj P i j (x .1)) (conj-valid C i j (x .1) (v .1)) (omega (arith, v .0)) ∙ ap (λ t. (t, conj P i j (x .1))) z
 
   pub conj-zero : (i j : ℕ) (x : NF i) → Valid (C .P) i x → conj (C .P) (suc i) j (0, x) ≡ (0, conj (C .P) i j x)
-  conj-zero i j x v =
-      conj-suc P i j (0, x) ∙ ap (λ t. mul P (suc i) t (0, conj P i j x)) (power-zero (forms P (suc i)) _)
+  conj-zero i j x v = conj-suc P i j (0, x) ∙ ap (λ t. mul P (suc i) t (0, conj P i j x)) (power-zero (forms P (suc i)) _)
       ∙ mul-trivial-left (suc i) (0, conj P i j x) (omega (arith, two i), conj-valid C i j x v)

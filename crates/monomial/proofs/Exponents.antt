@@ -1,12 +1,13 @@
 -- Laws of exponents and of their sums.
 --
 --   idr, lcomm, rcomm, negl, cancel, neg-of       what follows from the laws of an abelian group
---   exchange, regroup                      sums of four terms in other orders
+--   regroup                                a sum of four terms in another order
 --   total-zero, total-suc, total-ext, total-add, total-single, total-none      sums of many terms
 --   times-nil, times-one, times-add, times-mul, times-swap                     multiples
 use mathlib.Core.Path.{_≡_, refl, sym, _∙_, ap, ap₂}
+use mathlib.Core.Logic.{by-cases}
 use Prim.Native.Nat.{ℕ, zero, suc, _+_, _*_, _<_}
-use native.Mathlib.Nat.{zero-mul}
+use native.Mathlib.Nat.{zero-add, suc-add, zero-mul}
 use native.Mathlib.Omega.{arith}
 use native.Mathlib.Decide.{decLt}
 use Rattle.monomial.specs.Exponents.{Exponents, total, times}
@@ -35,9 +36,6 @@ module _ {E : Type 0} (𝓔 : Exponents E) where
   pub neg-of : (s x : E) → add s x ≡ nil → x ≡ neg s
   neg-of s x q = cancel s x (neg s) (q ∙ sym (𝓔 .negr s))
 
-  pub exchange : (x s y q : E) → add (add x s) (add y q) ≡ add (add x y) (add s q)
-  exchange x s y q = simp (𝓔 .assoc, 𝓔 .comm, lcomm)
-
   pub regroup : (x s y q : E) → add (add x s) (add y q) ≡ add (add s y) (add x q)
   regroup x s y q = simp (𝓔 .assoc, 𝓔 .comm, lcomm)
 
@@ -59,7 +57,7 @@ module _ {E : Type 0} (𝓔 : Exponents E) where
   pub total-add : (g h : ℕ → E) (n : ℕ) → total 𝓔 (λ k. add (g k) (h k)) n ≡ add (total 𝓔 g n) (total 𝓔 h n)
   unfolding total
   total-add g h zero = sym (𝓔 .idl _)
-  total-add g h (suc n) = ap (add (add (g n) (h n))) (total-add g h n) ∙ exchange (g n) (h n) (total 𝓔 g n) (total 𝓔 h n)
+  total-add g h (suc n) = ap (add (add (g n) (h n))) (total-add g h n) ∙ simp (𝓔 .assoc, 𝓔 .comm)
 
   pub total-none : (g : ℕ → E) (n : ℕ) → ((k : ℕ) → k < n → g k ≡ nil) → total 𝓔 g n ≡ nil
   total-none g zero h = total-zero g
@@ -67,11 +65,9 @@ module _ {E : Type 0} (𝓔 : Exponents E) where
 
   pub total-single : (g : ℕ → E) (n k : ℕ) (s : E) → k < n → g k ≡ s → ((j : ℕ) → j < n → ¬ (j ≡ k) → g j ≡ nil) → total 𝓔 g n ≡ s
   total-single g zero k s l q z = absurd (omega arith)
-  total-single g (suc n) k s l q z = total-suc g n ∙ go (λ h. total-single g n k s h q (λ j a b. z j (omega arith) b)) (decLt k n)
-    where
-      go : (k < n → total 𝓔 g n ≡ s) → Dec (k < n) → add (g n) (total 𝓔 g n) ≡ s
-      go r (yes h) = ap₂ add (z n (omega arith) (λ e. omega arith)) (r h) ∙ 𝓔 .idl s
-      go r (no h) = let e : k ≡ n = omega arith in ap₂ add (ap g (sym e) ∙ q) (total-none g n (λ j a. z j (omega arith) (λ b. omega arith))) ∙ idr s
+  total-single g (suc n) k s l q z = total-suc g n ∙ by-cases (decLt k n)
+      (λ h. ap₂ add (z n (omega arith) (λ e. omega arith)) (total-single g n k s h q (λ j a b. z j (omega arith) b)) ∙ 𝓔 .idl s)
+      (λ h. let e : n ≡ k = omega arith in ap₂ add (ap g e ∙ q) (total-none g n (λ j a. z j (omega arith) (λ b. omega arith))) ∙ idr s)
 
   -- ---- Multiples
 
@@ -82,19 +78,12 @@ module _ {E : Type 0} (𝓔 : Exponents E) where
   times-one x = total-suc (λ k. x) 0 ∙ ap (add x) (total-zero (λ k. x)) ∙ idr x
 
   pub times-add : (k l : ℕ) (x : E) → times 𝓔 (k + l) x ≡ add (times 𝓔 k x) (times 𝓔 l x)
-  times-add zero l x =
-      let q : 0 + l ≡ l = omega arith in
-      ap (λ k. times 𝓔 k x) q ∙ sym (ap (λ s. add s (times 𝓔 l x)) (total-zero (λ k. x)) ∙ 𝓔 .idl _)
-  times-add (suc k) l x =
-      let q : suc k + l ≡ suc (k + l) = omega arith in
-      ap (λ k. times 𝓔 k x) q ∙ total-suc (λ k. x) (k + l) ∙ ap (add x) (times-add k l x) ∙ sym (𝓔 .assoc _ _ _)
-      ∙ ap (λ s. add s (times 𝓔 l x)) (sym (total-suc (λ k. x) k))
+  times-add zero l x = simp (zero-add, total-zero, 𝓔 .idl)
+  times-add (suc k) l x = simp (suc-add, total-suc, times-add k l x, 𝓔 .assoc)
 
   pub times-mul : (k l : ℕ) (x : E) → times 𝓔 (k * l) x ≡ times 𝓔 k (times 𝓔 l x)
-  times-mul zero l x = ap (λ k. times 𝓔 k x) (zero-mul l) ∙ total-zero (λ k. x) ∙ sym (total-zero (λ k. times 𝓔 l x))
-  times-mul (suc k) l x =
-      let q : suc k * l ≡ l + k * l = omega arith in
-      ap (λ k. times 𝓔 k x) q ∙ times-add l (k * l) x ∙ ap (add (times 𝓔 l x)) (times-mul k l x) ∙ sym (total-suc (λ k. times 𝓔 l x) k)
+  times-mul zero l x = simp (zero-mul, total-zero)
+  times-mul (suc k) l x = let q : suc k * l ≡ l + k * l = omega arith in rw q (simp (times-add, times-mul k l x, total-suc))
 
   pub times-swap : (k l : ℕ) (x : E) → times 𝓔 k (times 𝓔 l x) ≡ times 𝓔 l (times 𝓔 k x)
   times-swap k l x = let q : k * l ≡ l * k = omega arith in sym (times-mul k l x) ∙ ap (λ s. times 𝓔 s x) q ∙ times-mul l k x

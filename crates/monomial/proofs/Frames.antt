@@ -133,20 +133,17 @@ module _ (m : ℕ) (pos : 0 < m) {Ω : Type 0} (Φ : Layout Ω) where
         let a : Ω = find r k h b in
         (a, find-rep r k h b, find-column r k h b, ap (col M) (sym (find-column r k h b)) ∙ p .shown a (find-rep r k h b))
 
-    pub same-shown : {r s s′ : ℕ} {M M′ : Matrix} {A : Map (residues m pos) Ω} → r < N → Shows m Φ r s M A → Shows m Φ r s′ M′ A → sameMatrix m M M′ ≡ true
-    unfolding sameMatrix sameEntry
-    same-shown {r} {s} {s′} {M} {M′} {A} h p q =
-        and-intro _ _ (eq-eqb _ _ (p .size ∙ sym (q .size))) (allBelow-intro (length M) _ (λ k l.
-        let (a, e, f, g) = shown-at h p k l in
-        let same : col M k ≡ col M′ k = g ∙ sym (ap (col M′) (sym f) ∙ q .shown a e) in
-        and-intro _ _ (eq-eqb _ _ (ap (λ (x : Entry). x .row) same)) (eq-eqb _ _ (ap (λ (x : Entry). x .exp % m) same))))
-
     -- a map on a representation is shown by one matrix
     pub shown-unique : {r s s′ : ℕ} {M M′ : Matrix} {A : Map (residues m pos) Ω} → r < N → Shows m Φ r s M A → Shows m Φ r s′ M′ A → M ≡ M′
     unfolding col
     shown-unique {r} {s} {s′} {M} {M′} {A} h p q = ext-getD (entry 0 0) M M′ (p .size ∙ sym (q .size)) (λ k l.
-        let (a, e, f, g) = shown-at h p k l in
-        g ∙ sym (ap (col M′) (sym f) ∙ q .shown a e))
+        let (a, e, f, g) = shown-at h p k l in g ∙ sym (ap (col M′) (sym f) ∙ q .shown a e))
+
+    pub same-shown : {r s s′ : ℕ} {M M′ : Matrix} {A : Map (residues m pos) Ω} → r < N → Shows m Φ r s M A → Shows m Φ r s′ M′ A → sameMatrix m M M′ ≡ true
+    unfolding sameMatrix sameEntry
+    same-shown {r} {s} {s′} {M} {M′} {A} h p q = subst (λ X. sameMatrix m M X ≡ true) (shown-unique h p q)
+        (and-intro _ _ (eq-eqb (length M) _ refl)
+        (allBelow-intro (length M) _ (λ k l. and-intro _ _ (eq-eqb (col M k .row) _ refl) (eq-eqb (col M k .exp % m) _ refl))))
 
     -- the matrices pass as equal: the maps agree on the representation
     pub shown-same : {r s : ℕ} {M M′ : Matrix} {A B : Map (residues m pos) Ω} → Shows m Φ r s M A → Shows m Φ r s M′ B → sameMatrix m M M′ ≡ true → (a : Ω) → Φ .rep a ≡ r → A a ≡ B a
@@ -172,8 +169,7 @@ module _ (m : ℕ) (pos : 0 < m) {Ω : Type 0} (Φ : Layout Ω) where
           (ap (λ z. z .0) line, ap (λ z. z .1) line)
 
       neg-of-zero : (x y : Residue m) → residues m pos .add x y ≡ residues m pos .nil → less m 0 (x .0) ≡ y .0
-      neg-of-zero x y q =
-          ap (λ z. less m z (x .0)) (sym (nil-value m pos)) ∙ less-value m pos (residues m pos .nil) x
+      neg-of-zero x y q = ap (λ z. less m z (x .0)) (sym (nil-value m pos)) ∙ less-value m pos (residues m pos .nil) x
           ∙ ap (λ z. z .0) (residues m pos .idl _ ∙ cancel (residues m pos) x _ y (residues m pos .negr x ∙ sym q))
 
       pub shows-inverse : Φ .degree s ≡ Φ .degree r → ((b : Ω) → Φ .rep b ≡ s → Φ .rep ((W .to b) .0) ≡ r) → Shows m Φ s r (inverse m M) (W .to)
@@ -184,21 +180,17 @@ module _ (m : ℕ) (pos : 0 < m) {Ω : Type 0} (Φ : Layout Ω) where
         shown = λ b q.
             let a : Ω = (W .to b) .0 in
             let l : at b < length M = below M b (p .size ∙ sym e) q in
-            let k : least (length M) (λ k. eqb (col M k .row) (at b)) ≡ at a = here b q in
+            let k : least (length M) (λ k. eqb (col M k .row) (at b)) ≡ at a
+            = least-is (length M) (λ k. eqb (col M k .row) (at b)) (at a) (below M a (p .size) (back b q))
+            (eq-eqb _ _ (ap (λ (x : Entry). x .row) (p .shown a (back b q)) ∙ ap at (there b .0)))
+            (λ k l x.
+            let (a′, e₁, e₂, e₃) = shown-at h p k l in
+            let same : (A a′) .0 ≡ b = known ((A a′) .0) b (p .maps-to a′ e₁ ∙ sym q) (ap (λ (x : Entry). x .row) (sym e₃) ∙ eqb-true _ _ x) in
+            sym e₂ ∙ ap at (inverse-injective (residues m pos) A W a′ a (same ∙ sym (there b .0)))) in
             col-table (λ (r : ℕ). let k = least (length M) (λ k. eqb (col M k .row) r) in entry k (less m 0 (col M k .exp))) (length M) (at b) l
             ∙ ap (λ k. entry k (less m 0 (col M k .exp))) k
             ∙ entry-path refl (ap (λ (x : Entry). less m 0 (x .exp)) (p .shown a (back b q)) ∙ neg-of-zero ((A a) .1) ((W .to b) .1) (there b .1));
       }
-        where
-          here : (b : Ω) → rep b ≡ s → least (length M) (λ k. eqb (col M k .row) (at b)) ≡ at ((W .to b) .0)
-          here b q =
-              let a : Ω = (W .to b) .0 in
-              least-is (length M) (λ k. eqb (col M k .row) (at b)) (at a) (below M a (p .size) (back b q))
-              (eq-eqb _ _ (ap (λ (x : Entry). x .row) (p .shown a (back b q)) ∙ ap at (there b .0)))
-              (λ k l x.
-              let (a′, e₁, e₂, e₃) = shown-at h p k l in
-              let same : (A a′) .0 ≡ b = known ((A a′) .0) b (p .maps-to a′ e₁ ∙ sym q) (ap (λ (x : Entry). x .row) (sym e₃) ∙ eqb-true _ _ x) in
-              sym e₂ ∙ ap at (inverse-injective (residues m pos) A W a′ a (same ∙ sym (there b .0))))
 
       pub shows-distinct : (k l : ℕ) → k < Φ .degree r → l < Φ .degree r → col M k .row ≡ col M l .row → k ≡ l
       shows-distinct k l b c e =
@@ -210,8 +202,7 @@ module _ (m : ℕ) (pos : 0 < m) {Ω : Type 0} (Φ : Layout Ω) where
 
       pub shows-valid : s < N → Φ .degree s ≡ Φ .degree r → ((b : Ω) → Φ .rep b ≡ s → Φ .rep ((W .to b) .0) ≡ r) → valid m (Φ .degree r) M ≡ true
       unfolding valid
-      shows-valid l e back =
-          and-intro _ _ (and-intro _ _ (eq-eqb _ _ (p .size))
+      shows-valid l e back = and-intro _ _ (and-intro _ _ (eq-eqb _ _ (p .size))
           (allBelow-intro (degree r) _ (λ k b.
           let (a, e₁, e₂, e₃) = shown-at h p k (subst (λ s. k < s) (sym (p .size)) b) in
           and-intro _ _

@@ -25,25 +25,15 @@ module _ {M : Type 0} {𝓜 : Mul M} (𝓛 : Laws 𝓜) where
 
   -- a root of what has an inverse has one
   pub inverse-root : (z : M) (N : ℕ) → 0 < N → Inverse 𝓜 (power 𝓜 z N) → Inverse 𝓜 z
-  inverse-root z N h S = record { to = w; right = after; left = ap (λ s. s * z) same ∙ before }
-    where
-      q : suc (N - 1) ≡ N
-      q = omega arith
-
-      w : M
-      w = power 𝓜 z (N - 1) * S .to
-
-      w′ : M
-      w′ = S .to * power 𝓜 z (N - 1)
-
-      after : z * w ≡ one
-      after = sym (assoc _ _ _) ∙ ap (λ s. s * S .to) (sym (power-suc 𝓜 z (N - 1)) ∙ ap (power 𝓜 z) q) ∙ S .right
-
-      before : w′ * z ≡ one
-      before = assoc _ _ _ ∙ ap (λ s. S .to * s) (sym (power-past 𝓛 z z z refl (N - 1)) ∙ sym (power-suc 𝓜 z (N - 1)) ∙ ap (power 𝓜 z) q) ∙ S .left
-
-      same : w ≡ w′
-      same = sym (idl _) ∙ ap (λ s. s * w) (sym before) ∙ assoc _ _ _ ∙ ap (λ s. w′ * s) after ∙ idrM _
+  inverse-root z N h S =
+      let q : suc (N - 1) ≡ N = omega arith in
+      let w : M = power 𝓜 z (N - 1) * S .to in
+      let w′ : M = S .to * power 𝓜 z (N - 1) in
+      let whole : z * power 𝓜 z (N - 1) ≡ power 𝓜 z N = sym (power-suc 𝓜 z (N - 1)) ∙ ap (power 𝓜 z) q in
+      let after : z * w ≡ one = sym (assoc _ _ _) ∙ ap (λ s. s * S .to) whole ∙ S .right in
+      let before : w′ * z ≡ one = assoc _ _ _ ∙ ap (λ s. S .to * s) (sym (power-past 𝓛 z z z refl (N - 1)) ∙ whole) ∙ S .left in
+      let same : w ≡ w′ = sym (idl _) ∙ ap (λ s. s * w) (sym before) ∙ assoc _ _ _ ∙ ap (λ s. w′ * s) after ∙ idrM _ in
+      record { to = w; right = after; left = ap (λ s. s * z) same ∙ before }
 
   pub inverse-mul : (z y : M) → Inverse 𝓜 z → Inverse 𝓜 y → Inverse 𝓜 (z * y)
   inverse-mul z y Z Y = record {
@@ -100,10 +90,9 @@ module _ {E : Type 0} (𝓔 : Exponents E) {Ω : Type 0} where
 
   -- what has an inverse takes different basis indices to different ones
   pub inverse-injective : (Z : Map 𝓔 Ω) → Inverse (maps 𝓔 Ω) Z → (a b : Ω) → (Z a) .0 ≡ (Z b) .0 → a ≡ b
-  inverse-injective Z W a b q = sym (back a) ∙ ap (λ z. (W .to z) .0) q ∙ back b
-    where
-      back : (a : Ω) → (W .to ((Z a) .0)) .0 ≡ a
-      back a = ap (λ z. z .0) (sym (at-mul (W .to) Z a) ∙ at-column (W .left) a ∙ at-one a)
+  inverse-injective Z W a b q =
+      let back : (a : Ω) → (W .to ((Z a) .0)) .0 ≡ a = λ a. ap (λ z. z .0) (sym (at-mul (W .to) Z a) ∙ at-column (W .left) a ∙ at-one a) in
+      sym (back a) ∙ ap (λ z. (W .to z) .0) q ∙ back b
 
   -- ---- Powers
 
@@ -118,8 +107,7 @@ module _ {E : Type 0} (𝓔 : Exponents E) {Ω : Type 0} where
       → power (maps 𝓔 Ω) (A * diagonal 𝓔 Ω s) k a
       ≡ ((power (maps 𝓔 Ω) A k a) .0, add (total 𝓔 (λ l. s ((power (maps 𝓔 Ω) A l a) .0)) k) ((power (maps 𝓔 Ω) A k a) .1))
   unfolding maps compose diagonal
-  power-diagonal A s zero a =
-      at-column (power-zero (maps 𝓔 Ω) _) a
+  power-diagonal A s zero a = at-column (power-zero (maps 𝓔 Ω) _) a
       ∙ sym (ap (λ f. ((f a) .0, add (total 𝓔 (λ l. s ((power (maps 𝓔 Ω) A l a) .0)) 0) ((f a) .1))) (power-zero (maps 𝓔 Ω) A)
       ∙ pair refl (ap (λ t. add t nil) (total-zero 𝓔 _) ∙ 𝓔 .idl _))
   power-diagonal A s (suc k) a =

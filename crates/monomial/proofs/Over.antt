@@ -1,14 +1,14 @@
 -- Maps above a numbered family: products, powers and values lie above those of the family.
 --
 --   over-one, over-mul, over-power, over-value      what is built from maps above lies above
---   at-same, over-same                              basis indices known by base and number: maps above one family are one
+--   over-same                                       basis indices known by base and number: maps above one family are one
 use mathlib.Core.Path.{_≡_, refl, sym, _∙_, ap, ap₂, fun-ext}
 use Prim.Native.Nat.{ℕ, zero, suc, _<_}
 use native.Mathlib.Omega.{arith}
 use Rattle.definitions.specs.Presentation.{NF, power, value}
 use Rattle.monomial.specs.Exponents.{Exponents}
 use Rattle.monomial.specs.Maps.{Map, compose, maps}
-use Rattle.monomial.specs.Over.{At, Over}
+use Rattle.monomial.specs.Over.{Over}
 
 module _ {E : Type 0} (𝓔 : Exponents E) {Ω Ω′ : Type 0} (base : Ω′ → Ω) (number : Ω′ → ℕ) where
   abbrev over : (ℕ → Map 𝓔 Ω) → Map 𝓔 Ω′ → Type 0
@@ -43,11 +43,8 @@ module _ {E : Type 0} (𝓔 : Exponents E) {Ω Ω′ : Type 0} (base : Ω′ →
       (over-power (λ κ. h κ i) (h′ i) (q i (omega arith)) (x .0)) (over-value h h′ i (λ k l. q k (omega arith)) (x .1))
 
   module _ (injective : (x y : Ω′) → base x ≡ base y → number x ≡ number y → x ≡ y) where
-    pub at-same : {z z′ : Ω′ × E} {b b′ : Ω} {κ κ′ : ℕ} {s s′ : E} → At 𝓔 base number z b κ s → At 𝓔 base number z′ b′ κ′ s′ → b ≡ b′ → κ ≡ κ′ → s ≡ s′ → z ≡ z′
-    at-same {z} {z′} p q eb ek es = λ j. (
-      injective (z .0) (z′ .0) (p .is-base ∙ eb ∙ sym (q .is-base)) (p .is-number ∙ ek ∙ sym (q .is-number)) j,
-      (p .is-exponent ∙ es ∙ sym (q .is-exponent)) j,
-    )
-
     pub over-same : (A B : ℕ → Map 𝓔 Ω) (A′ B′ : Map 𝓔 Ω′) → over A A′ → over B B′ → ((κ : ℕ) → A κ ≡ B κ) → A′ ≡ B′
-    over-same A B A′ B′ p q e = fun-ext (λ x. at-same (p x) (q x) (ap (λ f. (f (base x)) .0) (e (number x))) refl (ap (λ f. (f (base x)) .1) (e (number x))))
+    over-same A B A′ B′ p q e = fun-ext (λ x. let same = ap (λ f. f (base x)) (e (number x)) in λ j. (
+      injective ((A′ x) .0) ((B′ x) .0) (p x .is-base ∙ ap (λ z. z .0) same ∙ sym (q x .is-base)) (p x .is-number ∙ sym (q x .is-number)) j,
+      (p x .is-exponent ∙ ap (λ z. z .1) same ∙ sym (q x .is-exponent)) j,
+    ))

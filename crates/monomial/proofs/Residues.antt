@@ -79,18 +79,12 @@ module _ (m : ℕ) (pos : 0 < m) where
     -- c + x = p z and N x = 0, where N divides the share: then p divides c
     pub root-divides : (N spare : ℕ) → 0 < N → share ≡ N * spare → (c x z : Residue m) → residues .add c x ≡ times residues p z → times residues N x ≡ residues .nil → p ∣ c .0
     unfolding residues
-    root-divides N spare hN e c x z q₁ q₂ = dvd-add-iff-left p px .1 ps
-      where
-        nx : m ∣ N * x .0
-        nx = dvd-of-mod-eq-zero m (sym (times-value N x) ∙ ap (λ s. s .0) q₂)
-
-        px : p ∣ x .0
-        px = dvd-trans p (dvd-mul-right p spare) (dvd-of-mul-dvd-mul-left (p * spare) hN (subst (λ s. s ∣ N * x .0) (split ∙ ap (λ s. p * s) e ∙ omega arith) nx))
-
-        ps : p ∣ c .0 + x .0
-        ps =
-            let killed = ap (λ s. s % p) (times-value p z) ∙ mod-mod-of-dvd p (p * z .0) p∣m ∙ mod-eq-zero-of-dvd p (dvd-mul-right p (z .0)) in
-            dvd-of-mod-eq-zero p (sym (mod-mod-of-dvd p (c .0 + x .0) p∣m) ∙ ap (λ s. s .0 % p) q₁ ∙ killed)
+    root-divides N spare hN e c x z q₁ q₂ =
+        let nx : m ∣ N * x .0 = dvd-of-mod-eq-zero m (sym (times-value N x) ∙ ap (λ s. s .0) q₂) in
+        let w : m ≡ N * (p * spare) = split ∙ ap (λ s. p * s) e ∙ omega arith in
+        let px : p ∣ x .0 = dvd-trans p (dvd-mul-right p spare) (dvd-of-mul-dvd-mul-left (p * spare) hN (subst (λ s. s ∣ N * x .0) w nx)) in
+        let killed = ap (λ s. s % p) (times-value p z) ∙ mod-mod-of-dvd p (p * z .0) p∣m ∙ mod-eq-zero-of-dvd p (dvd-mul-right p (z .0)) in
+        dvd-add-iff-left p px .1 (dvd-of-mod-eq-zero p (sym (mod-mod-of-dvd p (c .0 + x .0) p∣m) ∙ ap (λ s. s .0 % p) q₁ ∙ killed))
 
     unfoldable pub part : Residue m → Residue m
     part s = (s .0 / p, omega (arith, div-le-self (s .0) p, s .1))
@@ -108,11 +102,7 @@ module _ (m : ℕ) (pos : 0 < m) where
     neg-divides c h = (dvd-mod-iff p p∣m) .1 (dvd-sub p p∣m h)
 
     pub share-pos : 0 < Q .share
-    share-pos = go share split
-      where
-        go : (k : ℕ) → m ≡ p * k → 0 < k
-        go zero q = omega (arith, pos)
-        go (suc k) q = omega arith
+    share-pos = let some : ¬ (share ≡ 0) = λ e. omega (arith, pos, split ∙ ap (λ k. p * k) e) in omega arith
 
     -- ---- The multiples of m / p
 
@@ -136,10 +126,9 @@ module _ (m : ℕ) (pos : 0 < m) where
 
     pub unit-mod : (k : ℕ) → times residues (k % p) unit ≡ times residues k unit
     unfolding unit
-    unit-mod k = Residue-path m _ _ (times-value (k % p) unit ∙ sym (add-mul-mod-self-right (k % p * share) (k / p) m) ∙ ap (λ s. s % m) w ∙ sym (times-value k unit))
-      where
-        w : k % p * share + k / p * m ≡ k * share
-        w = ap (λ s. k % p * share + k / p * s) split ∙ omega (arith, ap (λ s. s * share) (mod-add-div' k p))
+    unit-mod k =
+        let w : k % p * share + k / p * m ≡ k * share = omega (arith, ap (λ s. k / p * s) split, ap (λ s. s * share) (mod-add-div' k p)) in
+        Residue-path m _ _ (times-value (k % p) unit ∙ sym (add-mul-mod-self-right (k % p * share) (k / p) m) ∙ ap (λ s. s % m) w ∙ sym (times-value k unit))
 
     unfoldable pub log : Residue m → ℕ
     log q = q .0 / share
@@ -154,7 +143,7 @@ module _ (m : ℕ) (pos : 0 < m) where
 
     pub log-times : (q : Residue m) → times residues p q ≡ residues .nil → times residues (log q) unit ≡ q
     unfolding log unit residues
-    log-times q h = Residue-path m _ _ (times-value (q .0 / share) unit ∙ ap (λ k. k % m) (div-mul-cancel share d) ∙ mod-eq-of-lt (q .1))
-      where
-        d : share ∣ q .0
-        d = dvd-of-mul-dvd-mul-left share (omega (arith, two)) (subst (λ s. s ∣ p * q .0) split (dvd-of-mod-eq-zero m (sym (times-value p q) ∙ ap (λ s. s .0) h)))
+    log-times q h =
+        let whole = subst (λ s. s ∣ p * q .0) split (dvd-of-mod-eq-zero m (sym (times-value p q) ∙ ap (λ s. s .0) h)) in
+        let d : share ∣ q .0 = dvd-of-mul-dvd-mul-left share (omega (arith, two)) whole in
+        Residue-path m _ _ (times-value (q .0 / share) unit ∙ ap (λ k. k % m) (div-mul-cancel share d) ∙ mod-eq-of-lt (q .1))

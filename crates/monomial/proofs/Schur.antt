@@ -7,6 +7,7 @@
 --   rep-power, power-commutes              how powers of a map move the representations; they move past the family as the map does
 --   scalar-commutes                        a scalar on each representation commutes with the family
 use mathlib.Core.Path.{_≡_, refl, sym, _∙_, ap, subst, fun-ext}
+use mathlib.Core.Logic.{by-cases}
 use Prim.Native.Nat.{ℕ, zero, suc, _<_}
 use Rattle.definitions.specs.Lists.{iter}
 use Rattle.definitions.specs.Presentation.{Mul, power}
@@ -16,15 +17,15 @@ use Rattle.numbers.proofs.Lists.{iter-zero}
 use Rattle.numbers.proofs.Iterates.{iter-out}
 use Rattle.monomial.specs.Exponents.{Exponents}
 use Rattle.monomial.specs.Maps.{Map, compose, maps, diagonal, Inverse}
-use Rattle.monomial.specs.Families.{Separated, Family, Alike}
+use Rattle.monomial.specs.Families.{Family, Alike}
 use Rattle.monomial.proofs.Exponents.{cancel}
 use Rattle.monomial.proofs.Maps.{pair, at-column, at-mul, at-one, maps-laws, inverse-diagonal, inverse-root}
 
 module _ {G : Type 0} {𝓖 : Mul G} {conj : ℕ → G → G} {i n : ℕ} {E : Type 0} {𝓔 : Exponents E} {Ω : Type 0} (F : Family 𝓔 Ω 𝓖 conj i n) where
   infixl 70 _*_
-  open Mul (maps 𝓔 Ω) using (mul as _*_, one)
+  open Mul (maps 𝓔 Ω) using (mul as _*_)
   open Laws (maps-laws 𝓔 {Ω = Ω}) using (assoc, idl, idr)
-  open Exponents 𝓔 using (add, nil)
+  open Exponents 𝓔 using (add)
   open Family F using (d, rep)
 
   -- ---- What commutes with the family
@@ -34,28 +35,20 @@ module _ {G : Type 0} {𝓖 : Mul G} {conj : ℕ → G → G} {i n : ℕ} {E : T
     line x a = sym (at-mul 𝓔 Z (d x) a) ∙ at-column 𝓔 (c x) a ∙ at-mul 𝓔 (d x) Z a
 
     pub commuting-fixes : (a : Ω) → (Z a) .0 ≡ a
-    commuting-fixes a = go (F .decide a ((Z a) .0))
-      where
-        together : Separated 𝓔 Ω d a ((Z a) .0) → ⊥
-        together q = q .differ (cancel 𝓔 ((Z a) .1) _ _
-            (ap (λ s. s .1) (sym (ap (λ s. ((Z (s .0)) .0, add ((Z (s .0)) .1) (s .1))) (q .fixes)) ∙ line (q .by) a
-            ∙ ap (λ s. (s .0, add (s .1) ((Z a) .1))) (q .fixes′)) ∙ 𝓔 .comm _ _))
-
-        go : Dec (a ≡ (Z a) .0) → (Z a) .0 ≡ a
-        go (yes h) = sym h
-        go (no h) = absurd (together (F .separated a _ h))
+    commuting-fixes a = by-cases (F .decide a ((Z a) .0)) sym (λ h.
+        let q = F .separated a _ h in
+        absurd (q .differ (cancel 𝓔 ((Z a) .1) _ _
+        (ap (λ s. s .1) (sym (ap (λ s. ((Z (s .0)) .0, add ((Z (s .0)) .1) (s .1))) (q .fixes)) ∙ line (q .by) a
+        ∙ ap (λ s. (s .0, add (s .1) ((Z a) .1))) (q .fixes′)) ∙ 𝓔 .comm _ _))))
 
     pub commuting-scalar : (a b : Ω) → rep a ≡ rep b → (Z a) .1 ≡ (Z b) .1
     commuting-scalar a b q =
         let (w, h) = F .reached a b q in
         sym (cancel 𝓔 ((d w a) .1) _ _ (𝓔 .comm _ _ ∙ ap (λ s. add ((Z s) .1) ((d w a) .1)) (sym h) ∙ ap (λ s. s .1) (line w a) ∙ ap (λ s. add ((d w s) .1) ((Z a) .1)) (commuting-fixes a)))
 
-    commuting-diagonal : Z ≡ diagonal 𝓔 Ω (λ a. (Z a) .1)
-    unfolding diagonal
-    commuting-diagonal = fun-ext (λ a. pair 𝓔 (commuting-fixes a) refl)
-
     pub commuting-inverse : Inverse (maps 𝓔 Ω) Z
-    commuting-inverse = subst (Inverse (maps 𝓔 Ω)) (sym commuting-diagonal) (inverse-diagonal 𝓔 _)
+    unfolding diagonal
+    commuting-inverse = subst (Inverse (maps 𝓔 Ω)) (fun-ext (λ a. pair 𝓔 (sym (commuting-fixes a)) refl)) (inverse-diagonal 𝓔 (λ a. (Z a) .1))
 
   -- ---- Intertwiners
 
@@ -86,8 +79,7 @@ module _ {G : Type 0} {𝓖 : Mul G} {conj : ℕ → G → G} {i n : ℕ} {E : T
 
     pub ratio-eq : (a : Ω) → Z a ≡ ((Y a) .0, add (ratio a) ((Y a) .1))
     unfolding quotient ratio
-    ratio-eq a =
-        at-column 𝓔 (sym (assoc Z (A .inverse .to) Y ∙ ap (λ s. Z * s) (A .inverse .left) ∙ idr Z)) a
+    ratio-eq a = at-column 𝓔 (sym (assoc Z (A .inverse .to) Y ∙ ap (λ s. Z * s) (A .inverse .left) ∙ idr Z)) a
         ∙ at-mul 𝓔 quotient Y a ∙ pair 𝓔 (commuting-fixes quotient quotient-commutes ((Y a) .0)) refl
 
     pub ratio-const : (a b : Ω) → rep ((Y a) .0) ≡ rep ((Y b) .0) → ratio a ≡ ratio b

@@ -8,8 +8,10 @@
 --   blocks-none, blocks-single   at most one stretch holds something
 --   length-even, getD-even       the same where all stretches have one length
 use mathlib.Core.Path.{_≡_, refl, sym, _∙_, ap, ap₂, subst}
+use mathlib.Core.Logic.{by-cases}
 use mathlib.Core.List.{List, [], _∷_, _++_, map, append-nil, append-assoc}
 use Prim.Native.Nat.{ℕ, zero, suc, _+_, _*_, _<_}
+use native.Mathlib.Nat.{add-zero, add-suc}
 use native.Mathlib.Omega.{arith}
 use native.Mathlib.Decide.{decLt}
 use lib.ListN.{length, getD, length-map, List·getD-append}
@@ -26,14 +28,10 @@ getD-map f (x ∷ xs) (suc k) d e l = getD-map f xs k d e (omega arith)
 pub getD-upto : (n k : ℕ) → k < n → getD (upto n) k 0 ≡ k
 unfolding upto
 getD-upto zero k l = absurd (omega arith)
-getD-upto (suc n) k l = go (decLt k n) (λ h. getD-upto n k h)
-  where
-    go : Dec (k < n) → (k < n → getD (upto n) k 0 ≡ k) → getD (upto n ++ (n ∷ [])) k 0 ≡ k
-    go (yes h) r = List·getD-append (upto n) (n ∷ []) 0 k (subst (λ s. k < s) (sym (length-upto n)) h) ∙ r h
-    go (no h) r =
-        let e : k ≡ length (upto n) + 0 = omega (arith, length-upto n) in
-        let q : n ≡ k = omega arith in
-        ap (λ s. getD (upto n ++ (n ∷ [])) s 0) e ∙ getD-append-add (upto n) (n ∷ []) 0 0 ∙ q
+getD-upto (suc n) k l = by-cases (decLt k n)
+    (λ h. List·getD-append (upto n) (n ∷ []) 0 k (omega (arith, length-upto n)) ∙ getD-upto n k h)
+    (λ h. let e : k ≡ length (upto n) + 0 = omega (arith, length-upto n) in
+    ap (λ s. getD (upto n ++ (n ∷ [])) s 0) e ∙ getD-append-add (upto n) (n ∷ []) 0 0 ∙ omega arith)
 
 pub getD-table : {B : Type 0} (f : ℕ → B) (n k : ℕ) (e : B) → k < n → getD (map f (upto n)) k e ≡ f k
 getD-table f n k e l = getD-map f (upto n) k 0 e (subst (λ s. k < s) (sym (length-upto n)) l) ∙ ap f (getD-upto n k l)
@@ -44,16 +42,13 @@ length-table f n = length-map (upto n) f ∙ length-upto n
 pub getD-blocks : {A : Type 0} (d : A) (N : ℕ) (f : ℕ → List A) (s κ : ℕ) → s < N → κ < length (f s) → getD (blocks N f) (sum s (λ k. length (f k)) + κ) d ≡ getD (f s) κ d
 unfolding blocks
 getD-blocks d zero f s κ a b = absurd (omega arith)
-getD-blocks {A} d (suc N) f s κ a b = go (λ h. getD-blocks d N f s κ h b) (decLt s N)
-  where
-    w : ℕ → ℕ
-    w k = length (f k)
-
-    go : (s < N → getD (blocks N f) (sum s w + κ) d ≡ getD (f s) κ d) → Dec (s < N) → getD (blocks N f ++ f N) (sum s w + κ) d ≡ getD (f s) κ d
-    go r (yes h) = List·getD-append (blocks N f) (f N) d (sum s w + κ) (subst (λ z. sum s w + κ < z) (sym (length-blocks N f)) (stretch-below w s κ N b h)) ∙ r h
-    go r (no h) =
-        let e : s ≡ N = omega arith in
-        ap (λ z. getD (blocks N f ++ f N) (z + κ) d) (ap (λ s. sum s w) e ∙ sym (length-blocks N f)) ∙ getD-append-add (blocks N f) (f N) κ d ∙ ap (λ z. getD (f z) κ d) (sym e)
+getD-blocks d (suc N) f s κ a b =
+    let w : ℕ → ℕ = λ k. length (f k) in
+    by-cases (decLt s N)
+    (λ h. List·getD-append (blocks N f) (f N) d (sum s w + κ) (omega (arith, length-blocks N f, stretch-below w s κ N b h)) ∙ getD-blocks d N f s κ h b)
+    (λ h. let e : s ≡ N = omega arith in
+    ap (λ z. getD (blocks N f ++ f N) (z + κ) d) (ap (λ s. sum s w) e ∙ sym (length-blocks N f))
+    ∙ getD-append-add (blocks N f) (f N) κ d ∙ ap (λ z. getD (f z) κ d) (sym e))
 
 pub blocks-suc : {A : Type 0} (n : ℕ) (f : ℕ → List A) → blocks (suc n) f ≡ blocks n f ++ f n
 unfolding blocks
@@ -69,11 +64,9 @@ unfolding blocks
 blocks-zero f = refl
 
 pub blocks-split : {A : Type 0} (a b : ℕ) (f : ℕ → List A) → blocks (a + b) f ≡ blocks a f ++ blocks b (λ k. f (a + k))
-blocks-split a zero f = let q : a + 0 ≡ a = omega arith in ap (λ n. blocks n f) q ∙ sym (ap (λ s. blocks a f ++ s) (blocks-zero _) ∙ append-nil (blocks a f))
-blocks-split a (suc b) f =
-    let q : a + suc b ≡ suc (a + b) = omega arith in
-    ap (λ n. blocks n f) q ∙ blocks-suc (a + b) f ∙ ap (λ s. s ++ f (a + b)) (blocks-split a b f) ∙ append-assoc (blocks a f) (blocks b (λ k. f (a + k))) (f (a + b))
-    ∙ ap (λ s. blocks a f ++ s) (sym (blocks-suc b (λ k. f (a + k))))
+blocks-split a zero f = ap (λ n. blocks n f) (add-zero a) ∙ sym (ap (λ s. blocks a f ++ s) (blocks-zero _) ∙ append-nil (blocks a f))
+blocks-split a (suc b) f = ap (λ n. blocks n f) (add-suc a b) ∙ blocks-suc (a + b) f ∙ ap (λ s. s ++ f (a + b)) (blocks-split a b f)
+    ∙ append-assoc (blocks a f) (blocks b (λ k. f (a + k))) (f (a + b)) ∙ ap (λ s. blocks a f ++ s) (sym (blocks-suc b (λ k. f (a + k))))
 
 -- a list made in stretches
 pub blocks-stretches : {A : Type 0} (w : ℕ → ℕ) (N : ℕ) (f : ℕ → List A) → blocks (sum N w) f ≡ blocks N (λ s. blocks (w s) (λ κ. f (sum s w + κ)))
@@ -88,11 +81,9 @@ blocks-none (suc n) f h = blocks-suc n f ∙ ap₂ (_++_) (blocks-none n f (λ k
 
 pub blocks-single : {A : Type 0} (n : ℕ) (f : ℕ → List A) (k : ℕ) → k < n → ((j : ℕ) → j < n → ¬ (j ≡ k) → f j ≡ []) → blocks n f ≡ f k
 blocks-single zero f k l h = absurd (omega arith)
-blocks-single {A} (suc n) f k l h = blocks-suc n f ∙ go (λ a. blocks-single n f k a (λ j b c. h j (omega arith) c)) (decLt k n)
-  where
-    go : (k < n → blocks n f ≡ f k) → Dec (k < n) → blocks n f ++ f n ≡ f k
-    go r (yes a) = ap₂ (_++_) (r a) (h n (omega arith) (λ e. omega arith)) ∙ append-nil (f k)
-    go r (no a) = let e : n ≡ k = omega arith in ap (λ s. s ++ f n) (blocks-none n f (λ j b. h j (omega arith) (λ c. omega arith))) ∙ ap f e
+blocks-single (suc n) f k l h = blocks-suc n f ∙ by-cases (decLt k n)
+    (λ a. ap₂ (_++_) (blocks-single n f k a (λ j b c. h j (omega arith) c)) (h n (omega arith) (λ e. omega arith)) ∙ append-nil (f k))
+    (λ a. let e : n ≡ k = omega arith in ap (λ s. s ++ f n) (blocks-none n f (λ j b. h j (omega arith) (λ c. omega arith))) ∙ ap f e)
 
 -- ---- Stretches of one length
 

@@ -7,30 +7,29 @@
 --   or-false-left, or-false-right       a || b is false: both are
 --   same-test                           two tests that pass together are one
 --   refuted                             a test that cannot pass
+--   compared                            what follows from an order of two numbers each way
 --   cond-true, cond-false               a choice by a test that is known
 --   cond-lt, cond-ge, cond-eq, cond-ne  a choice by a comparison of numbers
-use mathlib.Core.Path.{_≡_, refl, sym, ap}
-use mathlib.Core.Bool.{Bool, true, false, _&&_, _||_, cond, true≢false, false≢true}
-use mathlib.Core.Logic.{_≢_}
+use mathlib.Core.Path.{_≡_, refl, sym, _∙_, ap}
+use mathlib.Core.Bool.{Bool, true, false, _&&_, _||_, cond, true≢false, false≢true, and-eq-true-iff, and-false, or-true}
+use mathlib.Core.Logic.{_≢_, by-cases}
 use Prim.Native.Nat.{ℕ, _≤_, _<_}
+use native.Mathlib.Omega.{arith}
+use native.Mathlib.Decide.{decLt}
 use lib.Dec.{ltb, eqb}
 use borrow.Author.Tests.{lt-ltb, le-ltb, eq-eqb, ne-eqb}
 
 pub and-left : (a b : Bool) → a && b ≡ true → a ≡ true
-and-left true b h = refl
-and-left false b h = h
+and-left a b h = and-eq-true-iff a b .0 h .0
 
 pub and-right : (a b : Bool) → a && b ≡ true → b ≡ true
-and-right true b h = h
-and-right false b h = absurd (false≢true h)
+and-right a b h = and-eq-true-iff a b .0 h .1
 
 pub and-intro : (a b : Bool) → a ≡ true → b ≡ true → a && b ≡ true
-and-intro true b h k = k
-and-intro false b h k = h
+and-intro a b h k = and-eq-true-iff a b .1 (h, k)
 
 pub and-last : (a b : Bool) → b ≡ false → a && b ≡ false
-and-last true b h = h
-and-last false b h = refl
+and-last a b h = ap (λ t. a && t) h ∙ and-false a
 
 pub data OneOf (a b : Bool) : Type 0 where
   first : a ≡ true → OneOf a b
@@ -41,12 +40,10 @@ or-cases true b h = first refl
 or-cases false b h = second h
 
 pub or-left : (a b : Bool) → a ≡ true → a || b ≡ true
-or-left true b h = refl
-or-left false b h = absurd (false≢true h)
+or-left a b h = ap (λ t. t || b) h
 
 pub or-right : (a b : Bool) → b ≡ true → a || b ≡ true
-or-right true b h = refl
-or-right false b h = h
+or-right a b h = ap (λ t. a || t) h ∙ or-true a
 
 pub or-false-left : (a b : Bool) → a || b ≡ false → a ≡ false
 or-false-left true b h = h
@@ -64,6 +61,9 @@ same-test false false f g = refl
 pub refuted : (b : Bool) → ¬ (b ≡ true) → false ≡ b
 refuted true f = absurd (f refl)
 refuted false f = refl
+
+pub compared : {A : Type 0} (m n : ℕ) → (m < n → A) → (m ≡ n → A) → (n < m → A) → A
+compared m n below same above = by-cases (decLt m n) below (λ a. by-cases (decLt n m) above (λ b. same (omega arith)))
 
 pub cond-true : {A : Type 0} (b : Bool) (x y : A) → b ≡ true → cond b x y ≡ x
 cond-true b x y h = ap (λ t. cond t x y) h

@@ -8,15 +8,16 @@
 --   blank                             an entry of a list of zeros
 --   iter-zero, iter-suc, iter-add     iterates, their clauses and their sum
 --   iter-map, iter-op, iter-fix       iterates under a map, of a product, at a fixed point
---   iter-period                       iterates of a point that comes back
+--   iter-round, iter-period           iterates of a point that comes back
 --   length-upto, length-blocks        lengths
 --   sum-ext, sum-mono                 equal terms; a longer sum is at least as large
 --   triangle                          1 + 2 + .. + n
-use mathlib.Core.Path.{_≡_, refl, sym, _∙_, ap, ap₂, subst}
+use mathlib.Core.Path.{_≡_, refl, sym, _∙_, ap, ap₂, subst, fun-ext}
+use mathlib.Core.Logic.{by-cases}
 use mathlib.Core.Bool.{Bool, true, false, _&&_, and-false}
 use mathlib.Core.List.{List, [], _∷_}
 use Prim.Native.Nat.{ℕ, zero, suc, _+_, _*_, _/_, _%_, _≤_, _<_}
-use native.Mathlib.Nat.{zero-add, suc-add, zero-mul, div-add-mod', div-eq-of-eq-mul-left}
+use native.Mathlib.Nat.{zero-add, suc-add, zero-mul, suc-mul, div-add-mod'}
 use native.Mathlib.Omega.{arith}
 use native.Mathlib.Decide.{decLt}
 use lib.ListN.{length, getD, replicate, length-append}
@@ -24,11 +25,7 @@ use Rattle.definitions.specs.Lists.{upto, blocks, sum, allBelow, all, iter}
 use Rattle.numbers.proofs.Bools.{and-left, and-right, and-intro}
 
 pub below-suc : (i : ℕ) (Q : ℕ → Type 0) → ((k : ℕ) → k < i → Q k) → Q i → (k : ℕ) → k < suc i → Q k
-below-suc i Q below top k l = go (decLt k i)
-  where
-    go : Dec (k < i) → Q k
-    go (yes h) = below k h
-    go (no h) = let q : i ≡ k = omega arith in subst Q q top
+below-suc i Q below top k l = by-cases (decLt k i) (below k) (λ h. let q : i ≡ k = omega arith in subst Q q top)
 
 -- ---- Lists
 
@@ -97,15 +94,13 @@ pub iter-fix : {A : Type 0} (f : A → A) (x : A) → f x ≡ x → (k : ℕ) �
 iter-fix f x h zero = simp iter-zero
 iter-fix f x h (suc k) = simp (iter-suc, h, iter-fix f x h k)
 
-iter-times : {A : Type 0} (f : A → A) (k : ℕ) (x : A) → iter f k x ≡ x → (q : ℕ) → iter f (q * k) x ≡ x
-iter-times f k x h zero = simp (zero-mul, iter-zero)
-iter-times f k x h (suc q) =
-    let e : suc q * k ≡ k + q * k = omega arith in
-    ap (λ m. iter f m x) e ∙ sym (iter-add f k (q * k) x) ∙ ap (iter f (q * k)) h ∙ iter-times f k x h q
-
 -- whole periods lead nowhere
+pub iter-round : {A : Type 0} (f : A → A) (k : ℕ) (x : A) → iter f k x ≡ x → (q : ℕ) → iter f (q * k) x ≡ x
+iter-round f k x h zero = simp (zero-mul, iter-zero)
+iter-round f k x h (suc q) = ap (λ m. iter f m x) (suc-mul q k) ∙ sym (iter-add f (q * k) k x) ∙ ap (iter f k) (iter-round f k x h q) ∙ h
+
 pub iter-period : {A : Type 0} (f : A → A) (k : ℕ) (x : A) → iter f k x ≡ x → (m : ℕ) → iter f (m % k) x ≡ iter f m x
-iter-period f k x h m = ap (iter f (m % k)) (sym (iter-times f k x h (m / k))) ∙ iter-add f (m / k * k) (m % k) x ∙ ap (λ t. iter f t x) (div-add-mod' m k)
+iter-period f k x h m = ap (iter f (m % k)) (sym (iter-round f k x h (m / k))) ∙ iter-add f (m / k * k) (m % k) x ∙ ap (λ t. iter f t x) (div-add-mod' m k)
 
 -- ---- Lengths and sums
 
@@ -120,24 +115,16 @@ length-blocks zero f = refl
 length-blocks (suc n) f = length-append (blocks n f) (f n) ∙ ap (λ t. t + length (f n)) (length-blocks n f)
 
 pub sum-ext : (n : ℕ) (f g : ℕ → ℕ) → ((k : ℕ) → f k ≡ g k) → sum n f ≡ sum n g
-unfolding sum
-sum-ext zero f g h = refl
-sum-ext (suc n) f g h = ap₂ (λ s t. s + t) (sum-ext n f g h) (h n)
+sum-ext n f g h = ap (λ t. sum n t) (fun-ext h)
 
 pub sum-mono : (n m : ℕ) (f : ℕ → ℕ) → n ≤ m → sum n f ≤ sum m f
 unfolding sum
 sum-mono n zero f l = let q : n ≡ 0 = omega arith in subst (λ k. sum k f ≤ sum 0 f) (sym q) (omega arith)
-sum-mono n (suc m) f l = go (λ h. sum-mono n m f h) (decLt n (suc m))
-  where
-    go : (n ≤ m → sum n f ≤ sum m f) → Dec (n < suc m) → sum n f ≤ sum (suc m) f
-    go r (yes h) = omega (arith, r (omega arith))
-    go r (no h) = let q : suc m ≡ n = omega arith in subst (λ k. sum k f ≤ sum (suc m) f) q (omega arith)
-
-double-triangle : (n : ℕ) → n * (n + 1) ≡ sum n suc * 2
-unfolding sum
-double-triangle zero = refl
-double-triangle (suc n) = omega (arith, double-triangle n)
+sum-mono n (suc m) f l = by-cases (decLt n (suc m)) (λ h. omega (arith, sum-mono n m f (omega arith)))
+    (λ h. let q : suc m ≡ n = omega arith in subst (λ k. sum k f ≤ sum (suc m) f) q (omega arith))
 
 -- 1 + 2 + .. + n
 pub triangle : (n : ℕ) → n * (n + 1) / 2 ≡ sum n suc
-triangle n = div-eq-of-eq-mul-left (omega arith) (double-triangle n)
+unfolding sum
+triangle zero = refl
+triangle (suc n) = omega (arith, triangle n)

@@ -13,12 +13,10 @@ use mathlib.Core.Bool.{true}
 use Prim.Native.Nat.{ℕ, zero, suc, _+_, _*_, _-_, _%_, _/_, _≤_, _<_, _∣_}
 use native.Mathlib.Nat.{mod-lt, mod-eq-of-lt, mod-add-div', mod-add-mod, add-mul-mod-self-right, mod-eq-zero-of-dvd}
 use native.Mathlib.Omega.{arith}
-use native.Mathlib.Decide.{decLt}
 use lib.Dec.{eqb}
 use borrow.Author.Tests.{eqb-true, eq-eqb}
 use Rattle.definitions.specs.Lists.{anyBelow, least, iter}
-use Rattle.numbers.proofs.Lists.{iter-zero, iter-suc, iter-add, iter-fix}
-use Rattle.numbers.proofs.Iterates.{iter-round}
+use Rattle.numbers.proofs.Lists.{iter-zero, iter-suc, iter-add, iter-fix, iter-round, iter-period}
 use Rattle.numbers.proofs.Searches.{anyBelow-elim, anyBelow-intro, least-found, least-least}
 use Rattle.numbers.proofs.Prime.{Units}
 
@@ -55,20 +53,16 @@ module _ (O : Orbits) where
   iter-below zero r h = subst (λ s. s < N) (sym (iter-zero τ r)) h
   iter-below (suc k) r h = subst (λ s. s < N) (sym (iter-suc τ k r)) (iter-below k (τ r) (inside r h))
 
-  iter-home : (s r : ℕ) → r < N → iter τ (s * p) r ≡ r
-  iter-home s r h = let q : s * p ≡ p * s = omega arith in ap (λ k. iter τ k r) q ∙ iter-round τ p s r (home r h)
-
   pub iter-mod : (k r : ℕ) → r < N → iter τ (k % p) r ≡ iter τ k r
-  iter-mod k r h =
-      let q : k / p * p + k % p ≡ k = omega (arith, mod-add-div' k p) in
-      ap (iter τ (k % p)) (sym (iter-home (k / p) r h)) ∙ iter-add τ (k / p * p) (k % p) r ∙ ap (λ m. iter τ m r) q
+  iter-mod k r h = iter-period τ p r (home r h) k
 
   -- an iterate that p does not divide and that comes back makes a fixed number
   short-fixed : (k r : ℕ) → r < N → ¬ (p ∣ k) → iter τ k r ≡ r → τ r ≡ r
   short-fixed k r h nd q =
       let (k′, s, e) = O .units k nd in
-      let e₂ : k * k′ ≡ s * p + 1 = omega arith in
-      sym (iter-suc τ 0 r ∙ iter-zero τ (τ r)) ∙ ap (iter τ 1) (sym (iter-home s r h)) ∙ iter-add τ (s * p) 1 r ∙ ap (λ m. iter τ m r) (sym e₂) ∙ iter-round τ k k′ r q
+      let e₂ : s * p + 1 ≡ k′ * k = omega arith in
+      sym (iter-suc τ 0 r ∙ iter-zero τ (τ r)) ∙ ap (iter τ 1) (sym (iter-round τ p r (home r h) s)) ∙ iter-add τ (s * p) 1 r
+      ∙ ap (λ m. iter τ m r) e₂ ∙ iter-round τ k r q k′
 
   not-divides : (k : ℕ) → 0 < k → k < p → ¬ (p ∣ k)
   not-divides k a b d = let z : k ≡ 0 = sym (mod-eq-of-lt b) ∙ mod-eq-zero-of-dvd p d in omega arith
@@ -89,12 +83,9 @@ module _ (O : Orbits) where
       (iter-add τ b (b′ - b) r ∙ ap (λ m. iter τ m r) e ∙ sym q)))
 
   pub moved-distinct : (r : ℕ) → r < N → Moved r → (b b′ : ℕ) → b < p → b′ < p → iter τ b r ≡ iter τ b′ r → b ≡ b′
-  moved-distinct r h mv b b′ l l′ q = go (decLt b b′) (decLt b′ b)
-    where
-      go : Dec (b < b′) → Dec (b′ < b) → b ≡ b′
-      go (yes a) d = absurd (distinct-lt r h mv b b′ a l′ q)
-      go (no a) (yes c) = absurd (distinct-lt r h mv b′ b c l (sym q))
-      go (no a) (no c) = omega arith
+  moved-distinct r h mv b b′ l l′ q =
+      let x : ¬ (b < b′) = λ a. distinct-lt r h mv b b′ a l′ q in
+      let y : ¬ (b′ < b) = λ a. distinct-lt r h mv b′ b a l (sym q) in omega arith
 
   -- ---- The leader
 
@@ -130,8 +121,7 @@ module _ (O : Orbits) where
       let l : m < p = mod-lt k (omega (arith, two)) in
       let a = leader-le m r h in
       let b = subst (λ s. leader s ≤ leader (iter τ m r)) (iter-back m r h (omega arith)) (leader-le (p - m) (iter τ m r) (iter-below m r h)) in
-      let e : leader (iter τ m r) ≡ leader r = omega arith in
-      ap leader (sym (iter-mod k r h)) ∙ e
+      let e : leader (iter τ m r) ≡ leader r = omega arith in ap leader (sym (iter-mod k r h)) ∙ e
 
   pub leader-leader : (r : ℕ) → r < N → leader (leader r) ≡ leader r
   leader-leader r h = let (k, a, b) = leader-reaches r h in sym (leader-iter k (leader r) (leader-below r h)) ∙ ap leader b
@@ -174,13 +164,13 @@ module _ (O : Orbits) where
   module _ (a : ℕ) (unit : ¬ (p ∣ a)) where
     -- multiplication by a modulo p loses nothing
     pub unit-injective : (m m′ : ℕ) → m < p → m′ < p → (a * m) % p ≡ (a * m′) % p → m ≡ m′
-    unit-injective m m′ l l′ q = back m l ∙ ap (λ x. (O .units a unit .0 * x) % p) q ∙ sym (back m′ l′)
-      where
-        back : (m : ℕ) → m < p → m ≡ (O .units a unit .0 * ((a * m) % p)) % p
-        back m l =
-            let (k′, s, e) = O .units a unit in
-            let w : k′ * ((a * m) % p) + k′ * ((a * m) / p) * p ≡ m + s * m * p = omega (arith, ap (λ x. k′ * x) (mod-add-div' (a * m) p), ap (λ x. x * m) e) in
-            sym (mod-eq-of-lt l) ∙ sym (add-mul-mod-self-right m (s * m) p) ∙ ap (λ x. x % p) (sym w) ∙ add-mul-mod-self-right (k′ * ((a * m) % p)) (k′ * ((a * m) / p)) p
+    unit-injective m m′ l l′ q =
+        let (k′, s, e) = O .units a unit in
+        let back : (m : ℕ) → m < p → m ≡ (k′ * ((a * m) % p)) % p = λ m l.
+        let w : k′ * ((a * m) % p) + k′ * ((a * m) / p) * p ≡ m + s * m * p = omega (arith, ap (λ x. k′ * x) (mod-add-div' (a * m) p), ap (λ x. x * m) e) in
+        sym (mod-eq-of-lt l) ∙ sym (add-mul-mod-self-right m (s * m) p) ∙ ap (λ x. x % p) (sym w)
+        ∙ add-mul-mod-self-right (k′ * ((a * m) % p)) (k′ * ((a * m) / p)) p in
+        back m l ∙ ap (λ x. (k′ * x) % p) q ∙ sym (back m′ l′)
 
     -- every remainder is a multiple of a
     pub unit-onto : (b : ℕ) → b < p → (t : ℕ) × (t < p) × ((a * t) % p ≡ b)

@@ -5,11 +5,12 @@
 --   Units p             what p does not divide has an inverse modulo p
 --   prime-units         a prime has units
 use mathlib.Core.Path.{_≡_, ap}
+use mathlib.Core.Logic.{by-cases}
 use mathlib.Core.Bool.{true, _||_, not}
 use Prim.Native.Nat.{ℕ, zero, suc, _+_, _*_, _-_, _%_, _/_, _≤_, _<_, _∣_}
 use native.Mathlib.Nat.{mod-lt, mod-add-div', mul-pos, mul-le-mul, le-of-dvd, dvd-of-mod-eq-zero, mod-eq-zero-of-dvd}
 use native.Mathlib.Omega.{arith}
-use native.Mathlib.Decide.{decLt, ℕ-discrete}
+use native.Mathlib.Decide.{ℕ-discrete}
 use lib.Dec.{eqb, ltb}
 use borrow.Author.Tests.{ltb-true, eqb-false, not-true}
 use Rattle.definitions.specs.Lists.{allBelow}
@@ -27,18 +28,12 @@ module _ (p : ℕ) (prime : isPrime p ≡ true) where
 
   pub prime-divisor : (d : ℕ) → 1 < d → d ∣ p → d ≡ p
   unfolding isPrime
-  prime-divisor d l h = go (decLt d p)
-    where
-      none : (d : ℕ) → d < p → ltb d 2 || not (eqb (p % d) 0) ≡ true
-      none = allBelow-elim p (λ d. ltb d 2 || not (eqb (p % d) 0)) (and-right (ltb 1 p) (allBelow p (λ d. ltb d 2 || not (eqb (p % d) 0))) prime)
-
-      no-divisor : OneOf (ltb d 2) (not (eqb (p % d) 0)) → ⊥
-      no-divisor (first q) = let s : d < 2 = ltb-true d 2 q in omega arith
-      no-divisor (second q) = eqb-false (p % d) 0 (not-true _ q) (mod-eq-zero-of-dvd d h)
-
-      go : Dec (d < p) → d ≡ p
-      go (yes q) = absurd (no-divisor (or-cases (ltb d 2) (not (eqb (p % d) 0)) (none d q)))
-      go (no q) = let b : d ≤ p = le-of-dvd (omega (arith, prime-two)) h in omega arith
+  prime-divisor d l h =
+      let none = allBelow-elim p (λ d. ltb d 2 || not (eqb (p % d) 0)) (and-right (ltb 1 p) (allBelow p (λ d. ltb d 2 || not (eqb (p % d) 0))) prime) in
+      let divides : OneOf (ltb d 2) (not (eqb (p % d) 0)) → ⊥
+      = elim [ first q ↦ omega (arith, ltb-true d 2 q) | second q ↦ eqb-false (p % d) 0 (not-true _ q) (mod-eq-zero-of-dvd d h) ] in
+      let a : ¬ (d < p) = λ q. divides (or-cases (ltb d 2) (not (eqb (p % d) 0)) (none d q)) in
+      let b : d ≤ p = le-of-dvd (omega (arith, prime-two)) h in omega arith
 
   -- ---- Inverses, by division with remainder of p
 
@@ -50,7 +45,7 @@ module _ (p : ℕ) (prime : isPrime p ≡ true) where
   up k q r e hr lr (r′, s, h) =
       let p₀ : ℕ = p - 1 in
       let hp : p ≡ suc p₀ = omega (arith, prime-two) in
-      let big : s < r′ = more (decLt s r′) in
+      let big : ¬ (r′ ≤ s) = λ o. omega (arith, mul-le-mul {n₁ = r} {m₁ = r′} {n₂ = p} {m₂ = s} (omega arith) (omega arith)) in
       let d : ℕ = r′ - s in
       let hd : r′ ≡ s + d = omega arith in
       let w : ℕ = d * p₀ - 1 in
@@ -60,22 +55,13 @@ module _ (p : ℕ) (prime : isPrime p ≡ true) where
       let h₃ : suc w * p ≡ d * p₀ * p = ap (λ x. x * p) hw in
       let h₄ : p * (r′ * p₀) ≡ p * ((s + d) * p₀) = ap (λ x. p * (x * p₀)) hd in
       (q * (r′ * p₀), w, omega arith)
-    where
-      more : Dec (s < r′) → s < r′
-      more (yes o) = o
-      more (no o) = absurd (omega (arith, mul-le-mul {n₁ = r} {m₁ = r′} {n₂ = p} {m₂ = s} (omega arith) (omega arith)))
 
   small : (f k : ℕ) → k ≤ f → 0 < k → k < p → Inverse k
   small zero k a b c = absurd (omega arith)
-  small (suc f) k a b c = go (ℕ-discrete k 1) (λ r h h′ l. small f r h h′ l)
-    where
-      go : Dec (k ≡ 1) → ((r : ℕ) → r ≤ f → 0 < r → r < p → Inverse r) → Inverse k
-      go (yes o) rec = (1, 0, omega arith)
-      go (no o) rec =
-          let l : p % k < k = mod-lt p b in
-          let e : k * (p / k) + p % k ≡ p = omega (arith, mod-add-div' p k) in
-          let nz : ¬ (p % k ≡ 0) = λ z. let y : k ≡ p = prime-divisor k (omega arith) (dvd-of-mod-eq-zero k z) in omega arith in
-          up k (p / k) (p % k) e (omega arith) (omega arith) (rec (p % k) (omega arith) (omega arith) (omega arith))
+  small (suc f) k a b c = by-cases (ℕ-discrete k 1) (λ o. (1, 0, omega arith)) (λ o.
+      let l : p % k < k = mod-lt p b in
+      let nz : ¬ (p % k ≡ 0) = λ z. omega (arith, prime-divisor k (omega arith) (dvd-of-mod-eq-zero k z)) in
+      up k (p / k) (p % k) (omega (arith, mod-add-div' p k)) (omega arith) (omega arith) (small f (p % k) (omega arith) (omega arith) (omega arith)))
 
   pub prime-units : Units p
   prime-units k nd =

@@ -5,31 +5,28 @@
 --   anyBelow-below                     two tests that agree below n
 --   least-found, least-least           where one passes, least finds one, and none below it passes
 --   least-is                           it finds the number that passes, if no other does
-use mathlib.Core.Path.{_≡_, refl, sym, _∙_, ap, ap₂, subst}
+use mathlib.Core.Path.{_≡_, refl, sym, _∙_, ap, ap₂}
+use mathlib.Core.Logic.{by-cases}
 use mathlib.Core.Bool.{Bool, true, false, _||_, false≢true}
 use Prim.Native.Nat.{ℕ, zero, suc, _+_, _≤_, _<_}
 use native.Mathlib.Omega.{arith}
 use native.Mathlib.Decide.{decLt}
 use Rattle.definitions.specs.Lists.{anyBelow, leastFrom, least}
-use Rattle.numbers.proofs.Bools.{OneOf, first, second, or-cases, or-left, or-right, cond-true, cond-false}
+use Rattle.numbers.proofs.Bools.{first, second, or-cases, or-left, or-right, cond-true, cond-false}
 
 pub anyBelow-intro : (n : ℕ) (q : ℕ → Bool) (k : ℕ) → k < n → q k ≡ true → anyBelow n q ≡ true
 unfolding anyBelow
 anyBelow-intro zero q k l h = absurd (omega arith)
-anyBelow-intro (suc n) q k l h = go (decLt k n) (λ a. anyBelow-intro n q k a h)
-  where
-    go : Dec (k < n) → (k < n → anyBelow n q ≡ true) → anyBelow n q || q n ≡ true
-    go (yes a) r = or-left (anyBelow n q) (q n) (r a)
-    go (no a) r = let e : k ≡ n = omega arith in or-right (anyBelow n q) (q n) (subst (λ s. q s ≡ true) e h)
+anyBelow-intro (suc n) q k l h = by-cases (decLt k n) (λ a. or-left (anyBelow n q) (q n) (anyBelow-intro n q k a h))
+    (λ a. let e : n ≡ k = omega arith in or-right (anyBelow n q) (q n) (ap q e ∙ h))
 
 pub anyBelow-elim : (n : ℕ) (q : ℕ → Bool) → anyBelow n q ≡ true → (k : ℕ) × (k < n) × (q k ≡ true)
 unfolding anyBelow
 anyBelow-elim zero q h = absurd (false≢true h)
-anyBelow-elim (suc n) q h = go (or-cases (anyBelow n q) (q n) h) (anyBelow-elim n q)
-  where
-    go : OneOf (anyBelow n q) (q n) → (anyBelow n q ≡ true → (k : ℕ) × (k < n) × (q k ≡ true)) → (k : ℕ) × (k < suc n) × (q k ≡ true)
-    go (first a) r = let (k, b, c) = r a in (k, omega arith, c)
-    go (second a) r = (n, omega arith, a)
+anyBelow-elim (suc n) q h = elim (or-cases (anyBelow n q) (q n) h) [
+  | first a ↦ let (k, b, c) = anyBelow-elim n q a in (k, omega arith, c)
+  | second a ↦ (n, omega arith, a)
+]
 
 pub anyBelow-fails : (n : ℕ) (q : ℕ → Bool) → ((k : ℕ) → k < n → q k ≡ false) → anyBelow n q ≡ false
 unfolding anyBelow
@@ -63,13 +60,9 @@ found (suc n) k q = go (q k) refl (found n (suc k) q)
         record {
           low = omega (arith, F .low);
           high = omega (arith, F .high);
-          before = λ j a b. early j a (subst (λ s. j < s) z b) (decLt k j);
+          before = λ j a b. by-cases (decLt k j) (λ c. F .before j c (omega arith)) (λ c. let s : j ≡ k = omega arith in ap q s ∙ e);
           passes = λ a. ap q z ∙ F .passes (omega arith);
         }
-      where
-        early : (j : ℕ) → k ≤ j → j < leastFrom n (suc k) q → Dec (k < j) → q j ≡ false
-        early j a b (yes c) = F .before j c b
-        early j a b (no c) = let s : k ≡ j = omega arith in ap q (sym s) ∙ e
 
 module _ (n : ℕ) (q : ℕ → Bool) where
   abbrev F : Found n 0 q
@@ -77,11 +70,7 @@ module _ (n : ℕ) (q : ℕ → Bool) where
 
   pub least-least : (j : ℕ) → q j ≡ true → least n q ≤ j
   unfolding least
-  least-least j h = go (decLt j (leastFrom n 0 q))
-    where
-      go : Dec (j < leastFrom n 0 q) → leastFrom n 0 q ≤ j
-      go (yes a) = absurd (false≢true (sym (F .before j (omega arith) a) ∙ h))
-      go (no a) = omega arith
+  least-least j h = let n : ¬ (j < leastFrom n 0 q) = λ a. false≢true (sym (F .before j (omega arith) a) ∙ h) in omega arith
 
   pub least-found : (k : ℕ) → k < n → q k ≡ true → (least n q < n) × (q (least n q) ≡ true)
   unfolding least

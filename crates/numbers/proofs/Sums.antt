@@ -6,11 +6,12 @@
 --   chosen            1 where two numbers are equal, else 0
 --   sum-permuted      a sum does not change under a permutation
 use mathlib.Core.Path.{_≡_, refl, sym, _∙_, ap, ap₂}
+use mathlib.Core.Logic.{by-cases}
 use mathlib.Core.Bool.{cond}
 use Prim.Native.Nat.{ℕ, zero, suc, _+_, _*_, _-_, _≤_, _<_}
-use native.Mathlib.Nat.{mul-zero, zero-mul}
+use native.Mathlib.Nat.{add-zero, add-suc, mul-zero, zero-mul}
 use native.Mathlib.Omega.{arith}
-use native.Mathlib.Decide.{decLt, decLe}
+use native.Mathlib.Decide.{decLt}
 use lib.Dec.{eqb}
 use Rattle.definitions.specs.Lists.{sum}
 use Rattle.numbers.proofs.Bools.{cond-eq, cond-ne}
@@ -48,30 +49,18 @@ sum-none n g h = sum-below n g (λ k. 0) h ∙ sum-const n 0 ∙ mul-zero n
 
 pub sum-swap : (n m : ℕ) (g : ℕ → ℕ → ℕ) → sum n (λ a. sum m (g a)) ≡ sum m (λ b. sum n (λ a. g a b))
 sum-swap zero m g = sum-zero _ ∙ sym (sum-none m (λ b. sum zero (λ a. g a b)) (λ k l. sum-zero _))
-sum-swap (suc n) m g =
-    sum-suc n _ ∙ ap (λ s. s + sum m (g n)) (sum-swap n m g)
+sum-swap (suc n) m g = sum-suc n _ ∙ ap (λ s. s + sum m (g n)) (sum-swap n m g)
     ∙ sym (sum-below m (λ b. sum (suc n) (λ a. g a b)) (λ b. sum n (λ a. g a b) + g n b) (λ k l. sum-suc n _) ∙ sum-plus m (λ b. sum n (λ a. g a b)) (g n))
 
 pub sum-single : (n : ℕ) (g : ℕ → ℕ) (k : ℕ) → k < n → ((j : ℕ) → j < n → ¬ (j ≡ k) → g j ≡ 0) → sum n g ≡ g k
 sum-single zero g k l z = absurd (omega arith)
-sum-single (suc n) g k l z = sum-suc n g ∙ go (λ h. sum-single n g k h (λ j a b. z j (omega arith) b)) (decLt k n)
-  where
-    go : (k < n → sum n g ≡ g k) → Dec (k < n) → sum n g + g n ≡ g k
-    go r (yes h) = let a = r h in let b : g n ≡ 0 = z n (omega arith) (λ e. omega arith) in omega arith
-    go r (no h) =
-        let e : n ≡ k = omega arith in
-        let a : sum n g ≡ 0 = sum-none n g (λ j a. z j (omega arith) (λ b. omega arith)) in
-        let b : g n ≡ g k = ap g e in
-        omega arith
+sum-single (suc n) g k l z = sum-suc n g ∙ by-cases (decLt k n)
+    (λ h. omega (arith, sum-single n g k h (λ j a b. z j (omega arith) b), z n (omega arith) (λ e. omega arith)))
+    (λ h. let e : n ≡ k = omega arith in omega (arith, sum-none n g (λ j a. z j (omega arith) (λ b. omega arith)), ap g e))
 
 pub sum-split : (a b : ℕ) (g : ℕ → ℕ) → sum (a + b) g ≡ sum a g + sum b (λ k. g (a + k))
-sum-split a zero g = let q : a + 0 ≡ a = omega arith in let z = sum-zero (λ k. g (a + k)) in ap (λ s. sum s g) q ∙ omega arith
-sum-split a (suc b) g =
-    let q : a + suc b ≡ suc (a + b) = omega arith in
-    let z = sum-suc b (λ k. g (a + k)) in
-    let r = sum-split a b g in
-    let s = sum-suc (a + b) g in
-    ap (λ s. sum s g) q ∙ omega arith
+sum-split a zero g = ap (λ s. sum s g) (add-zero a) ∙ omega (arith, sum-zero (λ k. g (a + k)))
+sum-split a (suc b) g = ap (λ s. sum s g) (add-suc a b) ∙ omega (arith, sum-suc b (λ k. g (a + k)), sum-split a b g, sum-suc (a + b) g)
 
 pub sum-le : (n : ℕ) (g h : ℕ → ℕ) → ((k : ℕ) → k < n → g k ≤ h k) → sum n g ≤ sum n h
 unfolding sum
@@ -83,22 +72,17 @@ sum-le (suc n) g h q = let a = sum-le n g h (λ k l. q k (omega arith)) in let b
 module _ (w : ℕ → ℕ) where
   pub first-le : (s s′ : ℕ) → s < s′ → sum s w + w s ≤ sum s′ w
   first-le s zero l = absurd (omega arith)
-  first-le s (suc s′) l = go (λ h. first-le s s′ h) (decLt s s′)
-    where
-      go : (s < s′ → sum s w + w s ≤ sum s′ w) → Dec (s < s′) → sum s w + w s ≤ sum (suc s′) w
-      go r (yes h) = let a = r h in let b = sum-suc s′ w in omega arith
-      go r (no h) = let e : s′ ≡ s = omega arith in let b = sum-suc s′ w in let c : sum s′ w + w s′ ≡ sum s w + w s = ap (λ x. sum x w + w x) e in omega arith
+  first-le s (suc s′) l = by-cases (decLt s s′) (λ h. omega (arith, first-le s s′ h, sum-suc s′ w))
+      (λ h. let e : s′ ≡ s = omega arith in omega (arith, sum-suc s′ w, ap (λ x. sum x w + w x) e))
 
   pub term-le : (n k : ℕ) → k < n → w k ≤ sum n w
   term-le n k l = omega (arith, first-le k n l)
 
   pub stretch-one : (s κ s′ κ′ : ℕ) → κ < w s → κ′ < w s′ → sum s w + κ ≡ sum s′ w + κ′ → (s ≡ s′) × (κ ≡ κ′)
-  stretch-one s κ s′ κ′ a b q = go (decLt s s′) (decLt s′ s)
-    where
-      go : Dec (s < s′) → Dec (s′ < s) → (s ≡ s′) × (κ ≡ κ′)
-      go (yes h) d = absurd (omega (arith, first-le s s′ h))
-      go (no h) (yes k) = absurd (omega (arith, first-le s′ s k))
-      go (no h) (no k) = let e : s ≡ s′ = omega arith in (e, omega (arith, ap (λ s. sum s w) e))
+  stretch-one s κ s′ κ′ a b q =
+      let h : ¬ (s < s′) = λ h. omega (arith, first-le s s′ h) in
+      let k : ¬ (s′ < s) = λ h. omega (arith, first-le s′ s h) in
+      let e : s ≡ s′ = omega arith in (e, omega (arith, ap (λ s. sum s w) e))
 
   pub stretch-below : (s κ N : ℕ) → κ < w s → s < N → sum s w + κ < sum N w
   stretch-below s κ N a b = omega (arith, first-le s N b)
@@ -113,11 +97,9 @@ module _ (w : ℕ → ℕ) where
 
   pub owner : (N r : ℕ) → r < sum N w → Owner N r
   owner zero r l = absurd (omega (arith, sum-zero w))
-  owner (suc N) r l = go (decLe (sum N w) r) (λ h. owner N r h)
-    where
-      go : Dec (sum N w ≤ r) → (r < sum N w → Owner N r) → Owner (suc N) r
-      go (yes h) rec = record { s = N; κ = r - sum N w; s-below = omega arith; κ-below = omega (arith, sum-suc N w); is = omega arith }
-      go (no h) rec = let o = rec (omega arith) in record { s = o .s; κ = o .κ; s-below = omega (arith, o .s-below); κ-below = o .κ-below; is = o .is }
+  owner (suc N) r l = by-cases (decLt r (sum N w))
+      (λ h. let o = owner N r h in record { s = o .s; κ = o .κ; s-below = omega (arith, o .s-below); κ-below = o .κ-below; is = o .is })
+      (λ h. record { s = N; κ = r - sum N w; s-below = omega arith; κ-below = omega (arith, sum-suc N w); is = omega arith })
 
   pub sum-stretches : (N : ℕ) (h : ℕ → ℕ) → sum (sum N w) h ≡ sum N (λ s. sum (w s) (λ κ. h (sum s w + κ)))
   sum-stretches zero h = ap (λ s. sum s h) (sum-zero w) ∙ sum-zero h ∙ sym (sum-zero _)
@@ -140,13 +122,9 @@ chosen-other r s q = cond-ne r s 1 0 q
 pub sum-permuted : (N : ℕ) (τ τ⁻ : ℕ → ℕ) → ((r : ℕ) → r < N → τ r < N) → ((r : ℕ) → r < N → τ⁻ r < N) → ((r : ℕ) → r < N → τ (τ⁻ r) ≡ r) → ((r : ℕ) → r < N → τ⁻ (τ r) ≡ r)
     → (h : ℕ → ℕ) → sum N (λ r. h (τ r)) ≡ sum N h
 sum-permuted N τ τ⁻ a a⁻ b b⁻ h =
+    let g : ℕ → ℕ → ℕ = λ r s. chosen s (τ r) * h s in
+    let hit : (r s : ℕ) → s ≡ τ r → g r s ≡ h s = λ r s e. ap (λ x. x * h s) (chosen-same s (τ r) e) ∙ omega arith in
     sum-below N (λ r. h (τ r)) (λ r. sum N (g r)) (λ r l. sym (sum-single N (g r) (τ r) (a r l) (λ s k ne. ap (λ x. x * h s) (chosen-other s (τ r) ne) ∙ zero-mul (h s)) ∙ hit r (τ r) refl))
     ∙ sum-swap N N g
     ∙ sum-below N (λ s. sum N (λ r. g r s)) h (λ s l. sum-single N (λ r. g r s) (τ⁻ s) (a⁻ s l)
     (λ r k ne. ap (λ x. x * h s) (chosen-other s (τ r) (λ e. ne (sym (b⁻ r k) ∙ ap τ⁻ (sym e)))) ∙ zero-mul (h s)) ∙ hit (τ⁻ s) s (sym (b s l)))
-  where
-    g : ℕ → ℕ → ℕ
-    g r s = chosen s (τ r) * h s
-
-    hit : (r s : ℕ) → s ≡ τ r → g r s ≡ h s
-    hit r s e = ap (λ x. x * h s) (chosen-same s (τ r) e) ∙ omega arith
