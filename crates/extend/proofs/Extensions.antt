@@ -34,8 +34,8 @@ use Rattle.numbers.proofs.Blocks.{length-table, blocks-below, length-even}
 use Rattle.text.proofs.Writing.{wrote-as}
 use Rattle.formulas.specs.Formulas.{Source, made, start, shift, landing, extensionAt}
 use Rattle.level.specs.declared.Listed.{Listed}
-use Rattle.level.specs.Stored.{entryIn, matrixIn, lineIn, Holds}
-use Rattle.level.proofs.Columns.{col-matrixIn, col-scale}
+use Rattle.level.specs.Stored.{entryIn, matrixIn, lineIn}
+use Rattle.level.proofs.Columns.{col-matrixIn, col-scale, stored-line, stored-at}
 use Rattle.lines.specs.declared.Head.{Head}
 use Rattle.lines.specs.Lines.{headLine, copyLines, blockLines, Copied, Space, Appended}
 use Rattle.lines.proofs.Written.{copy-block}
@@ -52,9 +52,7 @@ use Rattle.extend.specs.declared.Origin.{Origin}
 -- ---- Bounds
 
 pub product-fits : (k a p : ℕ) → k < p → a ≤ p → p ≤ maxOrder → k * a ≤ 268435456
-product-fits k a p h l q =
-    let x : k * a ≤ k * maxOrder = mul-le-mul-left k (omega arith) in
-    omega (arith, x)
+product-fits k a p h l q = let x : k * a ≤ k * maxOrder = mul-le-mul-left k (omega arith) in omega (arith, x)
 
 constant-below : (s p m k : ℕ) → m ≡ p * (m / p) → s < m → k < p → s / p + k * (m / p) < m
 constant-below s p m k e h l =
@@ -136,7 +134,7 @@ piece-copied {f} {W} {o} C g l e h =
     let small : o .source .deg ≤ 65536 =
     subst (λ x. x ≤ 65536) (sym (located-degree D)) (factor-small (f .p) _ 65536 (S .prime .0) (S .wide (o .rep) (D .listed) .1)) in
     record {
-      holds = subst (λ a. Holds (f .m) W a (o .source .deg)) (sym e) (located-stored D (suc g) l .holds g (le-refl _));
+      holds = stored-at (located-stored D (suc g) l) e;
       by-below = h;
       columns = omega (arith, small);
       rows = omega (arith, small);
@@ -159,8 +157,7 @@ same-lines {f} {W} {o} C k g x l n eh es =
 pub same-below : {f : Frame} (w : List ℕ) {o : Origin} → Copies f (lowOf f w) o → (g : ℕ) → g < f .gens
     → lineIn (o .source) g + o .source .deg ≤ f .end
 same-below {f} w C g l =
-    let fits = located-stored (C .located) (suc g) l .holds g (le-refl _) .fits in
-    omega (arith, fits, length-take (8 * f .end) w, min-le-left (8 * f .end) (length w))
+    omega (arith, stored-line (located-stored (C .located) (suc g) l), length-take (8 * f .end) w, min-le-left (8 * f .end) (length w))
 
 pub copy-length : (f : Frame) (W : List ℕ) (o : Origin) (k g x : ℕ) → length (copyWords f W o k g x) ≡ 8 * o .source .deg
 unfolding copyWords blockLines headLine

@@ -8,7 +8,6 @@
 use mathlib.Core.Path.{_≡_, refl, sym, ap, ap₂, _∙_, subst}
 use mathlib.Core.List.{List, [], _∷_}
 use Prim.Native.Nat.{ℕ, suc, _+_, _*_, _%_, _<_}
-use native.Mathlib.Nat.{le-refl}
 use native.Mathlib.Numerals.{add-one}
 use native.Mathlib.Omega.{arith}
 use mathlib.Core.Bool.{cond}
@@ -25,7 +24,7 @@ use Rattle.numbers.proofs.Sums.{sum-const}
 use Rattle.formulas.specs.Formulas.{Source, start, leader, blockTo, blockBy, inductionAt}
 use Rattle.level.specs.declared.Listed.{Listed}
 use Rattle.level.specs.Stored.{entryIn, lineIn, Holds}
-use Rattle.level.proofs.Columns.{col-matrixIn, col-scale}
+use Rattle.level.proofs.Columns.{col-matrixIn, col-scale, stored-at}
 use Rattle.lines.specs.Lines.{headLine, blockLines}
 use Rattle.survey.specs.declared.Frame.{Frame}
 use Rattle.survey.specs.Below.{degOf, targetOf, matrixOf, sourceIn, LevelStands, Located}
@@ -138,5 +137,4 @@ cell-single f W i g q e =
 
 pub cell-held : {f : Frame} {W : List ℕ} {q : ℕ} {D : Listed} → Located f W q D → (g src d : ℕ) → g < f .gens → src ≡ lineIn D g → D .deg ≡ d
     → Holds (f .m) W src d
-cell-held {f} {W} {q} {D} L g src d l e h =
-    subst (Holds (f .m) W src) h (subst (λ a. Holds (f .m) W a (D .deg)) (sym e) (located-stored L (suc g) l .holds g (le-refl _)))
+cell-held {f} {W} L g src d l e h = subst (Holds (f .m) W src) h (stored-at (located-stored L (suc g) l) e)

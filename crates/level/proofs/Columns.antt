@@ -11,11 +11,12 @@
 --   walk-zero, walk-next       the clauses of `walk`
 --   walk-ends                  a word that ends early is walked as far as it goes
 --   stored-fewer               fewer generators stand where more do
+--   stored-line, stored-at     the lines of a generator stand in the words, and hold its matrix
 --   matrix-inside              the lines of a generator stand among those of all
 --   all-lines                  how many lines all have
-use mathlib.Core.Path.{_≡_, refl, ap, ap₂, sym, _∙_}
+use mathlib.Core.Path.{_≡_, refl, ap, ap₂, sym, _∙_, subst}
 use Prim.Native.Nat.{ℕ, zero, suc, _+_, _-_, _*_, _%_, _<_, _≤_}
-use native.Mathlib.Nat.{mod-eq-of-lt, mod-lt, mod-add-mod, add-mod-mod, mul-le-mul-right}
+use native.Mathlib.Nat.{mod-eq-of-lt, mod-lt, mod-add-mod, add-mod-mod, mul-le-mul-right, le-refl}
 use native.Mathlib.Omega.{arith}
 use native.Mathlib.Numerals.{add-one}
 use mathlib.Core.List.{List}
@@ -29,7 +30,7 @@ use Rattle.numbers.proofs.Blocks.{getD-map, getD-table}
 use Rattle.formulas.specs.Formulas.{walk, plus}
 use Rattle.rows.specs.Rows.{Top}
 use Rattle.level.specs.declared.Listed.{Listed}
-use Rattle.level.specs.Stored.{entryIn, matrixIn, lineIn, Stored}
+use Rattle.level.specs.Stored.{entryIn, matrixIn, lineIn, Holds, Stored}
 
 -- ---- Products that fit
 
@@ -128,6 +129,13 @@ module _ (m : ℕ) (M : ℕ → Matrix) (w : List ℕ) (x : Entry) where
 
 pub stored-fewer : {m n : ℕ} {W : List ℕ} {D : Listed} (k : ℕ) → k ≤ n → Stored m n W D → Stored m k W D
 stored-fewer k l S = record { positive = S .positive; degree = S .degree; holds = λ g h. S .holds g (omega arith) }
+
+module _ {m g : ℕ} {W : List ℕ} {D : Listed} (S : Stored m (suc g) W D) where
+  pub stored-line : 8 * (lineIn D g + D .deg) ≤ length W
+  stored-line = S .holds g (le-refl _) .fits
+
+  pub stored-at : {l : ℕ} → l ≡ lineIn D g → Holds m W l (D .deg)
+  stored-at e = subst (λ l. Holds m W l (D .deg)) (sym e) (S .holds g (le-refl _))
 
 pub matrix-inside : (D : Listed) (n g words : ℕ) → g < n → 8 * lineIn D n ≤ words → 8 * (lineIn D g + D .deg) ≤ words
 matrix-inside D n g words h k = let e : suc g * D .deg ≤ n * D .deg = mul-le-mul-right {m = suc g} {n = n} (D .deg) h in omega (arith, e)

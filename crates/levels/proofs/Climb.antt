@@ -6,7 +6,7 @@
 --   one-reps, one-upTo, one-length, one-room, one-placed      the same for level 1
 use mathlib.Core.Path.{_≡_, refl, sym, _∙_, ap, ap₂, subst}
 use mathlib.Core.List.{List, _++_}
-use Prim.Native.Nat.{ℕ, zero, suc, _+_, _*_, _-_, _≤_, _<_}
+use Prim.Native.Nat.{ℕ, suc, _+_, _*_, _-_, _≤_, _<_}
 use native.Mathlib.Omega.{arith}
 use lib.ListN.{length, length-append}
 use Rattle.definitions.specs.Lists.{blocks, sum}
@@ -29,38 +29,36 @@ use Rattle.first.proofs.Lines.{firstWords-length}
 use Rattle.level.specs.Stored.{matrixIn}
 use Rattle.survey.specs.declared.Frame.{Frame}
 use Rattle.survey.specs.Below.{sourceIn, degOf, matrixOf, targetOf, madeIn, numberIn}
-use Rattle.levels.specs.Built.{upTo, frameAt, Placed, levelOf, modulus}
+use Rattle.levels.specs.Built.{upTo, frameAt, Placed, levelOf}
 use Rattle.levels.proofs.Places.{upTo-suc}
 use Rattle.levels.proofs.Room.{room}
 use Rattle.levels.proofs.Words.{reads}
-use Rattle.levels.proofs.Standing.{placed}
+use Rattle.levels.proofs.Standing.{at-placed}
 use Rattle.levels.proofs.Next.{next-words}
 use Rattle.levels.proofs.First.{level-one}
 
 module _ (A : Accepted) where
-  abbrev P : Presentation
+  abbrev pub P : Presentation
   P = A .C .P
 
-  abbrev n : ℕ
+  abbrev pub n : ℕ
   n = A .C .P .n
 
-  abbrev m : ℕ
+  abbrev pub m : ℕ
   m = order P n
 
   -- ---- Words
 
-  pub next-upTo : (i : ℕ) (f : Frame) (W : List ℕ) (rows : List (List ℕ)) {primes : List ℕ} → Placed A i f W → Reads (A .C .P) (A .C .P .n) primes rows
-      → W ++ levelWords (A .C .P .n) (suc i) (levelBy (sourceIn f W rows)) ≡ upTo A (suc i)
+  pub next-upTo : (i : ℕ) (f : Frame) (W : List ℕ) (rows : List (List ℕ)) {primes : List ℕ} → Placed A i f W → Reads P n primes rows
+      → W ++ levelWords n (suc i) (levelBy (sourceIn f W rows)) ≡ upTo A (suc i)
   next-upTo i f W rows Q told = ap₂ (_++_) (Q .words-are) (sym (next-words A i f W rows Q told)) ∙ sym (upTo-suc A i)
 
-  pub next-lines : (i : ℕ) (f : Frame) (W : List ℕ) (rows : List (List ℕ)) {primes : List ℕ}
-      → Placed A i f W → Reads (A .C .P) (A .C .P .n) primes rows
-      → levelWords (f .gens) (suc (f .top)) (levelBy (sourceIn f W rows)) ≡ levelWords (A .C .P .n) (suc i) (levelOf A (suc i))
+  pub next-lines : (i : ℕ) (f : Frame) (W : List ℕ) (rows : List (List ℕ)) {primes : List ℕ} → Placed A i f W → Reads P n primes rows
+      → levelWords (f .gens) (suc (f .top)) (levelBy (sourceIn f W rows)) ≡ levelWords n (suc i) (levelOf A (suc i))
   next-lines i f W rows Q told = ap₂ (λ g t. levelWords g (suc t) (levelBy (sourceIn f W rows))) (Q .gens-is) (Q .top-is) ∙ sym (next-words A i f W rows Q told)
 
-  pub next-room : (i : ℕ) (f : Frame) (W : List ℕ) (rows : List (List ℕ)) {primes : List ℕ}
-      → Placed A i f W → Reads (A .C .P) (A .C .P .n) primes rows
-      → 8 * f .end + length (levelWords (f .gens) (suc (f .top)) (levelBy (sourceIn f W rows))) ≤ buildWords (A .C .P)
+  pub next-room : (i : ℕ) (f : Frame) (W : List ℕ) (rows : List (List ℕ)) {primes : List ℕ} → Placed A i f W → Reads P n primes rows
+      → 8 * f .end + length (levelWords (f .gens) (suc (f .top)) (levelBy (sourceIn f W rows))) ≤ buildWords P
   next-room i f W rows Q told =
       let long = ap length (upTo-suc A i) ∙ length-append (upTo A i) (levelWords n (suc i) (levelOf A (suc i))) in
       let named = ap₂ (_+_) (sym (Q .end-is)) (ap length (sym (next-lines i f W rows Q told))) in
@@ -68,7 +66,7 @@ module _ (A : Accepted) where
 
   -- ---- Representations
 
-  module _ (k : ℕ) (l : suc k < A .C .P .n) where
+  module _ (k : ℕ) (l : suc k < n) where
     abbrev T : Twins
     T = twins A (suc k) l (degOf (frameAt A k) (upTo A (suc k))) (λ r g. matrixIn (upTo A (suc k)) (matrixOf (frameAt A k) (upTo A (suc k)) g r) (degOf (frameAt A k) (upTo A (suc k)) r))
         (targetOf (frameAt A k) (upTo A (suc k))) (reads A k (omega arith)) (P .w (suc k)) (λ j a b. refl)
@@ -86,10 +84,7 @@ module _ (A : Accepted) where
     reps-at = sym (count-at ∙ sum-below (length (levels P m (suc k))) _ _ made-at)
 
   pub next-reps : (i : ℕ) (f : Frame) (W : List ℕ) → Placed A i f W → numberIn f W (f .reps) ≡ length (levelOf A (suc i))
-  next-reps zero f W Q = absurd (omega (arith, Q .above))
-  next-reps (suc k) f W Q = ap₂ (λ f W. numberIn f W (f .reps)) (placed A k f W Q) (Q .words-are) ∙ reps-at k (Q .below)
-
-  -- ---- Frames
+  next-reps = at-placed A (λ i f W. numberIn f W (f .reps) ≡ length (levelOf A (suc i))) reps-at
 
   -- ---- Level 1
 
@@ -101,24 +96,23 @@ module _ (A : Accepted) where
   unfolding upTo blocks
   upTo-first = refl
 
-  pub one-reps : length (levelOf A 1) ≡ A .C .P .p 0
+  pub one-reps : length (levelOf A 1) ≡ P .p 0
   unfolding levels rung levelZero repOf
   one-reps =
       next-length (rungs A 0 (A .positive)) ∙ sum-suc 0 _ ∙ ap₂ (_+_) (sum-zero _) (made-fixed (rungs A 0 (A .positive)) 0 (rungs A 0 (A .positive) .literal 0 0)) ∙ omega arith
 
-  module _ (rows : List (List ℕ)) {primes : List ℕ} (told : Reads (A .C .P) (A .C .P .n) primes rows) where
-    pub one-upTo : firstWords (A .C .P .n) (A .C .P .p 0) (modulus A) rows ≡ upTo A 1
+  module _ (rows : List (List ℕ)) {primes : List ℕ} (told : Reads P n primes rows) where
+    pub one-upTo : firstWords n (P .p 0) m rows ≡ upTo A 1
     one-upTo = sym (upTo-first ∙ level-one A rows told)
 
-    pub one-length : length (upTo A 1) ≡ 8 * (A .C .P .p 0 * A .C .P .n)
+    pub one-length : length (upTo A 1) ≡ 8 * (P .p 0 * n)
     one-length = ap length (sym one-upTo) ∙ firstWords-length n (P .p 0) m rows
 
-    pub one-room : 8 * (A .C .P .p 0 * A .C .P .n) ≤ buildWords (A .C .P)
+    pub one-room : 8 * (P .p 0 * n) ≤ buildWords P
     one-room = subst (λ x. x ≤ buildWords P) one-length (room A 1 (A .positive))
 
-    pub one-placed : 1 < A .C .P .n
-        → Placed A 1 (record { m = modulus A; top = 1; gens = A .C .P .n; p = A .C .P .p 1; base = 0; reps = A .C .P .p 0; end = A .C .P .p 0 * A .C .P .n })
-        (firstWords (A .C .P .n) (A .C .P .p 0) (modulus A) rows)
+    pub one-placed : 1 < n
+        → Placed A 1 (record { m = m; top = 1; gens = n; p = P .p 1; base = 0; reps = P .p 0; end = P .p 0 * n }) (firstWords n (P .p 0) m rows)
     one-placed l =
         let c : 1 - 1 ≡ 0 = omega arith in
         record {

@@ -5,15 +5,15 @@
 --   once-at, visits-at        so no block comes twice in p steps, and every block comes
 --   fixed-at                  what the generator on top fixes is led to what it fixes
 --   visited, fixing           the same in any frame that says so
-use mathlib.Core.Path.{_≡_, sym, _∙_, ap, subst}
+use mathlib.Core.Path.{_≡_, sym, _∙_, ap}
 use mathlib.Core.List.{List, []}
-use Prim.Native.Nat.{ℕ, zero, suc, _*_, _%_, _<_, _∣_}
+use Prim.Native.Nat.{ℕ, suc, _*_, _%_, _<_, _∣_}
 use native.Mathlib.Omega.{arith}
 use lib.ListN.{length, getD}
-use Rattle.definitions.specs.Presentation.{NF, toNF, pairNumber, Presentation, order}
+use Rattle.definitions.specs.Presentation.{toNF, pairNumber, Presentation, order}
 use Rattle.definitions.specs.Monomial.{Level, repOf}
 use Rattle.definitions.specs.Steps.{levels}
-use Rattle.formulas.specs.Formulas.{blockAt}
+use Rattle.formulas.specs.Formulas.{Source, blockAt}
 use Rattle.numbers.proofs.Orbits.{unit-injective, unit-onto}
 use Rattle.clifford.specs.Stands.{Rung}
 use Rattle.clifford.specs.Accepted.{Accepted}
@@ -29,27 +29,27 @@ use Rattle.level.specs.Stored.{matrixIn}
 use Rattle.survey.specs.declared.Frame.{Frame}
 use Rattle.survey.specs.Below.{sourceIn, degOf, matrixOf, targetOf, leaderIn, Fixing, Cycling}
 use Rattle.levels.specs.Built.{upTo, frameAt, Placed, levelOf}
-use Rattle.levels.proofs.Words.{reads, target-of}
-use Rattle.levels.proofs.Standing.{placed}
+use Rattle.levels.proofs.Words.{reads, target-of, source-told}
+use Rattle.levels.proofs.Standing.{at-placed}
 
 module _ (A : Accepted) (k : ℕ) (l : suc k < A .C .P .n) (rows : List (List ℕ)) {primes : List ℕ}
     (told : Reads (A .C .P) (A .C .P .n) primes rows) where
-  abbrev P : Presentation
+  abbrev pub P : Presentation
   P = A .C .P
 
-  abbrev n : ℕ
+  abbrev pub n : ℕ
   n = A .C .P .n
 
-  abbrev m : ℕ
+  abbrev pub m : ℕ
   m = order P n
 
-  abbrev L : Level
+  abbrev pub L : Level
   L = levels P m (suc k)
 
-  abbrev f : Frame
+  abbrev pub f : Frame
   f = frameAt A k
 
-  abbrev W : List ℕ
+  abbrev pub W : List ℕ
   W = upTo A (suc k)
 
   abbrev R : Rung
@@ -63,8 +63,7 @@ module _ (A : Accepted) (k : ℕ) (l : suc k < A .C .P .n) (rows : List (List �
   T = twins A (suc k) l (degOf f W) (λ r g. matrixIn W (matrixOf f W g r) (degOf f W r)) (targetOf f W) (reads A k lower)
       (λ j. toNF (suc (suc k)) (getD rows (pairNumber j (suc k)) [])) (λ j a b. sym (told .w-is (suc k) j a b))
 
-  module _ (r : ℕ) (h : r < length (levelOf A (suc k))) (mv : ¬ (targetOf (frameAt A k) (upTo A (suc k)) (suc k) r ≡ r)) (own : leaderIn (frameAt A k) (upTo A (suc k)) r ≡ r)
-      (j : ℕ) (ij : suc k < j) (jn : j < A .C .P .n) where
+  module _ (r : ℕ) (h : r < length L) (mv : ¬ (targetOf f W (suc k) r ≡ r)) (own : leaderIn f W r ≡ r) (j : ℕ) (ij : suc k < j) (jn : j < n) where
     moves : ¬ (repOf L r .ref (suc k) 0 ≡ r)
     moves e = mv (target-of A k lower (suc k) r h l ∙ e)
 
@@ -72,31 +71,18 @@ module _ (A : Accepted) (k : ℕ) (l : suc k < A .C .P .n) (rows : List (List �
     unfolding rung
     block-left t = block-is R r h (λ e. moves (sym (R .literal (suc k) r) ∙ e)) (sym (leader-of R r) ∙ leader-same T r ∙ own) j ij jn t
 
-    pub block-at : (t : ℕ) → blockAt (sourceIn (frameAt A k) (upTo A (suc k)) rows) j r t ≡ (suc (A .C .P .w (suc k) j .0) * t) % A .C .P .p (suc k)
-    block-at t =
-        ap (λ (u : NF (suc k)). blockAt (record {
-          m = m;
-          i = suc k;
-          p = P .p (suc k);
-          u = u;
-          w = λ j. toNF (suc (suc k)) (getD rows (pairNumber j (suc k)) []);
-          count = length L;
-          degree = degOf f W;
-          matrix = λ r g. matrixIn W (matrixOf f W g r) (degOf f W r);
-          target = targetOf f W;
-        }) j r t) (told .u-is (suc k) l)
-        ∙ sym (block-same T j r ij jn h t) ∙ block-left t
+    pub block-at : (t : ℕ) → blockAt (sourceIn f W rows) j r t ≡ (suc (P .w (suc k) j .0) * t) % P .p (suc k)
+    block-at t = ap (λ (S : Source). blockAt S j r t) (sym (source-told A k lower l rows told)) ∙ sym (block-same T j r ij jn h t) ∙ block-left t
 
-    pub unit-at : ¬ (A .C .P .p (suc k) ∣ suc (A .C .P .w (suc k) j .0))
+    pub unit-at : ¬ (P .p (suc k) ∣ suc (P .w (suc k) j .0))
     unfolding rung
     unit-at = moved-unit R j ij jn r h (λ e. moves (sym (R .literal (suc k) r) ∙ e))
 
-    pub once-at : (t t′ : ℕ) → t < A .C .P .p (suc k) → t′ < A .C .P .p (suc k)
-        → blockAt (sourceIn (frameAt A k) (upTo A (suc k)) rows) j r t ≡ blockAt (sourceIn (frameAt A k) (upTo A (suc k)) rows) j r t′ → t ≡ t′
+    pub once-at : (t t′ : ℕ) → t < P .p (suc k) → t′ < P .p (suc k) → blockAt (sourceIn f W rows) j r t ≡ blockAt (sourceIn f W rows) j r t′ → t ≡ t′
     unfolding rung
     once-at t t′ a b e = unit-injective (O R) (suc (P .w (suc k) j .0)) unit-at t t′ a b (sym (block-at t) ∙ e ∙ block-at t′)
 
-    pub visits-at : (b : ℕ) → b < A .C .P .p (suc k) → (t : ℕ) × (t < A .C .P .p (suc k)) × (blockAt (sourceIn (frameAt A k) (upTo A (suc k)) rows) j r t ≡ b)
+    pub visits-at : (b : ℕ) → b < P .p (suc k) → (t : ℕ) × (t < P .p (suc k)) × (blockAt (sourceIn f W rows) j r t ≡ b)
     unfolding rung
     visits-at b a = let (t, c, e) = unit-onto (O R) (suc (P .w (suc k) j .0)) unit-at b a in (t, c, block-at t ∙ e)
 
@@ -118,13 +104,10 @@ module _ (A : Accepted) (k : ℕ) (l : suc k < A .C .P .n) where
 -- ---- In any frame that says so
 
 pub fixing : (A : Accepted) (i : ℕ) (f : Frame) (W : List ℕ) → Placed A i f W → Fixing f W
-fixing A zero f W Q = absurd (omega (arith, Q .above))
-fixing A (suc k) f W Q = subst (λ f. Fixing f W) (sym (placed A k f W Q)) (subst (λ W. Fixing (frameAt A k) W) (sym (Q .words-are)) (record { stays = fixed-at A k (Q .below) }))
+fixing A = at-placed A (λ i. Fixing) (λ k l. record { stays = fixed-at A k l })
 
 pub visited : (A : Accepted) (i : ℕ) (f : Frame) (W : List ℕ) (rows : List (List ℕ)) {primes : List ℕ} → Placed A i f W
     → Reads (A .C .P) (A .C .P .n) primes rows → Cycling f W rows
-visited A zero f W rows Q told = absurd (omega (arith, Q .above))
-visited A (suc k) f W rows Q told =
-    subst (λ f. Cycling f W rows) (sym (placed A k f W Q))
-    (subst (λ W. Cycling (frameAt A k) W rows) (sym (Q .words-are))
-    (λ r h mv own j ij jn. record { once = once-at A k (Q .below) rows told r h mv own j ij jn; visits = visits-at A k (Q .below) rows told r h mv own j ij jn }))
+visited A i f W rows Q told = at-placed A (λ i f W. Cycling f W rows)
+    (λ k l r h mv own j ij jn. record { once = once-at A k l rows told r h mv own j ij jn; visits = visits-at A k l rows told r h mv own j ij jn })
+    i f W Q

@@ -88,9 +88,7 @@ module _ (A : Accepted) where
   pub line-below : (k r g c : ℕ) → r < length (levelOf A (suc k)) → g < A .C .P .n → c < degreeIn A k r → startOf k r + (g * degreeIn A k r + c) < linesTo A (suc k)
   line-below k r g c h a b =
       let d : g * degreeIn A k r + c < n * degreeIn A k r = digits-lt a b in
-      let e = start-suc k r in
-      let z = start-end k (suc r) h in
-      omega arith
+      omega (arith, start-suc k r, start-end k (suc r) h)
 
   -- ---- Words
 
@@ -110,8 +108,7 @@ module _ (A : Accepted) where
   unfolding wordAt upTo lineWords
   word-up k l w a b c =
       let e : k + (n - k) ≡ n = omega arith in
-      let z = upTo-length k in
-      let i : 8 * l + w < length (upTo A k) = omega arith in
+      let i : 8 * l + w < length (upTo A k) = omega (arith, upTo-length k) in
       sym (List·getD-append (upTo A k) (blocks (n - k) (λ j. levelWords n (suc (k + j)) (level (k + j)))) 0 (8 * l + w) i)
       ∙ ap (λ W. getD W (8 * l + w) 0) (sym (blocks-split k (n - k) (λ i. levelWords n (suc i) (level i))) ∙ ap (λ x. blocks x (λ i. levelWords n (suc i) (level i))) e)
 

@@ -46,18 +46,13 @@ module _ (A : Accepted) where
 
   pub order-step : (i : ℕ) → order (A .C .P) i ≤ order (A .C .P) (suc i)
   unfolding order
-  order-step i =
-      let two = A .C .two i in
-      let z : 1 * order P i ≤ P .p i * order P i = mul-le-mul-right (order P i) (omega arith) in
-      omega arith
+  order-step i = let z : 1 * order P i ≤ P .p i * order P i = mul-le-mul-right (order P i) (omega (arith, A .C .two i)) in omega arith
 
   order-more : (i k : ℕ) → order P i ≤ order P (k + i)
   order-more i zero = let e : 0 + i ≡ i = omega arith in subst (λ x. order P i ≤ order P x) (sym e) (omega arith)
   order-more i (suc k) =
       let e : suc (k + i) ≡ suc k + i = omega arith in
-      let a = order-more i k in
-      let b = order-step (k + i) in
-      subst (λ x. order P i ≤ order P x) e (omega arith)
+      subst (λ x. order P i ≤ order P x) e (omega (arith, order-more i k, order-step (k + i)))
 
   pub order-le : (i : ℕ) → i ≤ A .C .P .n → order (A .C .P) i ≤ modulus A
   order-le i l = let e : n - i + i ≡ n = omega arith in subst (λ x. order P i ≤ order P x) e (order-more i (n - i))
@@ -66,14 +61,12 @@ module _ (A : Accepted) where
   unfolding order
   prime-le i l =
       let a : P .p i * 1 ≤ P .p i * order P i = mul-le-mul-left (P .p i) (order-positive (A .C) i) in
-      let b : P .p i * order P i ≤ order P n = order-le (suc i) l in
-      omega arith
+      omega (arith, order-le (suc i) l)
 
   pub whole : (i : ℕ) → i < A .C .P .n → modulus A ≡ A .C .P .p i * (modulus A / A .C .P .p i)
   whole i l =
       let (s, q) = order-split P n i l in
-      let two = A .C .two i in
-      let e : m / P .p i ≡ order P i * s = ap (λ x. x / P .p i) q ∙ mul-div-right (order P i * s) (omega arith) in
+      let e : m / P .p i ≡ order P i * s = ap (λ x. x / P .p i) q ∙ mul-div-right (order P i * s) (omega (arith, A .C .two i)) in
       q ∙ ap (λ x. P .p i * x) (sym e)
 
   -- ---- A level
@@ -86,21 +79,13 @@ module _ (A : Accepted) where
     degree-pos r h = standing (setting A) (suc k) l .stands .degree-pos r h
 
     pub degree-le : (r : ℕ) → r < length (levelOf A (suc k)) → degreeIn A k r ≤ order (A .C .P) (suc k)
-    degree-le r h =
-        let a = self-square (d k r) in
-        let b = term-le (λ r. d k r * d k r) (length (level k)) r h in
-        let e = squares in
-        omega arith
+    degree-le r h = omega (arith, self-square (d k r), term-le (λ r. d k r * d k r) (length (level k)) r h, squares)
 
     pub columns-le : sum (length (levelOf A (suc k))) (degreeIn A k) ≤ order (A .C .P) (suc k)
     columns-le = subst (λ x. sum (length (level k)) (d k) ≤ x) squares (sum-le (length (level k)) (d k) (λ r. d k r * d k r) (λ r h. self-square (d k r)))
 
     pub reps-le : length (levelOf A (suc k)) ≤ order (A .C .P) (suc k)
-    reps-le =
-        let a = sum-le (length (level k)) (λ r. 1) (d k) (λ r h. degree-pos r h) in
-        let e = sum-const (length (level k)) 1 in
-        let b = columns-le in
-        omega arith
+    reps-le = omega (arith, sum-le (length (level k)) (λ r. 1) (d k) (λ r h. degree-pos r h), sum-const (length (level k)) 1, columns-le)
 
   -- ---- All of them
 
@@ -114,20 +99,18 @@ module _ (A : Accepted) where
   pub room : (k : ℕ) → k ≤ A .C .P .n → length (upTo A k) ≤ buildWords (A .C .P)
   unfolding buildWords lineWords
   room k l =
-      let a = lines-le k l in
       let b : n * sum k (λ i. order P (suc i)) ≤ n * sum n (λ i. order P (suc i)) = mul-le-mul-left n (sum-mono k n (λ i. order P (suc i)) l) in
-      subst (λ x. x ≤ 8 * (n * sum n (λ i. order P (suc i)))) (sym (upTo-length A k)) (omega arith)
+      omega (arith, lines-le k l, upTo-length A k)
 
   -- ---- Under the ceilings
 
   pub lines-small : WithinCeilings A → (k : ℕ) → k ≤ A .C .P .n → linesTo A k ≤ maxGenerators * (maxGenerators * maxOrder)
   lines-small S k l =
-      let few = S .few in
-      let low = S .low in
       let a = lines-le k l in
       let b : sum k (λ i. order P (suc i)) ≤ k * maxOrder = subst (λ x. sum k (λ i. order P (suc i)) ≤ x) (sum-const k maxOrder) (sum-le k (λ i. order P (suc i)) (λ i. maxOrder) (λ i h. below i h)) in
-      let c : sum k (λ i. order P (suc i)) ≤ maxGenerators * maxOrder = omega (arith, mul-le-mul-right {m = k} {n = maxGenerators} maxOrder (omega arith)) in
-      omega (arith, mul-le-mul {n₁ = n} {m₁ = sum k (λ i. order P (suc i))} {n₂ = maxGenerators} {m₂ = maxGenerators * maxOrder} few c)
+      let few : k ≤ maxGenerators = omega (arith, S .few) in
+      let c : sum k (λ i. order P (suc i)) ≤ maxGenerators * maxOrder = omega (arith, mul-le-mul-right {m = k} {n = maxGenerators} maxOrder few) in
+      omega (arith, mul-le-mul {n₁ = n} {m₁ = sum k (λ i. order P (suc i))} {n₂ = maxGenerators} {m₂ = maxGenerators * maxOrder} (S .few) c)
     where
       below : (i : ℕ) → i < k → order P (suc i) ≤ maxOrder
-      below i h = let z = order-le (suc i) (omega arith) in omega (arith, S .low)
+      below i h = omega (arith, order-le (suc i) (omega arith), S .low)

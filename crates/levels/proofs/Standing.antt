@@ -4,7 +4,8 @@
 --   iter-agree, home             orbits close after p steps
 --   holds                        d lines hold each matrix
 --   stands-at                    all of it, in the frame of the next level
---   placed, stands               the same in any frame that says so
+--   placed, at-placed            a frame that says so is that one, so what holds there holds in it
+--   stands                       all of it, in any frame that says so
 use mathlib.Core.Path.{_≡_, sym, _∙_, ap, subst}
 use mathlib.Core.List.{List}
 use Prim.Native.Nat.{ℕ, zero, suc, _+_, _*_, _-_, _≤_, _<_}
@@ -26,7 +27,7 @@ use Rattle.agreement.proofs.Table.{rungs}
 use Rattle.level.specs.Stored.{Below, Holds, entryIn}
 use Rattle.survey.specs.declared.Frame.{Frame}
 use Rattle.survey.specs.Below.{LevelStands, firstOf, degOf, matrixOf, targetOf}
-use Rattle.levels.specs.Built.{upTo, linesTo, degreeIn, frameAt, WithinCeilings, Placed, levelOf, modulus}
+use Rattle.levels.specs.Built.{upTo, linesTo, degreeIn, frameAt, WithinCeilings, Placed, modulus}
 use Rattle.levels.proofs.Places.{upTo-length, startOf, start-suc, start-end}
 use Rattle.levels.proofs.Room.{order-le, whole, degree-pos, degree-le, reps-le, lines-small}
 use Rattle.levels.proofs.Distinct.{rows-distinct}
@@ -38,57 +39,53 @@ iter-agree N f g e h zero r l = iter-zero f r ∙ sym (iter-zero g r)
 iter-agree N f g e h (suc k) r l = iter-suc f k r ∙ iter-agree N f g e h k (f r) (h r l) ∙ ap (iter g k) (e r l) ∙ sym (iter-suc g k r)
 
 module _ (A : Accepted) (k : ℕ) where
-  abbrev P : Presentation
+  abbrev pub P : Presentation
   P = A .C .P
 
-  abbrev n : ℕ
+  abbrev pub n : ℕ
   n = A .C .P .n
 
-  abbrev m : ℕ
+  abbrev pub m : ℕ
   m = order P n
 
-  abbrev L : Level
+  abbrev pub L : Level
   L = levels P m (suc k)
 
-  abbrev d : ℕ → ℕ
+  abbrev pub d : ℕ → ℕ
   d = degreeIn A k
 
-  abbrev f : Frame
+  abbrev pub f : Frame
   f = frameAt A k
 
-  abbrev W : List ℕ
+  abbrev pub W : List ℕ
   W = upTo A (suc k)
 
-  abbrev p : ℕ
+  abbrev pub p : ℕ
   p = P .p (suc k)
 
   -- ---- Targets
 
-  module _ (l : k < A .C .P .n) where
+  module _ (l : k < n) where
     abbrev standsHere : Standing (setting A) (suc k) L
     standsHere = standing (setting A) (suc k) l
 
-    pub ref-in : (j r : ℕ) → suc k ≤ j → j < A .C .P .n → r < length (levelOf A (suc k))
-        → repOf (levelOf A (suc k)) r .ref j 0 < length (levelOf A (suc k))
+    pub ref-in : (j r : ℕ) → suc k ≤ j → j < n → r < length L → repOf L r .ref j 0 < length L
     ref-in j r a b h = subst (λ s. s < length L) (standsHere .literal j r) (target-listed (A .C) n m (order-positive (A .C) n) (suc k) L (standsHere .F) (standsHere .stands) j a b r h)
 
-    pub target-in : (j r : ℕ) → suc k ≤ j → j < A .C .P .n → r < length (levelOf A (suc k))
-        → targetOf (frameAt A k) (upTo A (suc k)) j r < length (levelOf A (suc k))
+    pub target-in : (j r : ℕ) → suc k ≤ j → j < n → r < length L → targetOf f W j r < length L
     target-in j r a b h = subst (λ s. s < length L) (sym (target-of A k l j r h b)) (ref-in j r a b h)
 
-    pub target-degree : (j r : ℕ) → suc k ≤ j → j < A .C .P .n → r < length (levelOf A (suc k))
-        → degOf (frameAt A k) (upTo A (suc k)) (targetOf (frameAt A k) (upTo A (suc k)) j r) ≡ degOf (frameAt A k) (upTo A (suc k)) r
+    pub target-degree : (j r : ℕ) → suc k ≤ j → j < n → r < length L → degOf f W (targetOf f W j r) ≡ degOf f W r
     target-degree j r a b h =
         ap (degOf f W) (target-of A k l j r h b) ∙ deg-of A k l (repOf L r .ref j 0) (ref-in j r a b h) ∙ ap d (sym (standsHere .literal j r))
         ∙ standsHere .stands .degree-target j a b r h ∙ sym (deg-of A k l r h)
 
     -- ---- Lines
 
-    pub inside : (r : ℕ) → r < length (levelOf A (suc k)) → firstOf (frameAt A k) (upTo A (suc k)) (suc r) ≤ linesTo A (suc k)
+    pub inside : (r : ℕ) → r < length L → firstOf f W (suc r) ≤ linesTo A (suc k)
     inside r h = subst (λ x. x ≤ linesTo A (suc k)) (sym (first-of A k l (suc r) h)) (start-end A k (suc r) h)
 
-    pub holds : modulus A ≤ maxOrder → (r : ℕ) → r < length (levelOf A (suc k)) → (g : ℕ) → g < A .C .P .n
-        → Holds (modulus A) (upTo A (suc k)) (matrixOf (frameAt A k) (upTo A (suc k)) g r) (degOf (frameAt A k) (upTo A (suc k)) r)
+    pub holds : m ≤ maxOrder → (r : ℕ) → r < length L → (g : ℕ) → g < n → Holds m W (matrixOf f W g r) (degOf f W r)
     holds low r h g a = record {
       small = omega arith;
       fits =
@@ -108,11 +105,9 @@ module _ (A : Accepted) (k : ℕ) where
         lines : 8 * (startOf A k r + (g * d r + d r)) ≤ 8 * linesTo A (suc k)
         lines =
             let z : suc g * d r ≤ n * d r = mul-le-mul-right (d r) a in
-            let e = start-suc A k r in
-            let q = start-end A k (suc r) h in
-            omega arith
+            omega (arith, start-suc A k r, start-end A k (suc r) h)
 
-  module _ (l : suc k < A .C .P .n) where
+  module _ (l : suc k < n) where
     -- ---- Orbits
 
     lower : k < n
@@ -125,7 +120,7 @@ module _ (A : Accepted) (k : ℕ) where
         iter-agree (length L) (λ r. repOf L r .ref (suc k) 0) (R .F .target (suc k)) (λ r a. sym (R .literal (suc k) r)) (λ r a. ref-in lower (suc k) r (omega arith) l a) p r h
         ∙ O R .home r h
 
-    pub cycle : (r : ℕ) → r < length (levelOf A (suc k)) → iter (targetOf (frameAt A k) (upTo A (suc k)) (suc k)) (A .C .P .p (suc k)) r ≡ r
+    pub cycle : (r : ℕ) → r < length L → iter (targetOf f W (suc k)) p r ≡ r
     cycle r h =
         iter-agree (length L) (targetOf f W (suc k)) (λ r. repOf L r .ref (suc k) 0) (λ r a. target-of A k lower (suc k) r a l) (λ r a. target-in lower (suc k) r (omega arith) l a) p r h
         ∙ home r h
@@ -147,34 +142,26 @@ module _ (A : Accepted) (k : ℕ) where
         let b : p * 2 ≤ p * order P (suc k) = mul-le-mul-left p (omega (arith, A .C .two k)) in
         omega (arith, prime-order)
 
-    pub stands-at : WithinCeilings A → LevelStands (frameAt A k) (upTo A (suc k))
-    stands-at S =
-        let few = S .few in
-        let low = S .low in
-        let listed = listed-order in
-        let double = doubled in
-        let end = lines-small A S (suc k) (omega arith) in
-        let len = upTo-length A (suc k) in
-        record {
-          few = omega arith;
-          gens = (l, few);
-          prime = (A .C .two (suc k), omega arith);
-          units = A .units (suc k) l;
-          modulus = (order-positive (A .C) n, omega arith);
-          whole = whole A (suc k) l;
-          short = (omega arith, omega arith);
-          inside = inside lower;
-          wide = λ r h. (subst (λ x. 0 < x) (sym (deg-of A k lower r h)) (degree-pos A k lower r h), subst (λ x. p * x ≤ 65536) (sym (deg-of A k lower r h)) (narrow S r h));
-          valid = λ r h g a. holds lower low r h g a;
-          target = λ r h j a b. (target-in lower j r a b h, target-degree lower j r a b h);
-          cycle = cycle;
-        }
+    pub stands-at : WithinCeilings A → LevelStands f W
+    stands-at S = record {
+      few = omega (arith, S .low, listed-order);
+      gens = (l, S .few);
+      prime = (A .C .two (suc k), omega (arith, S .low, doubled));
+      units = A .units (suc k) l;
+      modulus = (order-positive (A .C) n, omega (arith, S .low));
+      whole = whole A (suc k) l;
+      short = (omega (arith, upTo-length A (suc k)), omega (arith, lines-small A S (suc k) (omega arith)));
+      inside = inside lower;
+      wide = λ r h. (subst (λ x. 0 < x) (sym (deg-of A k lower r h)) (degree-pos A k lower r h), subst (λ x. p * x ≤ 65536) (sym (deg-of A k lower r h)) (narrow S r h));
+      valid = λ r h g a. holds lower (S .low) r h g a;
+      target = λ r h j a b. (target-in lower j r a b h, target-degree lower j r a b h);
+      cycle = cycle;
+    }
       where
         narrow : WithinCeilings A → (r : ℕ) → r < length L → p * d r ≤ 65536
         narrow S r h =
             let a : p * d r ≤ p * order P (suc k) = mul-le-mul-left p (degree-le A k lower r h) in
-            let b = prime-order in
-            omega (arith, S .low)
+            omega (arith, prime-order, S .low)
 
 -- ---- In any frame that says so
 
@@ -187,6 +174,11 @@ placed A k f W Q =
     let end : f .end ≡ linesTo A (suc k) = omega arith in
     λ o. record { m = Q .modulus-is o; top = Q .top-is o; gens = Q .gens-is o; p = Q .prime-is o; base = base o; reps = Q .reps-is o; end = end o }
 
+pub at-placed : (A : Accepted) (Q : ℕ → Frame → List ℕ → Type 0) → ((k : ℕ) → suc k < A .C .P .n → Q (suc k) (frameAt A k) (upTo A (suc k)))
+    → (i : ℕ) (f : Frame) (W : List ℕ) → Placed A i f W → Q i f W
+at-placed A Q h zero f W p = absurd (omega (arith, p .above))
+at-placed A Q h (suc k) f W p =
+    subst (λ f. Q (suc k) f W) (sym (placed A k f W p)) (subst (Q (suc k) (frameAt A k)) (sym (p .words-are)) (h k (p .below)))
+
 pub stands : (A : Accepted) → WithinCeilings A → (i : ℕ) (f : Frame) (W : List ℕ) → Placed A i f W → LevelStands f W
-stands A S zero f W Q = absurd (omega (arith, Q .above))
-stands A S (suc k) f W Q = subst (λ f. LevelStands f W) (sym (placed A k f W Q)) (subst (LevelStands (frameAt A k)) (sym (Q .words-are)) (stands-at A k (Q .below) S))
+stands A S = at-placed A (λ i. LevelStands) (λ k l. stands-at A k l S)

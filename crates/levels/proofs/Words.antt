@@ -4,14 +4,15 @@
 --   word-of                   a word of a line
 --   size-of, column-below     matrices have as many columns as their degree, and their columns are in range
 --   reads                     all of it
+--   source-told               the level and the words of the presentation, as the formulas ask for them
 use mathlib.Core.Path.{_≡_, refl, sym, _∙_, ap, ap₂, subst}
-use mathlib.Core.List.{List}
+use mathlib.Core.List.{List, []}
 use Prim.Native.Nat.{ℕ, zero, suc, _+_, _*_, _-_, _≤_, _<_}
 use native.Mathlib.Omega.{arith}
 use native.Mathlib.Decide.{decLt}
 use lib.ListN.{length, getD}
 use lib.Seq.{ext-getD}
-use Rattle.definitions.specs.Presentation.{Presentation, order}
+use Rattle.definitions.specs.Presentation.{NF, toNF, pairNumber, Presentation, order}
 use Rattle.definitions.specs.Monomial.{Matrix, entry, col, Level, repOf}
 use Rattle.definitions.specs.Table.{DEG, REF, ROW, EXP, lineOf, wordAt}
 use Rattle.definitions.specs.Steps.{levels}
@@ -26,31 +27,33 @@ use Rattle.clifford.proofs.Standing.{Standing, standing, setting}
 use Rattle.agreement.proofs.Table.{ReadsLevel}
 use Rattle.level.specs.Stored.{Below, entryIn, matrixIn}
 use Rattle.survey.specs.declared.Frame.{Frame}
-use Rattle.survey.specs.Below.{firstOf, degOf, matrixOf, targetOf}
-use Rattle.levels.specs.Built.{upTo, degreeIn, frameAt, levelOf, modulus}
+use Rattle.survey.specs.Below.{firstOf, degOf, matrixOf, targetOf, sourceIn}
+use Rattle.levels.specs.Built.{upTo, degreeIn, frameAt}
 use Rattle.levels.proofs.Places.{startOf, start-zero, start-suc, word-in}
 use Rattle.levels.proofs.Room.{degree-pos}
+use Rattle.formulas.specs.Formulas.{Source}
+use Rattle.rows.specs.Rows.{Reads}
 
 module _ (A : Accepted) (k : ℕ) (l : k < A .C .P .n) where
-  abbrev P : Presentation
+  abbrev pub P : Presentation
   P = A .C .P
 
-  abbrev n : ℕ
+  abbrev pub n : ℕ
   n = A .C .P .n
 
-  abbrev m : ℕ
+  abbrev pub m : ℕ
   m = order P n
 
-  abbrev L : Level
+  abbrev pub L : Level
   L = levels P m (suc k)
 
-  abbrev d : ℕ → ℕ
+  abbrev pub d : ℕ → ℕ
   d = degreeIn A k
 
-  abbrev f : Frame
+  abbrev pub f : Frame
   f = frameAt A k
 
-  abbrev W : List ℕ
+  abbrev pub W : List ℕ
   W = upTo A (suc k)
 
   -- ---- Where, and the degree
@@ -61,33 +64,31 @@ module _ (A : Accepted) (k : ℕ) (l : k < A .C .P .n) where
       let e : startOf A k r ≡ startOf A k r + (0 * d r + 0) = omega arith in
       ap (λ x. wordAt W x DEG) e ∙ word-in A k r 0 0 DEG l h (A .positive) (degree-pos A k l r h) (omega arith)
 
-  pub first-of : (r : ℕ) → r ≤ length (levelOf A (suc k)) → firstOf (frameAt A k) (upTo A (suc k)) r ≡ startOf A k r
+  pub first-of : (r : ℕ) → r ≤ length L → firstOf f W r ≡ startOf A k r
   unfolding firstOf
   first-of zero h = sym (start-zero A k)
   first-of (suc r) h =
       ap (λ x. x + n * wordAt W x DEG) (first-of r (omega arith)) ∙ ap (λ x. startOf A k r + n * x) (degree-at r (omega arith)) ∙ sym (start-suc A k r)
 
-  pub deg-of : (r : ℕ) → r < length (levelOf A (suc k)) → degOf (frameAt A k) (upTo A (suc k)) r ≡ degreeIn A k r
+  pub deg-of : (r : ℕ) → r < length L → degOf f W r ≡ d r
   deg-of r h = ap (λ x. wordAt W x DEG) (first-of r (omega arith)) ∙ degree-at r h
 
-  pub line-of : (g r c : ℕ) → r < length (levelOf A (suc k)) → matrixOf (frameAt A k) (upTo A (suc k)) g r + c ≡ startOf A k r + (g * degreeIn A k r + c)
+  pub line-of : (g r c : ℕ) → r < length L → matrixOf f W g r + c ≡ startOf A k r + (g * d r + c)
   line-of g r c h = ap₂ (λ x y. x + g * y + c) (first-of r (omega arith)) (deg-of r h) ∙ omega arith
 
   -- ---- Words
 
-  pub word-of : (g r c w : ℕ) → r < length (levelOf A (suc k)) → g < A .C .P .n → c < degreeIn A k r → w < 8
-      → wordAt (upTo A (suc k)) (matrixOf (frameAt A k) (upTo A (suc k)) g r + c) w ≡ getD (lineOf (suc k) r (repOf (levelOf A (suc k)) r) g c) w 0
+  pub word-of : (g r c w : ℕ) → r < length L → g < n → c < d r → w < 8
+      → wordAt W (matrixOf f W g r + c) w ≡ getD (lineOf (suc k) r (repOf L r) g c) w 0
   word-of g r c w h a b e = ap (λ x. wordAt W x w) (line-of g r c h) ∙ word-in A k r g c w l h a b e
 
-  pub target-of : (j r : ℕ) → r < length (levelOf A (suc k)) → j < A .C .P .n
-      → targetOf (frameAt A k) (upTo A (suc k)) j r ≡ repOf (levelOf A (suc k)) r .ref j 0
+  pub target-of : (j r : ℕ) → r < length L → j < n → targetOf f W j r ≡ repOf L r .ref j 0
   unfolding lineOf
   target-of j r h a =
       let e : matrixOf f W j r ≡ matrixOf f W j r + 0 = omega arith in
       ap (λ x. wordAt W x REF) e ∙ word-of j r 0 REF h a (degree-pos A k l r h) (omega arith)
 
-  pub entry-of : (g r c : ℕ) → r < length (levelOf A (suc k)) → g < A .C .P .n → c < degreeIn A k r
-      → entryIn (upTo A (suc k)) (matrixOf (frameAt A k) (upTo A (suc k)) g r + c) ≡ col (repOf (levelOf A (suc k)) r .matrix g) c
+  pub entry-of : (g r c : ℕ) → r < length L → g < n → c < d r → entryIn W (matrixOf f W g r + c) ≡ col (repOf L r .matrix g) c
   unfolding lineOf
   entry-of g r c h a b = ap₂ entry (word-of g r c ROW h a b (omega arith)) (word-of g r c EXP h a b (omega arith))
 
@@ -109,16 +110,14 @@ module _ (A : Accepted) (k : ℕ) (l : k < A .C .P .n) where
         exp = (B a) .1 .1;
       })
 
-  pub size-of : (r g : ℕ) → r < length (levelOf A (suc k)) → g < A .C .P .n
-      → length (repOf (levelOf A (suc k)) r .matrix g) ≡ degreeIn A k r
+  pub size-of : (r g : ℕ) → r < length L → g < n → length (repOf L r .matrix g) ≡ d r
   size-of r g h a = go (decLt g (suc k))
     where
       go : Dec (g < suc k) → length (repOf L r .matrix g) ≡ d r
       go (yes b) = standsHere .stands .represents g b r h .size
       go (no b) = standsHere .stands .intertwines g (omega arith) a r h .size
 
-  pub column-below : (r g c : ℕ) → r < length (levelOf A (suc k)) → g < A .C .P .n → c < degreeIn A k r
-      → Below (modulus A) (degreeIn A k r) (col (repOf (levelOf A (suc k)) r .matrix g) c)
+  pub column-below : (r g c : ℕ) → r < length L → g < n → c < d r → Below m (d r) (col (repOf L r .matrix g) c)
   column-below r g c h a e = go (decLt g (suc k))
     where
       go : Dec (g < suc k) → Below m (d r) (col (repOf L r .matrix g) c)
@@ -127,9 +126,7 @@ module _ (A : Accepted) (k : ℕ) (l : k < A .C .P .n) where
           let S = standsHere .stands in
           shown-below r (standsHere .F .target g r) c (repOf L r .matrix g) _ h (S .degree-target g (omega arith) a r h) e (S .intertwines g (omega arith) a r h)
 
-  pub matrix-of : (r g : ℕ) → r < length (levelOf A (suc k)) → g < A .C .P .n
-      → repOf (levelOf A (suc k)) r .matrix g
-      ≡ matrixIn (upTo A (suc k)) (matrixOf (frameAt A k) (upTo A (suc k)) g r) (degOf (frameAt A k) (upTo A (suc k)) r)
+  pub matrix-of : (r g : ℕ) → r < length L → g < n → repOf L r .matrix g ≡ matrixIn W (matrixOf f W g r) (degOf f W r)
   unfolding col
   matrix-of r g h a =
       ext-getD (entry 0 0) (repOf L r .matrix g) (matrixIn W (matrixOf f W g r) (degOf f W r))
@@ -138,10 +135,23 @@ module _ (A : Accepted) (k : ℕ) (l : k < A .C .P .n) where
       let e : c < d r = subst (λ x. c < x) (size-of r g h a) b in
       sym (getD-table (λ (c : ℕ). entryIn W (matrixOf f W g r + c)) (degOf f W r) c (entry 0 0) (subst (λ x. c < x) (sym (deg-of r h)) e) ∙ entry-of g r c h a e))
 
-  pub reads : ReadsLevel A (suc k) (degOf (frameAt A k) (upTo A (suc k)))
-      (λ r g. matrixIn (upTo A (suc k)) (matrixOf (frameAt A k) (upTo A (suc k)) g r) (degOf (frameAt A k) (upTo A (suc k)) r)) (targetOf (frameAt A k) (upTo A (suc k)))
-  reads = record {
-    degrees = λ r h. sym (deg-of r h);
-    matrices = λ r g h a. matrix-of r g h a;
-    targets = λ j r a b h. sym (target-of j r h b);
-  }
+  pub reads : ReadsLevel A (suc k) (degOf f W) (λ r g. matrixIn W (matrixOf f W g r) (degOf f W r)) (targetOf f W)
+  reads = record { degrees = λ r h. sym (deg-of r h); matrices = λ r g h a. matrix-of r g h a; targets = λ j r a b h. sym (target-of j r h b) }
+
+  module _ (h : suc k < n) (rows : List (List ℕ)) {primes : List ℕ} (told : Reads P n primes rows) where
+    -- with u for the power word
+    abbrev pub sourceBy : NF (suc k) → Source
+    sourceBy u = record {
+      m = m;
+      i = suc k;
+      p = P .p (suc k);
+      u = u;
+      w = λ j. toNF (suc (suc k)) (getD rows (pairNumber j (suc k)) []);
+      count = length L;
+      degree = degOf f W;
+      matrix = λ r g. matrixIn W (matrixOf f W g r) (degOf f W r);
+      target = targetOf f W;
+    }
+
+    pub source-told : sourceBy (P .u (suc k)) ≡ sourceIn f W rows
+    source-told = ap sourceBy (sym (told .u-is (suc k) h))

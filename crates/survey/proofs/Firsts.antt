@@ -36,13 +36,8 @@ module _ (f : Frame) (W notes₀ : List ℕ) (r : ℕ) where
 
 module _ {f : Frame} {W notes₀ : List ℕ} {r : ℕ} {D : Listed} (L : Located f W r D) where
   pub run-none : FirstsTo f W notes₀ r → NotingRun f W notes₀ r notes₀ (D .line) r
-  run-none F = record {
-    forth = omega arith;
-    within = omega (arith, L .listed);
-    len = refl;
-    noted = F;
-    reached = ap (λ (E : Listed). E .line) (L .is);
-  }
+  run-none F =
+      record { forth = omega arith; within = omega (arith, L .listed); len = refl; noted = F; reached = ap (λ (E : Listed). E .line) (L .is) }
 
   module _ {notes : List ℕ} {line q : ℕ} (R : NotingRun f W notes₀ r notes line q) where
     pub run-more : {notes′ : List ℕ} {step : ℕ} → q < f .reps → wordAt W line DEG ≡ D .deg → step ≡ f .gens * D .deg → Put 5 0 q line notes notes′

@@ -1,6 +1,7 @@
 -- Marking the orbits of the generator on top, one member after the other.
 --
 --   marking-none               nothing is marked
+--   marking-next               where the orbit of r is marked, all orbits up to it are
 --   marking-step               one more member of the orbit of r
 --   marking-done               all members of the orbit of r, and so all orbits up to it
 --   marking-skip               r is marked already, so it begins no orbit
@@ -80,6 +81,21 @@ module _ (f : Frame) (W : List ℕ) (S : LevelStands f W) where
     later = λ q k _ _. h q k;
     others = λ q k _. h q k;
   }
+
+  -- where the orbit of r is marked, all orbits up to it are
+  marking-next : (r : ℕ) (a b : List ℕ) (k : ℕ) → MarkedTo f W a b r k
+      → ((q : ℕ) → q < f .reps → lead q ≡ r → (getD a q 0 ≡ lead q) × (getD b q 0 ≡ pos q)) → MarkedTo f W a b (r + 1) 0
+  marking-next r a b k M own = record {
+    long = M .long;
+    earlier = λ q l h. pick q l h (decLt (lead q) r);
+    these = λ q l e h. absurd (omega arith);
+    later = λ q l e h. M .others q l (omega (arith, e));
+    others = λ q l h. M .others q l (omega arith);
+  }
+    where
+      pick : (q : ℕ) → q < f .reps → lead q < r + 1 → Dec (lead q < r) → (getD a q 0 ≡ lead q) × (getD b q 0 ≡ pos q)
+      pick q l h (yes z) = M .earlier q l z
+      pick q l h (no z) = own q l (omega arith)
 
   module _ (r : ℕ) (hr : r < f .reps) (own : lead r ≡ r) where
     -- member k of the orbit has r for its leader
@@ -173,32 +189,10 @@ module _ (f : Frame) (W : List ℕ) (S : LevelStands f W) where
                 u (M .later q₀ l₀ (member k) (omega (arith, w)))
 
     pub marking-done : (a b : List ℕ) → MarkedTo f W a b r (f .p) → MarkedTo f W a b (r + 1) 0
-    marking-done a b M = record {
-      long = M .long;
-      earlier = λ q l h. pick q l h (decLt (lead q) r);
-      these = λ q l e h. absurd (omega arith);
-      later = λ q l e h. M .others q l (omega (arith, e));
-      others = λ q l h. M .others q l (omega arith);
-    }
-      where
-        pick : (q : ℕ) → q < f .reps → lead q < r + 1 → Dec (lead q < r) → (getD a q 0 ≡ lead q) × (getD b q 0 ≡ pos q)
-        pick q l h (yes z) = M .earlier q l z
-        pick q l h (no z) = let e : lead q ≡ r = omega arith in let t = M .these q l e (pos-below q l) in (t .0 ∙ sym e, t .1)
+    marking-done a b M = marking-next r a b (f .p) M (λ q l e. let t = M .these q l e (pos-below q l) in (t .0 ∙ sym e, t .1))
 
   pub marking-skip : (r : ℕ) (a b : List ℕ) → r < f .reps → ¬ (getD a r 0 ≡ f .reps) → MarkedTo f W a b r 0 → MarkedTo f W a b (r + 1) 0
-  marking-skip r a b l n M = record {
-    long = M .long;
-    earlier = λ q l h. pick q l h (decLt (lead q) r);
-    these = λ q l e h. absurd (omega arith);
-    later = λ q l e h. M .others q l (omega (arith, e));
-    others = λ q l h. M .others q l (omega arith);
-  }
-    where
-      pick : (q : ℕ) → q < f .reps → lead q < r + 1 → Dec (lead q < r) → (getD a q 0 ≡ lead q) × (getD b q 0 ≡ pos q)
-      pick q h′ h (yes z) = M .earlier q h′ z
-      pick q h′ h (no z) =
-          let e : lead q ≡ r = omega arith in
-          absurd (n (M .later r l (ap lead (sym e) ∙ lead-lead q h′ ∙ e) (omega arith)))
+  marking-skip r a b l n M = marking-next r a b 0 M (λ q h e. absurd (n (M .later r l (ap lead (sym e) ∙ lead-lead q h ∙ e) (omega arith))))
 
   -- an unmarked r begins its orbit
   pub marking-own : (r : ℕ) (a b : List ℕ) → r < f .reps → getD a r 0 ≡ f .reps → MarkedTo f W a b r 0 → lead r ≡ r

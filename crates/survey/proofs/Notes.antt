@@ -5,6 +5,7 @@
 --   inside-orbited             the same where orbits are noted
 --   beside-none, beside-put    nothing is stored; one more number in a field
 --   orbited-beside             orbits stay noted where another field is stored
+--   array-filled               a field that is stored for all representations
 --   noted-led, noted-other     the leader that is noted is the representation itself, or another
 use mathlib.Core.Path.{_≡_, refl, sym, _∙_, subst}
 use mathlib.Core.List.{List}
@@ -12,7 +13,7 @@ use Prim.Native.Nat.{ℕ, _<_, _≤_}
 use native.Mathlib.Omega.{arith}
 use lib.ListN.{length, getD}
 use Rattle.fields.specs.Fields.{field, Inside, Put}
-use Rattle.fields.proofs.Rows.{field-long}
+use Rattle.fields.proofs.Rows.{field-long, Filled}
 use Rattle.survey.specs.declared.Frame.{Frame}
 use Rattle.survey.specs.Notes.{leaders, Beside}
 use Rattle.survey.specs.Below.{leaderIn, positionIn, Array, Lines, Orbited}
@@ -46,6 +47,10 @@ orbited-beside {f} {W} {a} {b} k h B O = record {
   leaders-are = subst (λ x. Array f W x (leaderIn f W)) (sym (B .kept 1 (omega arith) (λ e. omega (arith, e)))) (O .leaders-are);
   places-are = subst (λ x. Array f W x (positionIn f W)) (sym (B .kept 2 (omega arith) (λ e. omega (arith, e)))) (O .places-are);
 }
+
+pub array-filled : {f : Frame} {W a b : List ℕ} {g : ℕ → ℕ} {r : ℕ} (k : ℕ) → Orbited f W a → Beside k a b → Filled (field 5 k b) g r → r ≡ f .reps
+    → Array f W (field 5 k b) g
+array-filled {a = a} {b} k O B F e = record { long = rows-stay _ 0 k a b (B .len) (O .lines .long); at = λ j h. F j (omega (arith, e)) }
 
 -- ---- Leaders, read off the notes
 

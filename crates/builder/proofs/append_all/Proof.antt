@@ -26,34 +26,23 @@ loop-holds : tie.Need-loop-holds Inv-loop μ-loop
 loop-holds c = (search needs, search needs, refl, going-none (le-refl _) (omega (arith, c .before .before .before .pre .1 .room)))
 
 append-above-requires : tie.Need-append-above-requires Inv-loop μ-loop
-append-above-requires c κs = let z = c .before .before .before .before .before .before .before in
-    let f = z .args .f in
-    let l = c .before .before .before .loop in
-    let G = l .inv .3 in
+append-above-requires c κs = let z = c .before .before .before .before .before .before .before in let f = z .args .f in
+    let l = c .before .before .before .loop in let G = l .inv .3 in
     let less-than : l .r < f .reps = search needs in
     let S = sourceIn f (lowOf f (now (z .args .words))) (now (z .args .rows)) in
-    let room = above-space (f .gens) S (l .r) G less-than (z .pre .1 .room) in
+    let room = above-space (f .gens) S _ G less-than (z .pre .1 .room) in
     let lent : BlocksLent f (l .blocks) = λ h. omega (arith, l .inv .2, z .pre .0 .1 h) in
     rw (G .below) ((z .pre .0 .0, less-than, lent), record { from = G .from; room = room })
 
 loop-again : tie.Need-loop-again Inv-loop μ-loop
-loop-again c = let l = c .before .before .before .before .before .before .before .before .loop in
-    let G = l .inv .3 in
+loop-again c = let l = c .before .before .before .before .before .before .before .before .loop in let G = l .inv .3 in
     (search needs, search needs, search needs, going-more G (rw (G .below) at (c .before .before .before .before .append-above .ensures)))
 
-same-length : tie.Need-same-length Inv-loop μ-loop
-same-length c = c .before .loop .inv .3 .len
-
-same-length-2 : tie.Need-same-length-2 Inv-loop μ-loop
-same-length-2 c = c .before .loop .inv .2
-
 returns : tie.Need-returns Inv-loop μ-loop
-returns c = let z = c .before .before .before .before .before in
-    let l = c .before .loop in
+returns c = let z = c .before .before .before .before .before in let l = c .before .loop in
     let e : l .r ≡ z .args .f .reps = omega arith in
     all-wrote (z .args .f) (lowOf (z .args .f) (now (z .args .words))) (now (z .args .rows)) (l .inv .3) e
 
 pub append-all-spec : {M : Type 1} → statement M
-append-all-spec =
-    tie.close
-    (tie.spec Inv-loop μ-loop loop-holds append-above-requires (λ c. search needs) (λ c. search needs) loop-again same-length same-length-2 returns)
+append-all-spec = tie.close (tie.spec Inv-loop μ-loop loop-holds append-above-requires (λ c. search needs) (λ c. search needs) loop-again
+    (λ c. c .before .loop .inv .3 .len) (λ c. c .before .loop .inv .2) returns)

@@ -3,22 +3,12 @@ use mathlib.Core.Path.{sym}
 use native.Mathlib.Omega.{arith}
 use native.Mathlib.Nat.{le-refl}
 use lib.Seq.{length-take-le}
-use denote.Ref.{now}
 use borrow.Author.Needs.{needs}
 use Rattle.builder.proofs.append_level.Statement.{statement}
 use Rattle.builder.proofs.append_level.Tie as tie
 
-mul-n : tie.Need-mul-n
-mul-n c = omega (arith, c .before .before .before .before .pre .0 .room)
-
-slice-reshare-prefix-survey-level : tie.Need-slice-reshare-prefix-survey-level
-slice-reshare-prefix-survey-level c = omega (arith, c .before .before .before .before .pre .0 .room)
-
 slice-aggregate-survey-level : tie.Need-slice-aggregate-survey-level
-slice-aggregate-survey-level c = let z = c .before .before .before .before .before in sym (length-take-le _ (now (z .args .words)) (omega (arith, z .pre .0 .room)))
-
-survey-level-requires : tie.Need-survey-level-requires
-survey-level-requires c κs = let z = c .before .before .before .before .before .before in (z .pre .0 .sound, z .pre .1)
+slice-aggregate-survey-level c = let z = c .before .before .before .before .before in sym (length-take-le _ _ (omega (arith, z .pre .0 .room)))
 
 append-all-requires : tie.Need-append-all-requires
 append-all-requires c κs = let s = c .before .before .before .before .before in
@@ -27,11 +17,10 @@ append-all-requires c κs = let s = c .before .before .before .before .before in
 
 returns : tie.Need-returns
 returns c = let a = c .before .before .before .before in
-    let s = a .before .before .before .before .before .before in
-    record { wrote = a .append-all .ensures; reps-is = s .survey-level .ensures .0 }
+    record { wrote = a .append-all .ensures; reps-is = a .before .before .before .before .before .before .survey-level .ensures .0 }
 
 pub append-level-spec : {M : Type 1} → statement M
-append-level-spec =
-    tie.close
-    (tie.spec mul-n slice-reshare-prefix-survey-level slice-aggregate-survey-level survey-level-requires append-all-requires (λ c. search needs)
+append-level-spec = tie.close (tie.spec (λ c. omega (arith, c .before .before .before .before .pre .0 .room))
+    (λ c. omega (arith, c .before .before .before .before .pre .0 .room)) slice-aggregate-survey-level
+    (λ c κs. let z = c .before .before .before .before .before .before in (z .pre .0 .sound, z .pre .1)) append-all-requires (λ c. search needs)
     (λ c. search needs) (λ c. search needs) returns)

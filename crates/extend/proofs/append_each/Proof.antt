@@ -1,11 +1,9 @@
 -- `append_each` appends the extensions one behind the other.
-use mathlib.Core.Path.{_≡_, sym, ap, subst}
+use mathlib.Core.Path.{_≡_, sym, subst}
 use Prim.Native.Nat.{_*_, _-_, _≤_, _<_}
 use native.Mathlib.Omega.{arith}
 use denote.Ref.{now}
 use borrow.Author.Needs.{needs}
-use Rattle.definitions.specs.Lists.{blocks}
-use Rattle.text.proofs.Writing.{wrote-as}
 use Rattle.lines.proofs.Appending.{Going, going-more, going-even, space-none}
 use Rattle.survey.specs.Below.{lowOf}
 use Rattle.extend.specs.Extending.{Extends, extensionWords, extensionsWords}
@@ -20,15 +18,9 @@ Inv-loop words₀ rows targets f o at pos₀ p k₀ words pos k =
 abbrev μ-loop : tie.MeasureT-loop
 μ-loop words₀ rows targets f o at pos₀ p k₀ words pos k = p - k
 
-loop-holds : tie.Need-loop-holds Inv-loop μ-loop
-loop-holds c = let z = c .before .before in (search needs, search needs, space-none (z .pre .1))
-
 append-extension-requires : tie.Need-append-extension-requires Inv-loop μ-loop
-append-extension-requires c κs = let z = c .before .before .before .before .before in
-    let l = c .before .before .loop in
-    let f = z .args .f in
-    let E = z .pre .0 in
-    let G = l .inv .2 in
+append-extension-requires c κs = let z = c .before .before .before .before .before in let l = c .before .before .loop in
+    let f = z .args .f in let E = z .pre .0 in let G = l .inv .2 in
     let less : l .k < f .p = search needs in (
       (subst (λ W. Extends f W (now (z .args .rows)) (now (z .args .targets)) (z .args .o)) (sym (G .below)) E, less),
       going-even (f .p) (8 * (f .gens * z .args .o .source .deg)) (extension-length E) G less (z .pre .1 .room),
@@ -38,19 +30,10 @@ loop-again : tie.Need-loop-again Inv-loop μ-loop
 loop-again c = let G = c .before .before .before .before .before .loop .inv .2 in
     (search needs, search needs, going-more G (rw (G .below) at (c .before .before .append-extension .ensures)))
 
-same-length : tie.Need-same-length Inv-loop μ-loop
-same-length c = c .before .loop .inv .2 .len
-
 returns : tie.Need-returns Inv-loop μ-loop
 unfolding extensionsWords
-returns c = let z = c .before .before .before .before in
-    let l = c .before .loop in
-    let f = z .args .f in
-    let e : l .k ≡ f .p = omega arith in
-    let W = lowOf f (now (z .args .words)) in
-    wrote-as (l .inv .2 .wrote) (ap (λ n. blocks n (extensionWords f W (now (z .args .rows)) (z .args .o .rep))) e)
+returns c = let e : c .before .loop .k ≡ c .before .before .before .before .args .f .p = omega arith in rw e at (c .before .loop .inv .2 .wrote)
 
 pub append-each-spec : {M : Type 1} → statement M
-append-each-spec =
-    tie.close
-    (tie.spec Inv-loop μ-loop loop-holds append-extension-requires (λ c. search needs) (λ c. search needs) loop-again same-length returns)
+append-each-spec = tie.close (tie.spec Inv-loop μ-loop (λ c. (search needs, search needs, space-none (c .before .before .pre .1)))
+    append-extension-requires (λ c. search needs) (λ c. search needs) loop-again (λ c. c .before .loop .inv .2 .len) returns)

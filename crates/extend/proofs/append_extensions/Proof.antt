@@ -15,26 +15,9 @@ use borrow.Author.Needs.{needs}
 use Rattle.extend.proofs.append_extensions.Statement.{statement}
 use Rattle.extend.proofs.append_extensions.Tie as tie
 
-mul-n : tie.Need-mul-n
-mul-n c = let z = c .before .before .before in omega (arith, space-low (z .pre .1))
-
-slice-reshare-prefix-find-targets : tie.Need-slice-reshare-prefix-find-targets
-slice-reshare-prefix-find-targets c = let z = c .before .before .before in omega (arith, space-low (z .pre .1))
-
-slice-aggregate-find-targets : tie.Need-slice-aggregate-find-targets
-slice-aggregate-find-targets c = let z = c .before .before .before .before in sym (length-take-le _ (now (z .args .words)) (space-low (z .pre .1)))
-
 find-targets-requires : tie.Need-find-targets-requires
 find-targets-requires c κs = let z = c .before .before .before .before .before in
     (z .pre .0 .0, z .pre .0 .1, z .pre .0 .2, omega (arith, z .pre .0 .0 .sound .stands .gens))
-
-slice-reshare-prefix-find-origin : tie.Need-slice-reshare-prefix-find-origin
-slice-reshare-prefix-find-origin c = let z = c .before .before .before .before .before .before .before in
-    omega (arith, space-low (z .pre .1))
-
-slice-aggregate-find-origin : tie.Need-slice-aggregate-find-origin
-slice-aggregate-find-origin c = let z = c .before .before .before .before .before .before .before .before in
-    sym (length-take-le _ (now (z .args .words)) (space-low (z .pre .1)))
 
 find-origin-requires : tie.Need-find-origin-requires
 find-origin-requires c κs = let z = c .before .before .before .before .before .before .before .before in
@@ -42,25 +25,23 @@ find-origin-requires c κs = let z = c .before .before .before .before .before .
 
 append-each-requires : tie.Need-append-each-requires
 append-each-requires c κs = let found = c .before .before .before .before .before in
-    let z = found .before .before .before .before .before .before in
-    let f = z .args .f in
-    let R = found .find-targets .ensures in
+    let z = found .before .before .before .before .before .before in let f = z .args .f in
     let e = c .before .before .find-origin .ensures in (
-      origin-extends (z .pre .0 .0) (z .pre .0 .1) (z .pre .0 .2) R e,
+      origin-extends (z .pre .0 .0) (z .pre .0 .1) (z .pre .0 .2) (found .find-targets .ensures) e,
       subst (λ (o : Origin). Space (f .end) (z .args .at) (f .p * (8 * (f .gens * o .source .deg))) (now (z .args .words))) (sym e) (z .pre .1),
     )
 
 returns : tie.Need-returns
 returns c = let found = c .before .before .before .before .before .before .before .before in
-    let z = found .before .before .before .before .before .before in
-    let f = z .args .f in
+    let z = found .before .before .before .before .before .before in let f = z .args .f in
     let e = c .before .before .before .before .before .find-origin .ensures in
     let W = lowOf f (now (z .args .words)) in
     wrote-as (c .before .before .append-each .ensures) (ap (λ (o : Origin). extensionsWords f W (now (z .args .rows)) (o .rep)) e)
 
 pub append-extensions-spec : {M : Type 1} → statement M
-append-extensions-spec =
-    tie.close
-    (tie.spec mul-n slice-reshare-prefix-find-targets slice-aggregate-find-targets (λ c. search needs) find-targets-requires
-    slice-reshare-prefix-find-origin slice-aggregate-find-origin find-origin-requires (λ c. search needs) append-each-requires (λ c. search needs)
-    returns)
+append-extensions-spec = tie.close (tie.spec (λ c. omega (arith, space-low (c .before .before .before .pre .1)))
+    (λ c. omega (arith, space-low (c .before .before .before .pre .1)))
+    (λ c. sym (length-take-le _ _ (space-low (c .before .before .before .before .pre .1)))) (λ c. search needs) find-targets-requires
+    (λ c. omega (arith, space-low (c .before .before .before .before .before .before .before .pre .1)))
+    (λ c. sym (length-take-le _ _ (space-low (c .before .before .before .before .before .before .before .before .pre .1)))) find-origin-requires
+    (λ c. search needs) append-each-requires (λ c. search needs) returns)

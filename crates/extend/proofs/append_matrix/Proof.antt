@@ -13,23 +13,20 @@ use Rattle.extend.proofs.append_matrix.Statement.{statement}
 use Rattle.extend.proofs.append_matrix.Tie as tie
 
 matrix-line-requires : tie.Need-matrix-line-requires
-matrix-line-requires c κs = let z = c .before .before .before in
-    located-line (z .pre .0 .0 .located) (z .args .g) (omega (arith, z .pre .0 .2))
+matrix-line-requires c κs = let z = c .before .before .before in located-line (z .pre .0 .0 .located) _ (omega (arith, z .pre .0 .2))
 
 append-copy-requires : tie.Need-append-copy-requires
-append-copy-requires c κs = let z = c .before .before .before .before in
-    let a = z .args in
+append-copy-requires c κs = let z = c .before .before .before .before in let a = z .args in
     let deg = ap (λ (h : Head). h .deg) (c .before .before .head .ensures) in (
-      omega (arith, c .matrix-line .ensures, deg, same-below (now (a .words)) (z .pre .0 .0) (a .g) (z .pre .0 .2)),
+      omega (arith, c .matrix-line .ensures, deg, same-below _ (z .pre .0 .0) _ (z .pre .0 .2)),
       subst (λ d. Space (a .f .end) (a .at) (8 * d) (now (a .words))) (sym deg) (z .pre .1),
     )
 
 returns : tie.Need-returns
 returns c = let z = c .before .before .before .before .before .before .before in
-    let a = z .args in
     let src = c .before .before .before .matrix-line .ensures in
     let head = c .before .before .before .before .before .head .ensures in
-    wrote-as (c .before .before .append-copy .ensures) (same-lines (z .pre .0 .0) (a .k) (a .g) (a .x) (z .pre .0 .2) (z .pre .0 .3) head src)
+    wrote-as (c .before .before .append-copy .ensures) (same-lines (z .pre .0 .0) _ _ _ (z .pre .0 .2) (z .pre .0 .3) head src)
 
 pub append-matrix-spec : {M : Type 1} → statement M
 append-matrix-spec = tie.close (tie.spec (λ c κs. search needs) matrix-line-requires append-copy-requires (λ c. search needs) returns)

@@ -10,29 +10,24 @@ use Rattle.extend.proofs.append_top.Statement.{statement}
 use Rattle.extend.proofs.append_top.Tie as tie
 
 mul-c : tie.Need-mul-c
-mul-c c = let z = c .before .before .before in
-    let C = z .pre .0 .0 in
-    omega (arith, C .factor-below (z .args .k) (z .pre .0 .1), C .located .stands .modulus)
+mul-c c = let z = c .before .before .before in let C = z .pre .0 .0 in
+    omega (arith, C .factor-below _ (z .pre .0 .1), C .located .stands .modulus)
 
 add-c : tie.Need-add-c
-add-c c = let z = c .before .before .before .before in
-    let C = z .pre .0 .0 in
-    omega (arith, C .factor-below (z .args .k) (z .pre .0 .1), C .located .stands .modulus)
+add-c c = let z = c .before .before .before .before in let C = z .pre .0 .0 in
+    omega (arith, C .factor-below _ (z .pre .0 .1), C .located .stands .modulus)
 
 matrix-line-requires : tie.Need-matrix-line-requires
-matrix-line-requires c κs = let z = c .before .before .before .before in
-    let S = z .pre .0 .0 .located in
-    located-line S (z .args .f .top) (omega (arith, S .stands .gens))
+matrix-line-requires c κs = let S = c .before .before .before .before .pre .0 .0 .located in
+    located-line S _ (omega (arith, S .stands .gens))
 
 append-block-requires : tie.Need-append-block-requires
-append-block-requires c κs = let z = c .before .before .before .before .before .before in
-    let C = z .pre .0 .0 in
-    let below = C .factor-below (z .args .k) (z .pre .0 .1) in
-    (piece-copied C (z .args .f .top) (omega (arith, C .located .stands .gens)) (c .before .matrix-line .ensures) below, z .pre .1)
+append-block-requires c κs = let z = c .before .before .before .before .before .before in let C = z .pre .0 .0 in
+    let below = C .factor-below _ (z .pre .0 .1) in
+    (piece-copied C _ (omega (arith, C .located .stands .gens)) (c .before .matrix-line .ensures) below, z .pre .1)
 
 returns : tie.Need-returns
-returns c = let z = c .before .before .before .before .before .before .before .before .before in
-    let a = z .args in
+returns c = let z = c .before .before .before .before .before .before .before .before .before in let a = z .args in
     let src = c .before .before .before .before .matrix-line .ensures in
     let head = c .before .before .before .before .before .before .before .head .ensures in
     wrote-as (c .before .before .append-block .ensures)

@@ -7,21 +7,10 @@ use Rattle.fields.proofs.Rows.{field-length, field-at, row-inside}
 use Rattle.fields.proofs.get.Statement.{statement}
 use Rattle.fields.proofs.get.Tie as tie
 
-mul-result : tie.Need-mul-result
-mul-result c = omega (arith, row-inside _ _ _ _ (c .pre))
-
-add-result : tie.Need-add-result
-add-result c = omega (arith, row-inside _ _ _ _ (c .pre))
-
-mul-result-2 : tie.Need-mul-result-2
-mul-result-2 c = omega (arith, row-inside _ _ _ _ (c .pre))
-
-shared-slice-read-result : tie.Need-shared-slice-read-result
-shared-slice-read-result c = omega (arith, row-inside _ _ _ _ (c .before .pre))
-
 returns : tie.Need-returns
 returns c = let a = c .before .args in
     sym (field-at (a .s) (a .k) (now (a .a)) (a .r) (subst (λ n. a .r < n) (field-length (a .s) (a .k) (now (a .a))) (c .before .pre .rows)))
 
 pub get-spec : {M : Type 1} → statement M
-get-spec = tie.close (tie.spec mul-result add-result mul-result-2 shared-slice-read-result returns)
+get-spec = tie.close (tie.spec (λ c. omega (arith, row-inside _ _ _ _ (c .pre))) (λ c. omega (arith, row-inside _ _ _ _ (c .pre)))
+    (λ c. omega (arith, row-inside _ _ _ _ (c .pre))) (λ c. omega (arith, row-inside _ _ _ _ (c .before .pre))) returns)

@@ -1,11 +1,9 @@
 -- `append_below` appends the blocks of a generator one behind the other.
-use mathlib.Core.Path.{_≡_, sym, ap}
+use mathlib.Core.Path.{_≡_, sym}
 use Prim.Native.Nat.{_*_, _-_, _≤_, _<_}
 use native.Mathlib.Omega.{arith}
 use lib.Seq.{length-take-le}
 use denote.Ref.{now}
-use Rattle.definitions.specs.Lists.{blocks}
-use Rattle.text.proofs.Writing.{wrote-as}
 use Rattle.lines.proofs.Appending.{Going, going-more, going-low, going-even, space-none, space-low}
 use Rattle.survey.specs.Below.{lowOf}
 use Rattle.induce.specs.Inducing.{stillIn, stillsIn}
@@ -21,18 +19,6 @@ Inv-loop words₀ notes blocks₁ f at i g n pos₀ p b₀ words pos b = (b ≤ 
 abbrev μ-loop : tie.MeasureT-loop
 μ-loop words₀ notes blocks₁ f at i g n pos₀ p b₀ words pos b = p - b
 
-mul-n : tie.Need-mul-n Inv-loop μ-loop
-mul-n c = let z = c .before .before .before .before in omega (arith, space-low (z .pre .1))
-
-loop-holds : tie.Need-loop-holds Inv-loop μ-loop
-loop-holds c = let z = c .before .before .before .before in (search needs, search needs, space-none (z .pre .1))
-
-slice-reshare-prefix-find-still : tie.Need-slice-reshare-prefix-find-still Inv-loop μ-loop
-slice-reshare-prefix-find-still c = going-low (c .before .loop .inv .2)
-
-slice-aggregate-find-still : tie.Need-slice-aggregate-find-still Inv-loop μ-loop
-slice-aggregate-find-still c = let l = c .before .before .loop in sym (length-take-le _ (l .words) (going-low (l .inv .2)))
-
 find-still-requires : tie.Need-find-still-requires Inv-loop μ-loop
 find-still-requires c κs = let z = c .before .before .before .before .before .before .before in
     let l = c .before .before .loop in
@@ -42,10 +28,7 @@ find-still-requires c κs = let z = c .before .before .before .before .before .b
 append-cell-requires : tie.Need-append-cell-requires Inv-loop μ-loop
 unfolding stillsIn
 append-cell-requires c κs = let z = c .before .before .before .before .before .before .before .before .before in
-    let l = c .before .before .before .before .loop in
-    let G = l .inv .2 in
-    let f = z .args .f in
-    let i = z .args .i in
+    let l = c .before .before .before .before .loop in let G = l .inv .2 in let f = z .args .f in let i = z .args .i in
     let less-than : l .b < f .p = omega (arith, c .before .before .before .loop-test .taken, l .inv .1) in
     let W = lowOf f (now (z .args .words)) in
     let space = going-even (f .p) (8 * i .deg) (λ b. cell-length f W i (z .args .g) (stillIn f W i (z .args .g) b)) G less-than (z .pre .1 .room) in
@@ -57,18 +40,12 @@ loop-again c = let G = c .before .before .before .before .before .before .before
     let E = c .before .before .before .before .find-still .ensures .0 in
     (search needs, search needs, going-more G (rw (E, G .below) at (c .before .before .append-cell .ensures)))
 
-same-length : tie.Need-same-length Inv-loop μ-loop
-same-length c = c .before .loop .inv .2 .len
-
 returns : tie.Need-returns Inv-loop μ-loop
-returns c = let z = c .before .before .before .before .before .before in
-    let l = c .before .loop in
-    let f = z .args .f in
-    let e : l .b ≡ f .p = omega arith in
-    wrote-as (l .inv .2 .wrote) (ap (λ n. blocks n (stillsIn f (lowOf f (now (z .args .words))) (z .args .i) (z .args .g))) e)
+returns c = let e : c .before .loop .b ≡ c .before .before .before .before .before .before .args .f .p = omega arith in
+    rw e at (c .before .loop .inv .2 .wrote)
 
 pub append-below-spec : {M : Type 1} → statement M
-append-below-spec =
-    tie.close
-    (tie.spec Inv-loop μ-loop mul-n loop-holds slice-reshare-prefix-find-still slice-aggregate-find-still find-still-requires append-cell-requires
-    (λ c. search needs) (λ c. search needs) loop-again same-length returns)
+append-below-spec = tie.close (tie.spec Inv-loop μ-loop (λ c. omega (arith, space-low (c .before .before .before .before .pre .1)))
+    (λ c. (search needs, search needs, space-none (c .before .before .before .before .pre .1))) (λ c. going-low (c .before .loop .inv .2))
+    (λ c. let l = c .before .before .loop in sym (length-take-le _ _ (going-low (l .inv .2)))) find-still-requires append-cell-requires
+    (λ c. search needs) (λ c. search needs) loop-again (λ c. c .before .loop .inv .2 .len) returns)

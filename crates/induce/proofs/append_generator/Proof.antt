@@ -17,43 +17,22 @@ append-below-requires c κs = let z = c .before .before .before .before .before 
     (record { listing = record { rows = now (z .args .rows); known = z .pre .0 .0 }; degree = z .pre .1 .0; inside = z .pre .0 .1 }, z .pre .1 .1)
 
 returns : tie.Need-returns
-returns c = let s = c .before .before in
-    let z = s .before .before .before .before .before .before .before .before in
+returns c = let s = c .before .before in let z = s .before .before .before .before .before .before .before .before in
     let a = z .args in
-    let are = stills-are (a .f) (lowOf (a .f) (now (a .words))) (now (a .rows)) (now (a .notes)) _ (a .i) (z .pre .0 .0) (a .g) in
+    let are = stills-are _ (lowOf (a .f) (now (a .words))) _ _ _ _ (z .pre .0 .0) _ in
     (wrote-as (c .before .before .append-below .ensures) (are (s .before .before .before .if1 .taken) (z .pre .1 .0)), z .pre .0 .0)
 
-mul-n : tie.Need-mul-n
-mul-n c = let z = c .before .before .before .before .before .before in omega (arith, space-low (z .pre .1 .1))
-
-slice-reshare-prefix-induced-target : tie.Need-slice-reshare-prefix-induced-target
-slice-reshare-prefix-induced-target c = let z = c .before .before .before .before .before .before in space-low (z .pre .1 .1)
-
-slice-aggregate-induced-target : tie.Need-slice-aggregate-induced-target
-slice-aggregate-induced-target c = let z = c .before .before .before .before .before .before .before in
-    sym (length-take-le _ (now (z .args .words)) (space-low (z .pre .1 .1)))
-
 induced-target-requires : tie.Need-induced-target-requires
-induced-target-requires c κs = let z = c .before .before .before .before .before .before .before in
-    let I = z .pre .0 .0 in
+induced-target-requires c κs = let z = c .before .before .before .before .before .before .before in let I = z .pre .0 .0 in
     ((now (z .args .rows), I .surveyed), I .leads .listed, z .pre .0 .1)
-
-slice-reshare-prefix-find-scalars : tie.Need-slice-reshare-prefix-find-scalars
-slice-reshare-prefix-find-scalars c = let z = c .before .before .before .before .before .before .before .before in space-low (z .pre .1 .1)
 
 slice-aggregate-find-scalars : tie.Need-slice-aggregate-find-scalars
 slice-aggregate-find-scalars c = let z = c .before .before .before .before .before .before .before .before .before in
-    sym (length-take-le _ (now (z .args .words)) (space-low (z .pre .1 .1)))
-
-find-scalars-requires : tie.Need-find-scalars-requires
-find-scalars-requires c κs = let s = c .before .before in
-    let z = s .before .before .before .before .before .before .before .before in
-    z .pre .0
+    sym (length-take-le _ _ (space-low (z .pre .1 .1)))
 
 append-cells-requires : tie.Need-append-cells-requires
 append-cells-requires c κs = let s = c .before .before .before .before .before .before .before in
-    let z = s .before .before .before .before .before .before .before .before in
-    let a = z .args in
+    let z = s .before .before .before .before .before .before .before .before in let a = z .args in
     let E = c .before .before .before .before .find-scalars .ensures in
     let small = scalars-small (a .f) (lowOf (a .f) (now (a .words))) (now (a .rows)) (now (a .notes)) _ (a .i) (E .0) (a .g) in (
       record {
@@ -65,18 +44,18 @@ append-cells-requires c κs = let s = c .before .before .before .before .before 
     )
 
 returns-2 : tie.Need-returns-2
-returns-2 c = let t = c .before .before .before .before .before .before .before in
-    let s = t .before .before .before in
-    let z = s .before .before .before .before .before .before .before .before in
-    let a = z .args in
+returns-2 c = let t = c .before .before .before .before .before .before .before in let s = t .before .before .before in
+    let z = s .before .before .before .before .before .before .before .before in let a = z .args in
     let E = t .find-scalars .ensures in
     let high : a .f .top ≤ a .g = omega (arith, s .before .before .before .if1 .left) in
-    let are = cells-are (a .f) (lowOf (a .f) (now (a .words))) (now (a .rows)) (now (a .notes)) _ (a .i) (E .0) (a .g) _ in
+    let are = cells-are _ (lowOf (a .f) (now (a .words))) _ _ _ _ (E .0) _ _ in
     (wrote-as (c .before .before .append-cells .ensures) (are high (z .pre .0 .1) (z .pre .1 .0) (E .1) (s .induced-target .ensures)), E .0)
 
 pub append-generator-spec : {M : Type 1} → statement M
-append-generator-spec =
-    tie.close
-    (tie.spec append-below-requires (λ c. search needs) (λ c. search needs) returns mul-n slice-reshare-prefix-induced-target
-    slice-aggregate-induced-target induced-target-requires slice-reshare-prefix-find-scalars slice-aggregate-find-scalars find-scalars-requires
-    append-cells-requires (λ c. search needs) (λ c. search needs) returns-2)
+append-generator-spec = tie.close (tie.spec append-below-requires (λ c. search needs) (λ c. search needs) returns
+    (λ c. omega (arith, space-low (c .before .before .before .before .before .before .pre .1 .1)))
+    (λ c. space-low (c .before .before .before .before .before .before .pre .1 .1))
+    (λ c. sym (length-take-le _ _ (space-low (c .before .before .before .before .before .before .before .pre .1 .1)))) induced-target-requires
+    (λ c. space-low (c .before .before .before .before .before .before .before .before .pre .1 .1)) slice-aggregate-find-scalars
+    (λ c κs. let s = c .before .before .before in s .before .before .before .before .before .before .before .pre .0) append-cells-requires
+    (λ c. search needs) (λ c. search needs) returns-2)

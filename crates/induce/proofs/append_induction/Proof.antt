@@ -25,23 +25,12 @@ Inv-loop words₀ rows notes blocks₀ f at r n i pos₀ gens g₀ words blocks�
 abbrev μ-loop : tie.MeasureT-loop
 μ-loop words₀ rows notes blocks₀ f at r n i pos₀ gens g₀ words blocks₁ pos g = gens - g
 
-mul-n : tie.Need-mul-n Inv-loop μ-loop
-mul-n c = let z = c .before .before .before .before in omega (arith, space-low (z .pre .1))
-
-slice-reshare-prefix-find-induction : tie.Need-slice-reshare-prefix-find-induction Inv-loop μ-loop
-slice-reshare-prefix-find-induction c = let z = c .before .before .before .before in space-low (z .pre .1)
-
-slice-aggregate-find-induction : tie.Need-slice-aggregate-find-induction Inv-loop μ-loop
-slice-aggregate-find-induction c = let z = c .before .before .before .before .before in
-    sym (length-take-le _ (now (z .args .words)) (space-low (z .pre .1)))
-
 find-induction-requires : tie.Need-find-induction-requires Inv-loop μ-loop
 find-induction-requires c κs = let z = c .before .before .before .before .before .before in
     ((now (z .args .rows), z .pre .0 .0), z .pre .0 .1 .listed, z .pre .0 .2)
 
 loop-holds : tie.Need-loop-holds Inv-loop μ-loop
-loop-holds c = let z = c .before .before .before .before .before .before .before .before .before in
-    let a = z .args in
+loop-holds c = let z = c .before .before .before .before .before .before .before .before .before in let a = z .args in
     let E = c .before .before .find-induction .ensures in
     let I : Inducing (a .f) (lowOf (a .f) (now (a .words))) (now (a .rows)) (now (a .notes)) _ (a .r) =
     record { surveyed = z .pre .0 .0; leads = z .pre .0 .1; orbit-is = E .1 } in
@@ -49,45 +38,33 @@ loop-holds c = let z = c .before .before .before .before .before .before .before
     (search needs, search needs, refl, subst (Inducing (a .f) _ _ _ _) (sym leader) I, space-none (z .pre .1))
 
 append-generator-requires : tie.Need-append-generator-requires Inv-loop μ-loop
-append-generator-requires c κs = let s = c .before .before .before in
-    let l = s .loop in
-    let t = s .before .before .before in
-    let z = t .before .before .before .before .before .before .before in
-    let f = z .args .f in
-    let G = l .inv .4 in
+append-generator-requires c κs = let s = c .before .before .before in let l = s .loop in let t = s .before .before .before in
+    let z = t .before .before .before .before .before .before .before in let f = z .args .f in let G = l .inv .4 in
     let W = lowOf f (now (z .args .words)) in
-    let i = t .find-induction .result in
-    let E = t .find-induction .ensures .0 in
+    let i = t .find-induction .result in let E = t .find-induction .ensures .0 in
     let less-than : l .g < f .gens = omega (arith, c .before .before .loop-test .taken, l .inv .1) in
-    let degree = induced-degree f W (now (z .args .notes)) i (z .args .r) E in
-    let room = induction-room f W (now (z .args .notes)) i (z .args .r) E (z .pre .1) in
+    let degree = induced-degree _ _ _ i _ E in
+    let room = induction-room _ _ _ i _ E (z .pre .1) in
     let space = going-even (f .gens) _ (λ g. induced-length f W (now (z .args .rows)) i g degree) G less-than room in
     rw (G .below) ((l .inv .3, less-than), (degree, space))
 
 loop-again : tie.Need-loop-again Inv-loop μ-loop
-loop-again c = let l = c .before .before .before .before .before .before .before .before .loop in
-    let G = l .inv .4 in
+loop-again c = let l = c .before .before .before .before .before .before .before .before .loop in let G = l .inv .4 in
     let A = c .before .before .before .before .append-generator .ensures in
     (search needs, search needs, search needs, rw (G .below) at (A .1), going-more G (rw (G .below) at (A .0)))
 
-same-length : tie.Need-same-length Inv-loop μ-loop
-same-length c = c .before .loop .inv .4 .len
-
 returns : tie.Need-returns Inv-loop μ-loop
-returns c = let s = c .before in
-    let l = s .loop in
-    let t = s .before .before .before in
-    let z = t .before .before .before .before .before .before .before in
-    let f = z .args .f in
+returns c = let s = c .before in let l = s .loop in let t = s .before .before .before in
+    let z = t .before .before .before .before .before .before .before in let f = z .args .f in
     let W = lowOf f (now (z .args .words)) in
     let e : l .g ≡ f .gens = omega arith in
     let i = t .find-induction .result in
     let E = t .find-induction .ensures .0 in
-    let is = induction-is f W (now (z .args .notes)) i (z .args .r) E (now (z .args .rows)) (z .pre .0 .0) (z .pre .0 .1 .listed) in
+    let is = induction-is _ _ _ i _ E _ (z .pre .0 .0) (z .pre .0 .1 .listed) in
     wrote-as (l .inv .4 .wrote) (ap (λ n. blocks n (inducedWords f W (now (z .args .rows)) i)) e ∙ is)
 
 pub append-induction-spec : {M : Type 1} → statement M
-append-induction-spec =
-    tie.close
-    (tie.spec Inv-loop μ-loop mul-n slice-reshare-prefix-find-induction slice-aggregate-find-induction find-induction-requires loop-holds
-    append-generator-requires (λ c. search needs) (λ c. search needs) loop-again same-length (λ c. search needs) returns)
+append-induction-spec = tie.close (tie.spec Inv-loop μ-loop (λ c. omega (arith, space-low (c .before .before .before .before .pre .1)))
+    (λ c. space-low (c .before .before .before .before .pre .1))
+    (λ c. sym (length-take-le _ _ (space-low (c .before .before .before .before .before .pre .1)))) find-induction-requires loop-holds
+    append-generator-requires (λ c. search needs) (λ c. search needs) loop-again (λ c. c .before .loop .inv .4 .len) (λ c. search needs) returns)

@@ -8,14 +8,9 @@ use borrow.Author.Needs.{needs}
 use Rattle.induce.proofs.find_cell.Statement.{statement}
 use Rattle.induce.proofs.find_cell.Tie as tie
 
-find-still-requires : tie.Need-find-still-requires
-find-still-requires c κs = let z = c .before .before .before in (z .pre .0 .writing, z .pre .1)
-
 block-to-requires : tie.Need-block-to-requires
-block-to-requires c κs = let z = c .before .before .before .before in
-    let R = z .pre .0 in
-    let I = R .writing .listing .known in
-    let Y = I .surveyed in
+block-to-requires c κs = let z = c .before .before .before .before in let R = z .pre .0 in
+    let I = R .writing .listing .known in let Y = I .surveyed in
     ((Y .sound .stands, Y .orbited, I .leads .listed, R .high, R .writing .inside, z .pre .1), ap (λ (q : Cell). q .src) (c .find-still .ensures .0))
 
 block-by-requires : tie.Need-block-by-requires
@@ -23,10 +18,8 @@ block-by-requires c κs = let z = c .before .before .before .before .before in (
 
 returns : tie.Need-returns
 returns c = let z = c .before .before .before .before .before .before .before in
-    let e = c .before .before .before .find-still .ensures .0 in
-    let F = c .before .before .before .find-still .ensures .1 in
-    let to = c .before .before .block-to .ensures in
-    let by = c .before .block-by .ensures in
+    let e = c .before .before .before .find-still .ensures .0 in let F = c .before .before .before .find-still .ensures .1 in
+    let to = c .before .before .block-to .ensures in let by = c .before .block-by .ensures in
     let below = ap (λ (q : Cell). cond (leb (z .args .g) (z .args .f .top)) (q .refn) (z .args .x)) e in
     let refn = c .block-reference .ensures ∙ below in (
       (λ o. record { src = e o .src; from = z .args .b; to = to .0 o; by = by .0 o; refn = refn o }),
@@ -34,4 +27,5 @@ returns c = let z = c .before .before .before .before .before .before .before in
     )
 
 pub find-cell-spec : {M : Type 1} → statement M
-find-cell-spec = tie.close (tie.spec find-still-requires block-to-requires block-by-requires (λ c κs. search needs) returns)
+find-cell-spec = tie.close (tie.spec (λ c κs. let z = c .before .before .before in (z .pre .0 .writing, z .pre .1)) block-to-requires
+    block-by-requires (λ c κs. search needs) returns)

@@ -5,8 +5,6 @@ use borrow.Author.Needs.{needs}
 use Rattle.level.proofs.entry_at.Statement.{statement}
 use Rattle.level.proofs.entry_at.Tie as tie
 
-returns : tie.Need-returns
-returns c = ap₂ entry (c .before .word-at .ensures) (c .word-at2 .ensures)
-
 pub entry-at-spec : {M : Type 1} → statement M
-entry-at-spec = tie.close (tie.spec (λ c κs. search needs) (λ c κs. search needs) returns)
+entry-at-spec = tie.close (tie.spec (λ c κs. search needs) (λ c κs. search needs)
+    (λ c. ap₂ entry (c .before .word-at .ensures) (c .word-at2 .ensures)))

@@ -13,26 +13,15 @@ Inv-loop words at d most x m to₀ turns₀ to turns = Lapping m words at d most
 abbrev μ-loop : tie.MeasureT-loop
 μ-loop words at d most x m to₀ turns₀ to turns = most - turns
 
-apply-requires : tie.Need-apply-requires Inv-loop μ-loop
-apply-requires c κs = let z = c .before in (z .pre .0 .0, z .pre .1)
-
 loop-holds : tie.Need-loop-holds Inv-loop μ-loop
 loop-holds c = let z = c .before .before in
     lapping-once (z .pre .0 .0) (z .pre .1) (z .pre .0 .1) (c .apply .ensures .0) (c .apply .ensures .1)
 
 apply-requires-2 : tie.Need-apply-requires-2 Inv-loop μ-loop
-apply-requires-2 c κs = let l = c .before .before .before .before in
-    (l .before .before .before .pre .0 .0, l .loop .inv .lapped .below)
-
-add-turns : tie.Need-add-turns Inv-loop μ-loop
-add-turns c = omega (arith, ltb-true)
-
-loop-less : tie.Need-loop-less Inv-loop μ-loop
-loop-less c = omega (arith, ltb-true)
+apply-requires-2 c κs = let l = c .before .before .before .before in (l .before .before .before .pre .0 .0, l .loop .inv .lapped .below)
 
 loop-again : tie.Need-loop-again Inv-loop μ-loop
-loop-again c = let l = c .before .before .before .before .before in
-    let z = l .before .before .before in
+loop-again c = let l = c .before .before .before .before .before in let z = l .before .before .before in
     let A = c .apply2 .ensures in
     lapping-more (z .pre .0 .0) (z .pre .1) (l .loop .inv) (c .before .before .if1 .taken) (ltb-true _ _ (c .before .if2 .taken)) (A .0) (A .1)
 
@@ -41,8 +30,7 @@ returns c = let l = c .before .before .before .before in
     let all : l .before .before .before .args .most ≤ l .loop .turns = ltb-false _ _ (c .if2 .left) in
     record { lapping = l .loop .inv; ends = λ h. absurd (omega arith) }
 
-returns-2 : tie.Need-returns-2 Inv-loop μ-loop
-returns-2 c = record { lapping = c .before .before .before .loop .inv; ends = λ h. c .if1 .left }
-
 pub lap-from-spec : {M : Type 1} → statement M
-lap-from-spec = tie.close (tie.spec Inv-loop μ-loop apply-requires loop-holds apply-requires-2 add-turns loop-less loop-again returns returns-2)
+lap-from-spec = tie.close (tie.spec Inv-loop μ-loop (λ c κs. (c .before .pre .0 .0, c .before .pre .1)) loop-holds apply-requires-2
+    (λ c. omega (arith, ltb-true)) (λ c. omega (arith, ltb-true)) loop-again returns
+    (λ c. record { lapping = c .before .before .before .loop .inv; ends = λ h. c .if1 .left }))

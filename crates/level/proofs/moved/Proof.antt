@@ -1,34 +1,17 @@
 -- `moved` applies the matrix of a generator.
-use mathlib.Core.Path.{sym, ap, _∙_, subst}
-use Prim.Native.Nat.{_+_, _*_, _≤_}
+use mathlib.Core.Path.{ap, _∙_}
 use native.Mathlib.Omega.{arith}
-use native.Mathlib.Nat.{le-refl}
-use lib.ListN.{length}
 use denote.Ref.{now}
 use Rattle.definitions.specs.Monomial.{act}
-use Rattle.level.specs.Stored.{matrixIn, Holds, lineIn}
+use Rattle.level.specs.Stored.{matrixIn}
+use Rattle.level.proofs.Columns.{stored-line, stored-at}
 use Rattle.level.proofs.moved.Statement.{statement}
 use Rattle.level.proofs.moved.Tie as tie
 
-matrix-line-requires : tie.Need-matrix-line-requires
-matrix-line-requires c κs = let z = c .before in
-    let f : 8 * (lineIn (z .args .d) (z .args .g) + z .args .d .deg) ≤ length (now (z .args .words)) = z .pre .0 .holds (z .args .g)
-    (le-refl _) .fits in
-    omega (arith, f, z .good)
-
-apply-requires : tie.Need-apply-requires
-apply-requires c κs = let z = c .before .before in (
-  subst (λ l. Holds (z .args .m) (now (z .args .words)) l (z .args .d .deg)) (sym (c .matrix-line .ensures)) (z .pre .0 .holds (z .args .g)
-      (le-refl _)),
-  z .pre .1,
-)
-
 returns : tie.Need-returns
-returns c = let z = c .before .before .before in (
-  c .apply .ensures .0 ∙ ap (λ l. act (z .args .m) (matrixIn (now (z .args .words)) l (z .args .d .deg)) (z .args .x))
-      (c .before .matrix-line .ensures),
-  c .apply .ensures .1,
-)
+returns c = let z = c .before .before .before in let E = c .apply .ensures in
+    (E .0 ∙ ap (λ l. act (z .args .m) (matrixIn (now (z .args .words)) l (z .args .d .deg)) (z .args .x)) (c .before .matrix-line .ensures), E .1)
 
 pub moved-spec : {M : Type 1} → statement M
-moved-spec = tie.close (tie.spec matrix-line-requires apply-requires returns)
+moved-spec = tie.close (tie.spec (λ c κs. omega (arith, stored-line (c .before .pre .0), c .before .good))
+    (λ c κs. let z = c .before .before in (stored-at (z .pre .0) (c .matrix-line .ensures), z .pre .1)) returns)

@@ -15,7 +15,7 @@ returns : tie.Need-returns
 returns c = let z = c .before .before .before in
     let M = matrixIn (now (z .args .words)) (z .args .at) (z .args .d) in
     let power : ℤ → Entry = λ k. act (z .args .m) (signedPower (z .args .m) (z .args .d) M k) (z .args .x) in
-    let is = sym (toZ-ofZ w32 (z .args .k) (z .fits .k)) ∙ c .before .signed-of .ensures in
+    let is = sym (toZ-ofZ w32 _ (z .fits .k)) ∙ c .before .signed-of .ensures in
     (c .power-of .ensures .0 ∙ ap power (sym is), c .power-of .ensures .1)
 
 pub power-entry-spec : {M : Type 1} → statement M

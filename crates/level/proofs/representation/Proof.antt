@@ -4,8 +4,6 @@ use borrow.Author.Needs.{needs}
 use Rattle.level.proofs.representation.Statement.{statement}
 use Rattle.level.proofs.representation.Tie as tie
 
-returns : tie.Need-returns
-returns c = ap (λ d. record { line = c .before .before .args .line; deg = d }) (c .word-at .ensures)
-
 pub representation-spec : {M : Type 1} → statement M
-representation-spec = tie.close (tie.spec (λ c κs. search needs) returns)
+representation-spec = tie.close (tie.spec (λ c κs. search needs)
+    (λ c. ap (λ d. record { line = c .before .before .args .line; deg = d }) (c .word-at .ensures)))

@@ -21,38 +21,29 @@ Inv-loop words at w n e m y₀ k₀ y k = (k ≤ n) × (entry 0 y ≡ walk m (λ
 abbrev μ-loop : tie.MeasureT-loop
 μ-loop words at w n e m y₀ k₀ y k = n - k
 
-loop-holds : tie.Need-loop-holds Inv-loop μ-loop
-loop-holds c = let z = c .before in
-    (search needs, sym (walk-zero (z .args .m) (λ (j : ℕ). matrixIn (now (z .args .words)) (z .args .at + j * 1) 1) (now (z .args .w)) (entry 0 (z .args .e))), z .pre .2)
-
 add-single-times : tie.Need-add-single-times Inv-loop μ-loop
-add-single-times c = let z = c .before .before .before in
-    let l = c .before .loop in
+add-single-times c = let z = c .before .before .before in let l = c .before .loop in
     let f : 8 * (z .args .at + l .k * 1 + 1) ≤ length (now (z .args .words)) = z .pre .1 (l .k) (search needs) .fits in
     omega (arith, f, z .good)
 
 single-times-requires : tie.Need-single-times-requires Inv-loop μ-loop
-single-times-requires c κs = let z = c .before .before .before .before in
-    let l = c .before .before .loop in
+single-times-requires c κs = let z = c .before .before .before .before in let l = c .before .before .loop in
     let i : z .args .at + l .k * 1 ≡ z .args .at + l .k = omega arith in
-    (subst (λ g. Holds (z .args .m) (now (z .args .words)) g 1) i (z .pre .1 (l .k) (search needs)), l .inv .2)
+    (subst (λ g. Holds (z .args .m) (now (z .args .words)) g 1) i (z .pre .1 _ (search needs)), l .inv .2)
 
 loop-again : tie.Need-loop-again Inv-loop μ-loop
-loop-again c = let z = c .before .before .before .before .before in
-    let l = c .before .before .before .loop in
+loop-again c = let z = c .before .before .before .before .before in let l = c .before .before .before .loop in
     let W = now (z .args .words) in
     let F : ℕ → Matrix = λ j. matrixIn W (z .args .at + j * 1) 1 in
     let i : z .args .at + l .k ≡ z .args .at + l .k * 1 = omega arith in
     let T = c .single-times .ensures in
     let step = ap₂ (λ g (x : Entry). iter (act (z .args .m) (matrixIn W g 1)) (getD (now (z .args .w)) (l .k) 0) x) i (l .inv .1) in
-    (search needs, T .0 ∙ step ∙ sym (walk-next (z .args .m) F (now (z .args .w)) (l .k) (entry 0 (z .args .e))), T .1)
+    (search needs, T .0 ∙ step ∙ sym (walk-next _ F _ _ (entry 0 (z .args .e))), T .1)
 
 returns : tie.Need-returns Inv-loop μ-loop
 returns c = let e : c .before .loop .k ≡ c .before .before .before .args .n = omega arith in
     (rw e at (c .before .loop .inv .1), c .before .loop .inv .2)
 
 pub single-word-spec : {M : Type 1} → statement M
-single-word-spec =
-    tie.close
-    (tie.spec Inv-loop μ-loop loop-holds add-single-times (λ c. search needs) (λ c. search needs) single-times-requires (λ c. search needs)
-    (λ c. search needs) loop-again returns)
+single-word-spec = tie.close (tie.spec Inv-loop μ-loop (λ c. (search needs, sym (walk-zero _ _ (now (c .before .args .w)) _), c .before .pre .2))
+    add-single-times (λ c. search needs) (λ c. search needs) single-times-requires (λ c. search needs) (λ c. search needs) loop-again returns)

@@ -18,20 +18,14 @@ Inv-loop words at d k m r₀ i₀ r i = (i ≤ k) × (r ≡ iter (act m (matrixI
 abbrev μ-loop : tie.MeasureT-loop
 μ-loop words at d k m r₀ i₀ r i = k - i
 
-loop-holds : tie.Need-loop-holds Inv-loop μ-loop
-loop-holds c = (search needs, sym (iter-zero _ _), c .before .pre .1)
-
-apply-requires : tie.Need-apply-requires Inv-loop μ-loop
-apply-requires c κs = (c .before .before .before .pre .0, c .before .loop .inv .2)
-
 loop-again : tie.Need-loop-again Inv-loop μ-loop
 loop-again c = let z = c .before .before .before .before in
-    let l = c .before .before .loop in
     let f = act (z .args .m) (matrixIn (now (z .args .words)) (z .args .at) (z .args .d)) in
-    (search needs, c .apply .ensures .0 ∙ ap f (l .inv .1) ∙ sym (iter-next f (l .i) (z .args .x)), c .apply .ensures .1)
+    (search needs, c .apply .ensures .0 ∙ ap f (c .before .before .loop .inv .1) ∙ sym (iter-next f _ _), c .apply .ensures .1)
 
 returns : tie.Need-returns Inv-loop μ-loop
 returns c = let e : c .before .loop .i ≡ c .before .before .before .args .k = omega arith in (rw e at (c .before .loop .inv .1), c .before .loop .inv .2)
 
 pub steps-spec : {M : Type 1} → statement M
-steps-spec = tie.close (tie.spec Inv-loop μ-loop loop-holds apply-requires (λ c. search needs) (λ c. search needs) loop-again returns)
+steps-spec = tie.close (tie.spec Inv-loop μ-loop (λ c. (search needs, sym (iter-zero _ _), c .before .pre .1))
+    (λ c κs. (c .before .before .before .pre .0, c .before .loop .inv .2)) (λ c. search needs) (λ c. search needs) loop-again returns)

@@ -9,9 +9,6 @@ use Rattle.level.specs.Stored.{Below, generatorIn}
 use Rattle.level.proofs.through.Statement.{statement}
 use Rattle.level.proofs.through.Tie as tie
 
-moved-requires : tie.Need-moved-requires
-moved-requires c κs = let z = c .before in (z .pre .0, record { row = z .pre .0 .positive; exp = omega arith })
-
 scaled-requires : tie.Need-scaled-requires
 scaled-requires c κs = let z = c .before .before in
     (z .pre .1, subst (λ d. Below (z .args .m) d (c .moved .result)) (sym (z .pre .2)) (c .moved .ensures .1), z .pre .3)
@@ -22,4 +19,5 @@ returns c = let z = c .before .before .before in
     (ap (λ (x : Entry). x .exp) (c .scaled .ensures .0 ∙ ap F (c .before .moved .ensures .0)), c .scaled .ensures .1 .exp)
 
 pub through-spec : {M : Type 1} → statement M
-through-spec = tie.close (tie.spec moved-requires scaled-requires returns)
+through-spec = tie.close (tie.spec (λ c κs. (c .before .pre .0, record { row = c .before .pre .0 .positive; exp = omega arith })) scaled-requires
+    returns)

@@ -28,25 +28,18 @@ abbrev μ-loop : tie.MeasureT-loop
 abbrev Turn : (m d : ℕ) → (Entry → Entry) → ℕ → Entry → Entry → Type 0
 Turn m d f k y r = (r ≡ iter f k y) × Below m d r
 
-loop-holds : tie.Need-loop-holds Inv-loop μ-loop
-loop-holds c = let z = c .before in
-    let F : ℕ → Matrix = λ j. matrixIn (now (z .args .words)) (z .args .at + j * z .args .d) (z .args .d) in
-    (search needs, omega arith, sym (walk-zero (z .args .m) F (now (z .args .w)) (z .args .x)), z .pre .1)
-
 apply-times-requires : tie.Need-apply-times-requires Inv-loop μ-loop
 apply-times-requires c κs = let l = c .before .before .before .loop in
-    (rw (l .inv .1) (c .before .before .before .before .before .pre .0 .1 (l .k) (search needs)), l .inv .3)
+    (rw (l .inv .1) (c .before .before .before .before .before .pre .0 .1 _ (search needs)), l .inv .3)
 
 add-g : tie.Need-add-g Inv-loop μ-loop
-add-g c = let l = c .before .before .before .before .loop in
-    let z = c .before .before .before .before .before .before in
+add-g c = let l = c .before .before .before .before .loop in let z = c .before .before .before .before .before .before in
     let f : 8 * (z .args .at + l .k * z .args .d + z .args .d) ≤ length (now (z .args .words)) = z .pre .0 .1 (l .k) (search needs) .fits in
     omega (arith, c .up .ensures, l .inv .1, z .good)
 
 loop-again : tie.Need-loop-again Inv-loop μ-loop
 loop-again c = let l = c .before .before .before .before .loop in
-    let z = c .before .before .before .before .before .before in
-    let W = now (z .args .words) in
+    let z = c .before .before .before .before .before .before in let W = now (z .args .words) in
     let F : ℕ → Matrix = λ j. matrixIn W (z .args .at + j * z .args .d) (z .args .d) in
     let f : ℕ → Entry → Entry = λ g. act (z .args .m) (matrixIn W g (z .args .d)) in
     let e = getD (now (z .args .w)) (l .k) 0 in
@@ -57,7 +50,7 @@ loop-again c = let l = c .before .before .before .before .loop in
     (c .before .if1 .came) in (
       search needs,
       omega (arith, c .up .ensures, ap (λ (n : ℕ). n * z .args .d) (add-one (l .k))),
-      on .0 ∙ ap₂ (λ g x. iter (f g) e x) (l .inv .1) (l .inv .2) ∙ sym (walk-next (z .args .m) F (now (z .args .w)) (l .k) (z .args .x)),
+      on .0 ∙ ap₂ (λ g x. iter (f g) e x) (l .inv .1) (l .inv .2) ∙ sym (walk-next _ F _ _ _),
       on .1,
     )
 
@@ -66,7 +59,6 @@ returns c = let e : c .before .loop .k ≡ c .before .before .before .args .n = 
     (rw e at (c .before .loop .inv .2), c .before .loop .inv .3)
 
 pub walk-word-spec : {M : Type 1} → statement M
-walk-word-spec =
-    tie.close
-    (tie.spec Inv-loop μ-loop loop-holds (λ c. search needs) (λ c. search needs) apply-times-requires (λ c κs. search needs) add-g
-    (λ c. search needs) (λ c. search needs) loop-again returns)
+walk-word-spec = tie.close (tie.spec Inv-loop μ-loop
+    (λ c. (search needs, omega arith, sym (walk-zero _ _ (now (c .before .args .w)) _), c .before .pre .1)) (λ c. search needs) (λ c. search needs)
+    apply-times-requires (λ c κs. search needs) add-g (λ c. search needs) (λ c. search needs) loop-again returns)

@@ -20,8 +20,7 @@ single-word-requires c κs = let z = c .before .before .before in (
 )
 
 returns : tie.Need-returns
-returns c = let z = c .before .before .before .before in
-    let one = c .before .if1 .taken in
+returns c = let z = c .before .before .before .before in let one = c .before .if1 .taken in
     let row : 0 ≡ z .args .x .row = omega (arith, one, z .pre .2 .row) in
     let x : entry 0 (z .args .x .exp) ≡ z .args .x = ap (λ t. entry t (z .args .x .exp)) row in
     let F : ℕ → ℕ → Matrix = λ e k. matrixIn (now (z .args .words)) (z .args .d .line + k * e) e in (
@@ -29,8 +28,6 @@ returns c = let z = c .before .before .before .before in
       record { row = omega (arith, one); exp = c .single-word .ensures .1 },
     )
 
-walk-word-requires : tie.Need-walk-word-requires
-walk-word-requires c κs = let z = c .before .before .before in ((z .pre .0, z .pre .1 .holds), z .pre .2)
-
 pub walked-spec : {M : Type 1} → statement M
-walked-spec = tie.close (tie.spec single-word-requires returns walk-word-requires (λ c. search needs))
+walked-spec = tie.close (tie.spec single-word-requires returns
+    (λ c κs. let z = c .before .before .before in ((z .pre .0, z .pre .1 .holds), z .pre .2)) (λ c. search needs))

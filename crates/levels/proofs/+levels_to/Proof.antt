@@ -39,89 +39,39 @@ claims t = (
   next-level-reads.Learnt,
 )
 
-levels-to-element-copy-out-reps : (t : ℕ) → levels-to-lts.Need-element-copy-out-reps (claims t) (levels-to-at t) levels-to.Post
-levels-to-element-copy-out-reps t c = search needs
-
-levels-to-first-level-requires : (t : ℕ) → levels-to-lts.Need-first-level-requires (claims t) (levels-to-at t) levels-to.Post
-levels-to-first-level-requires t c κs =
-    let z = c .before .before .before .before in
-    first-asks (z .pre .1 .0 .1) _ refl
-
-levels-to-same-length : (t : ℕ) → levels-to-lts.Need-same-length (claims t) (levels-to-at t) levels-to.Post
-levels-to-same-length t c = search needs
-
-levels-to-returns : (t : ℕ) → levels-to-lts.Need-returns (claims t) (levels-to-at t) levels-to.Post
-levels-to-returns t c =
-    let f = c .before .before in
-    let w = f .before .before .before in
-    λ A G. built-as (sym (w .if1 .taken)) (stage-one G refl (f .first-level .ensures))
-
-levels-to-sub-top : (t : ℕ) → levels-to-lts.Need-sub-top (claims t) (levels-to-at t) levels-to.Post
-levels-to-sub-top t c = let z = c .before .before in omega (arith, z .pre .1 .1)
-
-levels-to-levels-to-requires : (t : ℕ) → levels-to-lts.Need-levels-to-requires (claims t) (levels-to-at t) levels-to.Post
-levels-to-levels-to-requires t c κs =
-    let e = c .before in
-    let z = e .before .before in
-    (omega (arith, z .pre .0, z .pre .1 .1), (z .pre .1 .0, omega (arith, z .pre .1 .1, e .if1 .left), omega (arith, z .pre .1 .2)))
-
-levels-to-up-requires : (t : ℕ) → levels-to-lts.Need-up-requires (claims t) (levels-to-at t) levels-to.Post
-levels-to-up-requires t c κs = search needs
-
 levels-to-mul-t22 : (t : ℕ) → levels-to-lts.Need-mul-t22 (claims t) (levels-to-at t) levels-to.Post
-levels-to-mul-t22 t c =
-    let z = c .before .before .before .before .before .before .before in
-    let G = z .pre .1 .0 .1 in
+levels-to-mul-t22 t c = let z = c .before .before .before .before .before .before .before in let G = z .pre .1 .0 .1 in
     omega (arith, c .up .ensures, z .pre .1 .2, G .n-is, G .small .few)
 
 levels-to-element-copy-out-t25 : (t : ℕ) → levels-to-lts.Need-element-copy-out-t25 (claims t) (levels-to-at t) levels-to.Post
-levels-to-element-copy-out-t25 t c =
-    let z = c .before .before .before .before .before .before .before in
-    let G = z .pre .1 .0 .1 in
+levels-to-element-copy-out-t25 t c = let z = c .before .before .before .before .before .before .before in let G = z .pre .1 .0 .1 in
     omega (arith, c .up .ensures, z .pre .1 .1, z .pre .1 .2, G .n-is, G .small .few)
 
 levels-to-next-level-requires : (t : ℕ) → levels-to-lts.Need-next-level-requires (claims t) (levels-to-at t) levels-to.Post
-levels-to-next-level-requires t c κs =
-    let u = c .before .before in
-    let b = u .before .before .before in
-    let e = b .before .before in
-    let z = e .before .before in
+levels-to-next-level-requires t c κs = let u = c .before .before in let b = u .before .before .before in
+    let e = b .before .before in let z = e .before .before in
     let (A, G) = z .pre .1 .0 in
     let some : 0 < z .args .i - 1 = omega (arith, z .pre .1 .1, e .if1 .left) in
     let below : z .args .i - 1 < z .args .n = omega (arith, z .pre .1 .1, z .pre .1 .2) in
     let p = ap (λ k. getD (now (z .args .primes)) k 0) (u .up .ensures) in
     stage-asks G some below p (b .levels-to .ensures A G) (le-refl _)
 
-levels-to-same-length-2 : (t : ℕ) → levels-to-lts.Need-same-length-2 (claims t) (levels-to-at t) levels-to.Post
-levels-to-same-length-2 t c = search needs
-
 levels-to-returns-2 : (t : ℕ) → levels-to-lts.Need-returns-2 (claims t) (levels-to-at t) levels-to.Post
-levels-to-returns-2 t c =
-    let v = c .before .before in
-    let u = v .before .before .before in
-    let b = u .before .before .before in
-    let e = b .before .before in
-    let z = e .before .before in
+levels-to-returns-2 t c = let v = c .before .before in let u = v .before .before .before in let b = u .before .before .before in
+    let e = b .before .before in let z = e .before .before in
     let some : 0 < z .args .i - 1 = omega (arith, z .pre .1 .1, e .if1 .left) in
     let below : z .args .i - 1 < z .args .n = omega (arith, z .pre .1 .1, z .pre .1 .2) in
     let p = ap (λ k. getD (now (z .args .primes)) k 0) (u .up .ensures) in
     let same : z .args .i - 1 + 1 ≡ z .args .i = omega (arith, z .pre .1 .1) in
     λ A G. built-as same (stage-next G some below p (b .levels-to .ensures A G) _ _ (v .next-level .ensures))
 
+levels-to-levels-to-requires : (t : ℕ) → levels-to-lts.Need-levels-to-requires (claims t) (levels-to-at t) levels-to.Post
+levels-to-levels-to-requires t c κs = let z = c .before .before .before in let (G, some, most) = z .pre .1 in
+    (omega (arith, z .pre .0, some), (G, omega (arith, some, c .before .if1 .left), omega (arith, most)))
+
 pub +levels-to-spec : {M : Type 1} → statement M
-+levels-to-spec = close μ-levels-to λ t. levels-to-lts.spec
-    (claims t)
-    (levels-to-at t)
-    levels-to.Post
-    (levels-to-element-copy-out-reps t)
-    (levels-to-first-level-requires t)
-    (levels-to-same-length t)
-    (levels-to-returns t)
-    (levels-to-sub-top t)
-    (levels-to-levels-to-requires t)
-    (levels-to-up-requires t)
-    (levels-to-mul-t22 t)
-    (levels-to-element-copy-out-t25 t)
-    (levels-to-next-level-requires t)
-    (levels-to-same-length-2 t)
-    (levels-to-returns-2 t)
++levels-to-spec = close μ-levels-to (λ t. levels-to-lts.spec (claims t) (levels-to-at t) levels-to.Post (λ c. search needs)
+    (λ c κs. first-asks (c .before .before .before .before .pre .1 .0 .1) _ refl) (λ c. search needs)
+    (λ c. let f = c .before .before in λ A G. built-as (sym (f .before .before .before .if1 .taken)) (stage-one G refl (f .first-level .ensures)))
+    (λ c. omega (arith, c .before .before .pre .1 .1)) (levels-to-levels-to-requires t) (λ c κs. search needs) (levels-to-mul-t22 t)
+    (levels-to-element-copy-out-t25 t) (levels-to-next-level-requires t) (λ c. search needs) (levels-to-returns-2 t))

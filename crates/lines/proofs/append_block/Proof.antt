@@ -23,29 +23,13 @@ Inv-loop words₀ low at h b m deg n pos₀ k₀ words pos k = (k ≤ deg) × (d
 abbrev μ-loop : tie.MeasureT-loop
 μ-loop words₀ low at h b m deg n pos₀ k₀ words pos k = deg - k
 
-append-line-requires : tie.Need-append-line-requires Inv-loop μ-loop
-append-line-requires c κs = let z = c .before .before .before in (z .pre .0, z .pre .1, c .before .if1 .taken)
-
-returns : tie.Need-returns Inv-loop μ-loop
-returns c = c .before .before .append-line .ensures
-
-loop-holds : tie.Need-loop-holds Inv-loop μ-loop
-loop-holds c = (search needs, search needs, space-none (c .before .before .pre .1))
-
-slice-reshare-prefix-block-entry : tie.Need-slice-reshare-prefix-block-entry Inv-loop μ-loop
-slice-reshare-prefix-block-entry c = omega (arith, going-low (c .before .loop .inv .2))
-
-slice-aggregate-block-entry : tie.Need-slice-aggregate-block-entry Inv-loop μ-loop
-slice-aggregate-block-entry c = let l = c .before .before .loop in sym (length-take-le _ (l .words) (going-low (l .inv .2)))
-
 block-entry-requires : tie.Need-block-entry-requires Inv-loop μ-loop
 block-entry-requires c κs = (rw (c .before .before .loop .inv .2 .below) (c .before .before .before .before .before .pre .0), search needs)
 
 put-line-requires : tie.Need-put-line-requires Inv-loop μ-loop
 unfolding turn
 put-line-requires c κs = let z = c .before .before .before .before .before .before .before .before in
-    let g = c .before .before .before .before .before .loop .inv .2 in
-    going-line (z .args .b .deg) (λ k. headLine-eight _ _ _) g (search needs) (z .pre .1 .room)
+    going-line _ (λ k. headLine-eight _ _ _) (c .before .before .before .before .before .loop .inv .2) (search needs) (z .pre .1 .room)
 
 loop-again : tie.Need-loop-again Inv-loop μ-loop
 unfolding turn
@@ -53,19 +37,15 @@ loop-again c = let g = c .before .before .before .before .before .before .before
     let x = c .before .before .before .before .before .block-entry .ensures in
     (search needs, search needs, going-more g (rw (x, g .below) at (c .before .before .put-line .ensures)))
 
-same-length-2 : tie.Need-same-length-2 Inv-loop μ-loop
-same-length-2 c = c .before .loop .inv .2 .len
-
 returns-2 : tie.Need-returns-2 Inv-loop μ-loop
 unfolding blockLines turn
-returns-2 c = let z = c .before .before .before .before in
-    let l = c .before .loop in
-    let e : l .k ≡ z .args .b .deg = omega arith in
+returns-2 c = let l = c .before .loop in
+    let e : l .k ≡ c .before .before .before .before .args .b .deg = omega arith in
     rw e at (l .inv .2 .wrote)
 
 pub append-block-spec : {M : Type 1} → statement M
-append-block-spec =
-    tie.close
-    (tie.spec Inv-loop μ-loop append-line-requires (λ c. search needs) returns (λ c. search needs) loop-holds slice-reshare-prefix-block-entry
-    slice-aggregate-block-entry block-entry-requires (λ c. search needs) put-line-requires (λ c. search needs) (λ c. search needs) loop-again
-    same-length-2 returns-2)
+append-block-spec = tie.close (tie.spec Inv-loop μ-loop (λ c κs. let z = c .before .before .before in (z .pre .0, z .pre .1, c .before .if1 .taken))
+    (λ c. search needs) (λ c. c .before .before .append-line .ensures) (λ c. search needs)
+    (λ c. (search needs, search needs, space-none (c .before .before .pre .1))) (λ c. omega (arith, going-low (c .before .loop .inv .2)))
+    (λ c. let l = c .before .before .loop in sym (length-take-le _ _ (going-low (l .inv .2)))) block-entry-requires (λ c. search needs)
+    put-line-requires (λ c. search needs) (λ c. search needs) loop-again (λ c. c .before .loop .inv .2 .len) returns-2)

@@ -25,28 +25,15 @@ Inv-loop words₀ low at h src deg n pos₀ k₀ words pos k = (k ≤ deg) × (d
 abbrev μ-loop : tie.MeasureT-loop
 μ-loop words₀ low at h src deg n pos₀ k₀ words pos k = deg - k
 
-slice-aggregate-entry-at : tie.Need-slice-aggregate-entry-at Inv-loop μ-loop
-slice-aggregate-entry-at c = let z = c .before .before .before in sym (length-take-le _ (now (z .args .words)) (space-low (z .pre .1)))
-
 entry-at-requires : tie.Need-entry-at-requires Inv-loop μ-loop
 entry-at-requires c κs = let z = c .before .before .before in
     omega (arith, length-take-le (8 * z .args .low) (now (z .args .words)) (space-low (z .pre .1)), z .pre .0, c .before .if1 .taken)
 
 returns : tie.Need-returns Inv-loop μ-loop
-returns c = let z = c .before .before .before .before .before .before .before .before in
-    let a = z .args in
+returns c = let z = c .before .before .before .before .before .before .before .before in let a = z .args in
     let one = c .before .before .before .before .before .before .if1 .taken in
     let x = c .before .before .before .before .entry-at .ensures in
-    wrote-as (c .before .before .put-line .ensures) (ap (headLine (a .h) 0) x ∙ copy-single (a .h) (a .src) (take (8 * a .low) (now (a .words))) one)
-
-loop-holds : tie.Need-loop-holds Inv-loop μ-loop
-loop-holds c = (search needs, search needs, space-none (c .before .before .pre .1))
-
-slice-reshare-prefix-entry-at-2 : tie.Need-slice-reshare-prefix-entry-at-2 Inv-loop μ-loop
-slice-reshare-prefix-entry-at-2 c = omega (arith, going-low (c .before .loop .inv .2))
-
-slice-aggregate-entry-at-2 : tie.Need-slice-aggregate-entry-at-2 Inv-loop μ-loop
-slice-aggregate-entry-at-2 c = let l = c .before .before .loop in sym (length-take-le _ (l .words) (going-low (l .inv .2)))
+    wrote-as (c .before .before .put-line .ensures) (ap (headLine (a .h) 0) x ∙ copy-single _ _ (take (8 * a .low) (now (a .words))) one)
 
 entry-at-requires-2 : tie.Need-entry-at-requires-2 Inv-loop μ-loop
 entry-at-requires-2 c κs = let l = c .before .before .before .loop in
@@ -56,8 +43,7 @@ entry-at-requires-2 c κs = let l = c .before .before .before .loop in
 put-line-requires-2 : tie.Need-put-line-requires-2 Inv-loop μ-loop
 unfolding turn
 put-line-requires-2 c κs = let z = c .before .before .before .before .before .before .before .before in
-    let g = c .before .before .before .before .before .loop .inv .2 in
-    going-line (z .args .h .deg) (λ k. headLine-eight _ _ _) g (search needs) (z .pre .1 .room)
+    going-line _ (λ k. headLine-eight _ _ _) (c .before .before .before .before .before .loop .inv .2) (search needs) (z .pre .1 .room)
 
 loop-again : tie.Need-loop-again Inv-loop μ-loop
 unfolding turn
@@ -66,19 +52,15 @@ loop-again c = let g = c .before .before .before .before .before .before .before
     let k = c .before .before .before .before .before .up .ensures in
     (search needs, search needs, going-more g (rw (x, k, g .below) at (c .before .before .put-line2 .ensures)))
 
-same-length-2 : tie.Need-same-length-2 Inv-loop μ-loop
-same-length-2 c = c .before .loop .inv .2 .len
-
 returns-2 : tie.Need-returns-2 Inv-loop μ-loop
 unfolding copyLines turn
-returns-2 c = let z = c .before .before .before .before in
-    let l = c .before .loop in
-    let e : l .k ≡ z .args .h .deg = omega arith in
+returns-2 c = let l = c .before .loop in
+    let e : l .k ≡ c .before .before .before .before .args .h .deg = omega arith in
     rw e at (l .inv .2 .wrote)
 
 pub append-copy-spec : {M : Type 1} → statement M
-append-copy-spec =
-    tie.close
-    (tie.spec Inv-loop μ-loop (λ c. search needs) (λ c. search needs) slice-aggregate-entry-at entry-at-requires (λ c κs. search needs)
-    (λ c. search needs) returns loop-holds slice-reshare-prefix-entry-at-2 slice-aggregate-entry-at-2 (λ c κs. search needs) (λ c. search needs)
-    entry-at-requires-2 put-line-requires-2 (λ c. search needs) (λ c. search needs) loop-again same-length-2 returns-2)
+append-copy-spec = tie.close (tie.spec Inv-loop μ-loop (λ c. search needs) (λ c. search needs)
+    (λ c. sym (length-take-le _ _ (space-low (c .before .before .before .pre .1)))) entry-at-requires (λ c κs. search needs) (λ c. search needs)
+    returns (λ c. (search needs, search needs, space-none (c .before .before .pre .1))) (λ c. omega (arith, going-low (c .before .loop .inv .2)))
+    (λ c. let l = c .before .before .loop in sym (length-take-le _ _ (going-low (l .inv .2)))) (λ c κs. search needs) (λ c. search needs)
+    entry-at-requires-2 put-line-requires-2 (λ c. search needs) (λ c. search needs) loop-again (λ c. c .before .loop .inv .2 .len) returns-2)

@@ -8,8 +8,7 @@ use Rattle.lines.proofs.block_entry.Statement.{statement}
 use Rattle.lines.proofs.block_entry.Tie as tie
 
 returns : tie.Need-returns
-returns c = let z = c .before .before .before .before .before in
-    let b = z .args .b in
+returns c = let z = c .before .before .before .before .before in let b = z .args .b in
     let e = c .before .before .before .column .ensures .0 in
     ap₂ entry (ap (λ (x : Entry). b .row + x .row) e) (c .add-mod .ensures .0 ∙ ap (λ (x : Entry). (x .exp + b .by) % z .args .m) e)
 

@@ -9,14 +9,6 @@ use Rattle.modular.proofs.reduce.Tie as tie
 left : (c : tie.Start) → Reduced (c .args .s) (c .args .m)
 left c = reduced (c .args .s) (c .args .m) (c .pre .1) (c .pre .0)
 
-mul-result : tie.Need-mul-result
-mul-result c = omega (arith, left c .0)
-
-sub-result : tie.Need-sub-result
-sub-result c = left c .0
-
-returns : tie.Need-returns
-returns c = let s = left c in (s .1, omega (arith, s .1, s .2))
-
 pub reduce-spec : {M : Type 1} → statement M
-reduce-spec = tie.close (tie.spec (λ c. search needs) (λ c. search needs) mul-result sub-result returns)
+reduce-spec = tie.close (tie.spec (λ c. search needs) (λ c. search needs) (λ c. omega (arith, left c .0)) (λ c. left c .0)
+    (λ c. let s = left c in (s .1, omega (arith, s .1, s .2))))

@@ -17,13 +17,9 @@ use borrow.Author.Needs.{needs}
 use Rattle.orbits.proofs.conjugate.Statement.{statement}
 use Rattle.orbits.proofs.conjugate.Tie as tie
 
-of-block-requires : tie.Need-of-block-requires
-of-block-requires c κs = let z = c .before .before .before in (z .pre .0, z .pre .1)
-
 walked-requires : tie.Need-walked-requires
-walked-requires c κs = let z = c .before .before .before .before .before in
-    let D = c .before .of-block .ensures in
-    let gens = listing-stands (z .pre .0) .gens in
+walked-requires c κs = let D = c .before .of-block .ensures in
+    let gens = listing-stands (c .before .before .before .before .before .pre .0) .gens in
     let e = c .up .ensures in
     (omega (arith, e, gens), located-stored D (c .up .result) (omega (arith, e, gens)), located-column D)
 
@@ -33,18 +29,14 @@ add-cycle-times c = let z = c .before .before .before .before .before .before .b
 
 cycle-times-requires : tie.Need-cycle-times-requires
 cycle-times-requires c κs = let z = c .before .before .before .before .before .before .before in
-    let d = block-degree (z .pre .0) (z .args .b) (c .before .before .before .of-block .ensures) in
-    let x = c .before .walked .ensures .1 in
-    let below = subst (λ d. Below (z .args .f .m) d (c .before .walked .result)) d x in
+    let d = block-degree (z .pre .0) _ (c .before .before .before .of-block .ensures) in
+    let below = subst (λ d. Below (z .args .f .m) d (c .before .walked .result)) d (c .before .walked .ensures .1) in
     (z .pre .0, z .pre .2, record { block-below = z .pre .1; entry-below = below })
 
 returns : tie.Need-returns
 unfolding conjugateIn
-returns c = let z = c .before .before .before .before .before .before .before .before in
-    let f = z .args .f in
-    let W = now (z .args .low) in
-    let v = now (z .args .w) in
-    let D = c .before .before .before .before .of-block .ensures in
+returns c = let z = c .before .before .before .before .before .before .before .before in let f = z .args .f in
+    let W = now (z .args .low) in let v = now (z .args .w) in let D = c .before .before .before .before .of-block .ensures in
     let n = c .before .before .before .up .ensures in
     let step = cycleIn f W (z .args .c) (z .args .r) in
     let k = ap (λ t. getD v t 0 + 1) n ∙ add-one _ in
@@ -53,7 +45,5 @@ returns c = let z = c .before .before .before .before .before .before .before .b
     subst (λ y. EntryIs f W (z .args .r) y (c .cycle-times .result)) e (c .cycle-times .ensures)
 
 pub conjugate-spec : {M : Type 1} → statement M
-conjugate-spec =
-    tie.close
-    (tie.spec of-block-requires (λ c κs. search needs) walked-requires (λ c. search needs) (λ c. search needs) add-cycle-times cycle-times-requires
-    returns)
+conjugate-spec = tie.close (tie.spec (λ c κs. let z = c .before .before .before in (z .pre .0, z .pre .1)) (λ c κs. search needs) walked-requires
+    (λ c. search needs) (λ c. search needs) add-cycle-times cycle-times-requires returns)

@@ -26,15 +26,13 @@ cycle-requires : tie.Need-cycle-requires Inv-loop μ-loop
 cycle-requires c κs = let z = c .before .before .before .before .before in (z .pre .0, z .pre .1, c .before .loop .inv .1 .lies)
 
 loop-again : tie.Need-loop-again Inv-loop μ-loop
-loop-again c = let z = c .before .before .before .before .before .before in
-    let l = c .before .before .loop in
+loop-again c = let z = c .before .before .before .before .before .before in let l = c .before .before .loop in
     let step = cycleIn (z .args .f) (now (z .args .low)) (z .args .c) (z .args .r) in
     let H = c .cycle .ensures in
-    (search needs, record { is = H .is ∙ ap step (l .inv .1 .is) ∙ sym (iter-next step (l .i) (movedOf (z .args .s))); lies = H .lies })
+    (search needs, record { is = H .is ∙ ap step (l .inv .1 .is) ∙ sym (iter-next step _ (movedOf (z .args .s))); lies = H .lies })
 
 returns : tie.Need-returns Inv-loop μ-loop
-returns c = let z = c .before .before .before .before .before in
-    let l = c .before .loop in
+returns c = let z = c .before .before .before .before .before in let l = c .before .loop in
     let e : l .i ≡ z .args .k = omega arith in
     let step = cycleIn (z .args .f) (now (z .args .low)) (z .args .c) (z .args .r) in
     subst (λ n. EntryIs (z .args .f) (now (z .args .low)) (z .args .r) (iter step n (movedOf (z .args .s))) (l .t)) e (l .inv .1)

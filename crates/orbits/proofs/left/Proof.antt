@@ -10,23 +10,17 @@ use Rattle.orbits.proofs.Blocks.{block-degree}
 use Rattle.orbits.proofs.left.Statement.{statement}
 use Rattle.orbits.proofs.left.Tie as tie
 
-of-block-requires : tie.Need-of-block-requires
-of-block-requires c κs = let z = c .before .before .before in (z .pre .0, z .pre .2 .block-below)
-
 moved-requires : tie.Need-moved-requires
-moved-requires c κs = let z = c .before .before .before .before in
-    let s = z .args .s in
-    let D = c .of-block .ensures in
-    let d = block-degree (z .pre .0) (s .block) D in
-    let below = subst (λ d. Below (z .args .f .m) d (s .x)) (sym d) (z .pre .2 .entry-below) in
+moved-requires c κs = let z = c .before .before .before .before in let D = c .of-block .ensures in
+    let d = block-degree (z .pre .0) _ D in
+    let below = subst (λ d. Below (z .args .f .m) d (z .args .s .x)) (sym d) (z .pre .2 .entry-below) in
     (located-stored D (suc (z .args .j)) (z .pre .1), below)
 
 returns : tie.Need-returns
 unfolding leftIn
-returns c = let z = c .before .before .before .before .before in
-    let E = c .moved .ensures in
-    let M = located-matrix (c .before .of-block .ensures) (z .args .j) in
+returns c = let z = c .before .before .before .before .before in let E = c .moved .ensures in
+    let M = located-matrix (c .before .of-block .ensures) _ in
     (ap (λ (t : Entry). t .exp) (E .0 ∙ ap (λ M. act (z .args .f .m) M (z .args .s .x)) M), E .1 .exp)
 
 pub left-spec : {M : Type 1} → statement M
-left-spec = tie.close (tie.spec of-block-requires moved-requires returns)
+left-spec = tie.close (tie.spec (λ c κs. let z = c .before .before .before in (z .pre .0, z .pre .2 .block-below)) moved-requires returns)

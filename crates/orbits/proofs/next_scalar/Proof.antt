@@ -18,26 +18,22 @@ word-requires c κs = let z = c .before .before .before .before .before in
     (omega (arith, c .before .up .ensures, c .up2 .ensures, z .pre .1), omega (arith, c .before .up .ensures, z .pre .2, gens))
 
 note-requires : tie.Need-note-requires
-note-requires c κs = let z = c .before .before .before .before .before .before in
-    let I = z .pre .0 in
+note-requires c κs = let I = c .before .before .before .before .before .before .pre .0 in
     record { fields = omega arith; rows = omega (arith, I .leads .listed, I .surveyed .shifts-are .long) }
 
 conjugate-requires : tie.Need-conjugate-requires
-conjugate-requires c κs = let s = c .before .before in
-    let z = s .before .before .before .before .before .before in
-    let I = z .pre .0 in
-    let f = z .args .f in
+conjugate-requires c κs = let s = c .before .before in let z = s .before .before .before .before .before .before in
+    let I = z .pre .0 in let f = z .args .f in
     let pair = ap₂ (λ a b. getD (now (z .args .rows)) (pairNumber a b) []) (s .before .before .up .ensures) (s .before .up2 .ensures) in
     let w = s .word .ensures ∙ pair in (
       record { rows = now (z .args .rows); known = I },
       z .pre .3,
-      subst (λ x. x < f .m) (sym (c .before .note .ensures)) (I .surveyed .shifts-are .below (z .args .r) (I .leads .listed)),
-      subst (λ x. getD x (f .top) 0 < f .p) (sym w) (I .surveyed .sound .words .below (z .args .j) (z .pre .1) (z .pre .2)),
+      subst (λ x. x < f .m) (sym (c .before .note .ensures)) (I .surveyed .shifts-are .below _ (I .leads .listed)),
+      subst (λ x. getD x (f .top) 0 < f .p) (sym w) (I .surveyed .sound .words .below _ (z .pre .1) (z .pre .2)),
     )
 
 left-requires : tie.Need-left-requires
-left-requires c κs = let s = c .before .before .before in
-    let z = s .before .before .before .before .before .before in
+left-requires c κs = let s = c .before .before .before in let z = s .before .before .before .before .before .before in
     (record { rows = now (z .args .rows); known = z .pre .0 }, z .pre .2, c .conjugate .ensures .lies)
 
 right-requires : tie.Need-right-requires
@@ -57,18 +53,14 @@ sub-mod-requires c κs = let s = c .before .before .before .before .before .befo
 
 returns : tie.Need-returns
 returns c = let s = c .before .before .before .before .before .before .before in
-    let z = s .before .before .before .before .before .before in
-    let a = z .args in
-    let l = c .before .before .before .left in
-    let y = c .before .before .right in
+    let z = s .before .before .before .before .before .before in let a = z .args in
+    let l = c .before .before .before .left in let y = c .before .before .right in
     let t = c .before .before .before .before .conjugate .ensures in
-    let next = next-is (a .f) (now (a .low)) (now (a .rows)) (a .j) (a .r) (z .pre .0) (z .pre .1) (z .pre .2) (a .s) _ _ _ _ _ _ in
+    let next = next-is _ _ _ _ _ (z .pre .0) (z .pre .1) (z .pre .2) _ _ _ _ _ _ _ in
     let w = s .word .ensures ∙ ap₂ (λ i k. getD (now (a .rows)) (pairNumber i k) []) (s .before .before .up .ensures) (s .before .up2 .ensures) in
     let e = c .sub-mod .ensures .0 ∙ ap (λ x. less (a .f .m) x (l .result)) (c .before .add-mod .ensures .0) in
     next (c .before .before .before .before .before .before .note .ensures) w t (l .ensures .0) (y .ensures .0) e (c .sub-mod .ensures .1)
 
 pub next-scalar-spec : {M : Type 1} → statement M
-next-scalar-spec =
-    tie.close
-    (tie.spec (λ c κs. search needs) (λ c κs. search needs) word-requires note-requires conjugate-requires left-requires right-requires
-    add-mod-requires sub-mod-requires returns)
+next-scalar-spec = tie.close (tie.spec (λ c κs. search needs) (λ c κs. search needs) word-requires note-requires conjugate-requires left-requires
+    right-requires add-mod-requires sub-mod-requires returns)

@@ -6,18 +6,15 @@ use Rattle.orbits.proofs.Blocks.{listing-stands, member-inside, block-m
 use Rattle.orbits.proofs.of_block.Statement.{statement}
 use Rattle.orbits.proofs.of_block.Tie as tie
 
-block-requires : tie.Need-block-requires
-block-requires c κs = let z = c .before .before .before in member-inside (z .pre .0) (z .args .b) (z .pre .1)
-
 listed-requires : tie.Need-listed-requires
-listed-requires c κs = let z = c .before .before .before .before in
-    let L = z .pre .0 in
-    (listing-stands L, L .known .surveyed .orbited .lines, block-member L (z .args .b) _ (z .pre .1) (c .block .ensures) .1)
+listed-requires c κs = let z = c .before .before .before .before in let L = z .pre .0 in
+    (listing-stands L, L .known .surveyed .orbited .lines, block-member L _ _ (z .pre .1) (c .block .ensures) .1)
 
 returns : tie.Need-returns
 returns c = let z = c .before .before .before .before .before in
-    let o = block-member (z .pre .0) (z .args .b) _ (z .pre .1) (c .before .block .ensures) .0 in
+    let o = block-member (z .pre .0) _ _ (z .pre .1) (c .before .block .ensures) .0 in
     subst (λ q. Located (z .args .f) (now (z .args .low)) q (c .listed .result)) o (c .listed .ensures)
 
 pub of-block-spec : {M : Type 1} → statement M
-of-block-spec = tie.close (tie.spec block-requires listed-requires returns)
+of-block-spec = tie.close (tie.spec (λ c κs. let z = c .before .before .before in member-inside (z .pre .0) (z .args .b) (z .pre .1)) listed-requires
+    returns)

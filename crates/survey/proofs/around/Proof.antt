@@ -25,34 +25,31 @@ abbrev μ-loop : tie.MeasureT-loop
 μ-loop low first f d r s₀ p k₀ s k = p - k
 
 loop-holds : tie.Need-loop-holds Inv-loop μ-loop
-loop-holds c = let z = c .before .before in
-    let L = z .pre .0 in (
-      search needs,
-      search needs,
-      sym (iter-zero _ (z .args .r)),
-      around-zero (z .args .f) (now (z .args .low)) (z .args .r),
-      record { rep-below = L .listed; same-degree = located-degree L; entry-below = located-column L },
-    )
+loop-holds c = let L = c .before .before .pre .0 in (
+  search needs,
+  search needs,
+  sym (iter-zero _ _),
+  around-zero _ _ _,
+  record { rep-below = L .listed; same-degree = located-degree L; entry-below = located-column L },
+)
 
 carry-requires : tie.Need-carry-requires Inv-loop μ-loop
 carry-requires c κs = let z = c .before .before .before .before in (z .pre .0 .stands, z .pre .1, c .before .loop .inv .4)
 
 loop-again : tie.Need-loop-again Inv-loop μ-loop
-loop-again c = let z = c .before .before .before .before .before in
-    let l = c .before .before .loop in
+loop-again c = let z = c .before .before .before .before .before in let l = c .before .before .loop in
     let t = c .carry .ensures in
     let τ = targetOf (z .args .f) (now (z .args .low)) (z .args .f .top) in
     let F : ℕ → Entry → Entry = λ q x. act (z .args .f .m) (sourceIn (z .args .f) (now (z .args .low)) [] .matrix q (z .args .f .top)) x in (
       search needs,
       search needs,
-      t .rep-is ∙ ap τ (l .inv .2) ∙ sym (iter-next τ (l .k) (z .args .r)),
-      t .entry-is ∙ ap₂ F (l .inv .2) (l .inv .3) ∙ sym (around-next (z .args .f) (now (z .args .low)) (z .args .r) (l .k)),
+      t .rep-is ∙ ap τ (l .inv .2) ∙ sym (iter-next τ _ _),
+      t .entry-is ∙ ap₂ F (l .inv .2) (l .inv .3) ∙ sym (around-next _ _ _ _),
       t .carried,
     )
 
 returns : tie.Need-returns Inv-loop μ-loop
-returns c = let z = c .before .before .before .before .before in
-    let l = c .before .before .loop in
+returns c = let z = c .before .before .before .before .before in let l = c .before .before .loop in
     let e : l .k ≡ z .args .f .p = omega arith in (
       l .inv .3 ∙ ap (aroundIn (z .args .f) (now (z .args .low)) (z .args .r)) e,
       subst (λ d. Below (z .args .f .m) d (l .s .x)) (located-degree (z .pre .0)) (l .inv .4 .entry-below),

@@ -14,20 +14,18 @@ target-requires c κs = let z = c .before .before .before in
     (z .args .f .m, located-stored (c .member .ensures) (suc (z .args .f .top)) (z .pre .0 .gens .0))
 
 moved-requires : tie.Need-moved-requires
-moved-requires c κs = let z = c .before .before .before .before in
-    let L = c .before .member .ensures in
+moved-requires c κs = let z = c .before .before .before .before in let L = c .before .member .ensures in
     let d = z .pre .2 .same-degree ∙ sym (located-degree L) in
     (located-stored L (suc (z .args .f .top)) (z .pre .0 .gens .0), subst (λ d. Below (z .args .f .m) d (z .args .s .x)) d (z .pre .2 .entry-below))
 
 returns : tie.Need-returns
-returns c = let z = c .before .before .before .before .before in
-    let L = c .before .before .member .ensures in
-    let t = located-target L (z .args .f .top) _ (le-refl _) (z .pre .0 .gens .0) (c .before .target .ensures) in
+returns c = let z = c .before .before .before .before .before in let L = c .before .before .member .ensures in
+    let t = located-target L _ _ (le-refl _) (z .pre .0 .gens .0) (c .before .target .ensures) in
     let d = z .pre .2 .same-degree ∙ sym (located-degree L) in
     let below = subst (λ d. Below (z .args .f .m) d (c .moved .result)) (sym d) (c .moved .ensures .1) in
     record {
       rep-is = t .0;
-      entry-is = c .moved .ensures .0 ∙ ap (λ M. act (z .args .f .m) M (z .args .s .x)) (located-matrix L (z .args .f .top));
+      entry-is = c .moved .ensures .0 ∙ ap (λ M. act (z .args .f .m) M (z .args .s .x)) (located-matrix L _);
       carried = record { rep-below = t .1; same-degree = d ∙ t .2; entry-below = below };
     }
 

@@ -1,14 +1,13 @@
 -- `find_lines`: the first lines of the representations before r are noted, and s is where r begins.
 use mathlib.Core.Path.{_≡_, refl, sym, ap, _∙_}
-use Prim.Native.Nat.{ℕ, _-_}
+use Prim.Native.Nat.{_-_}
 use native.Mathlib.Omega.{arith}
 use lib.ListN.{length}
 use denote.Ref.{now}
-use Rattle.definitions.specs.Table.{DEG, wordAt}
-use Rattle.level.specs.declared.Listed.{Listed}
 use Rattle.survey.specs.Below.{firstOf, FirstsTo}
 use Rattle.survey.proofs.Level.{first-zero, first-room}
 use Rattle.survey.proofs.Firsts.{firsts-none, firsts-all}
+use Rattle.level.specs.Stored.{listedIn}
 use Rattle.survey.proofs.find_lines.Statement.{statement}
 use Rattle.survey.proofs.find_lines.Tie as tie
 
@@ -18,44 +17,21 @@ Inv-loop low notes₀ f s₀ r₀ reps notes s r = (length notes ≡ length note
 abbrev μ-loop : tie.MeasureT-loop
 μ-loop low notes₀ f s₀ r₀ reps notes s r = reps - r
 
-loop-holds : tie.Need-loop-holds Inv-loop μ-loop
-loop-holds c =
-    let z = c .before .before in
-    (refl, sym (first-zero (z .args .f) (now (z .args .low))), firsts-none (z .args .f) (now (z .args .low)) (now (z .args .notes)) (z .pre .1))
-
 representation-requires : tie.Need-representation-requires Inv-loop μ-loop
-representation-requires c κs =
-    let at-loop = c .before in
-    let z = at-loop .before .before .before in
-    omega (arith, at-loop .loop .inv .1, first-room (z .args .f) (now (z .args .low)) (z .pre .0) (at-loop .loop .r) (c .loop-test .taken))
+representation-requires c κs = let at-loop = c .before in
+    omega (arith, at-loop .loop .inv .1, first-room _ _ (at-loop .before .before .before .pre .0) _ (c .loop-test .taken))
 
 note-run-requires : tie.Need-note-run-requires Inv-loop μ-loop
-note-run-requires c κs =
-    let at-representation = c .before in
-    let at-in-loop = at-representation .before in
-    let at-loop = at-in-loop .before in
-    let z = at-loop .before .before .before in
-    let here : ℕ → Listed = λ x. record { line = x; deg = wordAt (now (z .args .low)) x DEG } in
-    let is = at-representation .representation .ensures ∙ ap here (at-loop .loop .inv .1) in
+note-run-requires c κs = let at-representation = c .before in let at-in-loop = at-representation .before in
+    let at-loop = at-in-loop .before in let z = at-loop .before .before .before in
+    let is = at-representation .representation .ensures ∙ ap (listedIn (now (z .args .low))) (at-loop .loop .inv .1) in
     (record { stands = z .pre .0; listed = at-in-loop .loop-test .taken; is = is }, at-loop .loop .inv .2)
 
-loop-less : tie.Need-loop-less Inv-loop μ-loop
-loop-less c =
-    let R = c .before .before .note-run .ensures in
-    omega (arith, R .forth, R .within)
-
 loop-again : tie.Need-loop-again Inv-loop μ-loop
-loop-again c =
-    let at-note-run = c .before .before in
-    let at-loop = at-note-run .before .before .before .before in
-    let R = at-note-run .note-run .ensures in
-    (R .len ∙ at-loop .loop .inv .0, R .behind, R .noted)
-
-same-length : tie.Need-same-length Inv-loop μ-loop
-same-length c = c .before .loop .inv .0
-
-returns : tie.Need-returns Inv-loop μ-loop
-returns c = (firsts-all (c .before .loop .inv .2) (omega arith), c .before .loop .inv .0)
+loop-again c = let at-note-run = c .before .before in let R = at-note-run .note-run .ensures in
+    (R .len ∙ at-note-run .before .before .before .before .loop .inv .0, R .behind, R .noted)
 
 pub find-lines-spec : {M : Type 1} → statement M
-find-lines-spec = tie.close (tie.spec Inv-loop μ-loop loop-holds representation-requires note-run-requires loop-less loop-again same-length returns)
+find-lines-spec = tie.close (tie.spec Inv-loop μ-loop (λ c. (refl, sym (first-zero _ _), firsts-none _ _ _ (c .before .before .pre .1)))
+    representation-requires note-run-requires (λ c. let R = c .before .before .note-run .ensures in omega (arith, R .forth, R .within)) loop-again
+    (λ c. c .before .loop .inv .0) (λ c. (firsts-all (c .before .loop .inv .2) (omega arith), c .before .loop .inv .0)))

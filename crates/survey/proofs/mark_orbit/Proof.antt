@@ -22,9 +22,6 @@ Inv-loop low notes₀ f r d q₀ p k₀ notes q k = (k ≤ p) × (p ≡ f .p) ×
 abbrev μ-loop : tie.MeasureT-loop
 μ-loop low notes₀ f r d q₀ p k₀ notes q k = p - k
 
-listed-requires : tie.Need-listed-requires Inv-loop μ-loop
-listed-requires c κs = let z = c .before .before .before in (z .pre .0 .0, z .pre .0 .1, z .pre .0 .2)
-
 loop-holds : tie.Need-loop-holds Inv-loop μ-loop
 loop-holds c = (
   search needs,
@@ -35,16 +32,14 @@ loop-holds c = (
 )
 
 mark-requires : tie.Need-mark-requires Inv-loop μ-loop
-mark-requires c κs = let z = c .before .before .before .before .before .before .before in
-    let l = c .before .before .loop in
-    let h = orbit-member (z .args .f) (now (z .args .low)) (z .pre .0 .0) (z .args .r) (l .k) (l .q) (z .pre .0 .2) (l .inv .2) in
-    inside-below 1 (z .args .f .reps) (l .notes) (l .q) (omega arith) (l .inv .3 .marks .long .0) h
+mark-requires c κs = let z = c .before .before .before .before .before .before .before in let l = c .before .before .loop in
+    let h = orbit-member _ _ (z .pre .0 .0) _ _ _ (z .pre .0 .2) (l .inv .2) in
+    inside-below 1 _ _ _ (omega arith) (l .inv .3 .marks .long .0) h
 
 member-requires : tie.Need-member-requires Inv-loop μ-loop
 member-requires c κs = let s = c .before .before .before in
-    let z = s .before .before .before .before .before .before .before .before in
-    let l = s .before .before .before .loop in
-    let h = orbit-member (z .args .f) (now (z .args .low)) (z .pre .0 .0) (z .args .r) (l .k) (l .q) (z .pre .0 .2) (l .inv .2) in
+    let z = s .before .before .before .before .before .before .before .before in let l = s .before .before .before .loop in
+    let h = orbit-member _ _ (z .pre .0 .0) _ _ _ (z .pre .0 .2) (l .inv .2) in
     let e = s .mark .ensures .lines ∙ l .inv .3 .lines in
     (z .pre .0 .0, subst (Lines (z .args .f) (now (z .args .low))) (sym e) (z .pre .0 .1), h, l .inv .4)
 
@@ -55,16 +50,15 @@ target-requires c κs = let s = c .before .before .before .before in
 
 loop-again : tie.Need-loop-again Inv-loop μ-loop
 loop-again c = let s = c .before .before .before .before .before in
-    let z = s .before .before .before .before .before .before .before .before in
-    let l = s .before .before .before .loop in
+    let z = s .before .before .before .before .before .before .before .before in let l = s .before .before .before .loop in
     let τ = targetOf (z .args .f) (now (z .args .low)) (z .args .f .top) in
-    let t = located-target (c .before .member .ensures) (z .args .f .top) _ (le-refl _) (z .pre .0 .0 .gens .0) (c .target .ensures) in
+    let t = located-target (c .before .member .ensures) _ _ (le-refl _) (z .pre .0 .0 .gens .0) (c .target .ensures) in
     let N = s .mark .ensures in (
       search needs,
       search needs,
-      t .0 ∙ ap τ (l .inv .2) ∙ sym (iter-next τ (l .k) (z .args .r)),
+      t .0 ∙ ap τ (l .inv .2) ∙ sym (iter-next τ _ _),
       record {
-        marks = marking-step (z .args .f) (now (z .args .low)) (z .pre .0 .0) (z .args .r) (z .pre .0 .2) (z .pre .0 .3) (l .k) (l .notes) _
+        marks = marking-step _ _ (z .pre .0 .0) _ (z .pre .0 .2) (z .pre .0 .3) _ _ _
             (search needs) (l .inv .3 .marks) (rw (l .inv .2) at N);
         lines = N .lines ∙ l .inv .3 .lines;
         len = N .len ∙ l .inv .3 .len;
@@ -72,17 +66,11 @@ loop-again c = let s = c .before .before .before .before .before in
       l .inv .4 ∙ sym (located-degree (c .before .member .ensures)) ∙ t .2,
     )
 
-same-length : tie.Need-same-length Inv-loop μ-loop
-same-length c = c .before .loop .inv .3 .len
-
 returns : tie.Need-returns Inv-loop μ-loop
-returns c = let z = c .before .before .before .before .before .before in
-    let l = c .before .loop in
-    let e : l .k ≡ z .args .f .p = omega arith in
-    subst (Marking (z .args .f) (now (z .args .low)) (now (z .args .notes)) (l .notes) (z .args .r)) e (l .inv .3)
+returns c = let e : c .before .loop .k ≡ c .before .before .before .before .before .before .args .f .p = omega arith in
+    rw e at (c .before .loop .inv .3)
 
 pub mark-orbit-spec : {M : Type 1} → statement M
-mark-orbit-spec =
-    tie.close
-    (tie.spec Inv-loop μ-loop listed-requires loop-holds mark-requires member-requires target-requires (λ c. search needs) (λ c. search needs)
-    loop-again same-length returns)
+mark-orbit-spec = tie.close (tie.spec Inv-loop μ-loop (λ c κs. let z = c .before .before .before in (z .pre .0 .0, z .pre .0 .1, z .pre .0 .2))
+    loop-holds mark-requires member-requires target-requires (λ c. search needs) (λ c. search needs) loop-again (λ c. c .before .loop .inv .3 .len)
+    returns)

@@ -12,7 +12,7 @@ target-requires c κs = let z = c .before .before .before in
 
 returns : tie.Need-returns
 returns c = let z = c .before .before .before .before in
-    located-target (c .before .listed .ensures) (z .args .f .top) _ (le-refl _) (z .pre .0 .gens .0) (c .target .ensures) .0
+    located-target (c .before .listed .ensures) _ _ (le-refl _) (z .pre .0 .gens .0) (c .target .ensures) .0
 
 pub top-target-spec : {M : Type 1} → statement M
 top-target-spec = tie.close (tie.spec (λ c κs. search needs) target-requires returns)

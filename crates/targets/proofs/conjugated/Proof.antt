@@ -33,17 +33,13 @@ scaled-times-requires c κs = let z = c .before .before .before .before in (z .p
 
 returns : tie.Need-returns
 unfolding conjugatedIn
-returns c = let up′ = c .before .before .before .up in
-    let z = c .before .before .before .before .before in
-    let W = now (z .args .low) in
-    let v = now (z .args .w) in
-    let n = up′ .ensures in
+returns c = let z = c .before .before .before .before .before in let W = now (z .args .low) in let v = now (z .args .w) in
+    let n = c .before .before .before .up .ensures in
     let k = ap (λ t. getD v t 0) n in
     let F : Entry → Entry = λ y. plus (z .args .m) (z .args .c) (act (z .args .m) (generatorIn W (z .args .d) (z .args .g)) y) in
     let x = c .before .before .walked .ensures .0 ∙ ap (λ i. walk (z .args .m) (generatorIn W (z .args .d)) i (toNF i v) (entry 0 0)) n in
     (c .scaled-times .ensures .0 ∙ ap₂ (λ i x. iter F i x) (ap (λ i. i + 1) k ∙ add-one _) x, c .scaled-times .ensures .1)
 
 pub conjugated-spec : {M : Type 1} → statement M
-conjugated-spec =
-    tie.close
-    (tie.spec (λ c κs. search needs) walked-requires (λ c. search needs) (λ c. search needs) add-scaled-times scaled-times-requires returns)
+conjugated-spec = tie.close (tie.spec (λ c κs. search needs) walked-requires (λ c. search needs) (λ c. search needs) add-scaled-times
+    scaled-times-requires returns)
