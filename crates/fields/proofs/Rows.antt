@@ -8,6 +8,7 @@
 --   Filled, filled-none, filled-more      a list filled up to an index
 --   filled-put                 a field filled up to an index, and one more number
 use mathlib.Core.Path.{_≡_, ap, sym, _∙_, subst}
+use mathlib.Core.Logic.{by-cases}
 use mathlib.Core.List.{List}
 use Prim.Native.Nat.{ℕ, _+_, _*_, _/_, _%_, _<_, _≤_}
 use native.Mathlib.Omega.{arith}
@@ -85,11 +86,9 @@ pub filled-none : (a : List ℕ) (g : ℕ → ℕ) → Filled a g 0
 filled-none a g k l = absurd (omega arith)
 
 pub filled-more : (a : List ℕ) (g : ℕ → ℕ) (r x : ℕ) → r < length a → x ≡ g r → Filled a g r → Filled (set a r x) g (r + 1)
-filled-more a g r x l e h k m = go (ℕ-discrete k r)
-  where
-    go : Dec (k ≡ r) → getD (set a r x) k 0 ≡ g k
-    go (yes q) = ap (λ z. getD (set a r x) z 0) q ∙ getD-set-same a r x 0 l ∙ e ∙ ap g (sym q)
-    go (no q) = getD-set-other a r k x 0 q ∙ h k (omega arith)
+filled-more a g r x l e h k m = by-cases (ℕ-discrete k r)
+    (λ q. ap (λ z. getD (set a r x) z 0) q ∙ getD-set-same a r x 0 l ∙ e ∙ ap g (sym q))
+    (λ q. getD-set-other a r k x 0 q ∙ h k (omega arith))
 
 pub filled-put : {s k r x : ℕ} {a b : List ℕ} (g : ℕ → ℕ) → r < length (field s k a) → x ≡ g r → Put s k r x a b
     → Filled (field s k a) g r → Filled (field s k b) g (r + 1)

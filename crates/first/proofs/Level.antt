@@ -4,6 +4,7 @@
 --   ref-is, exp-is, line-is    a line of an extension of level 0
 --   first-is-level             the words of level 1
 use mathlib.Core.Path.{_≡_, refl, sym, _∙_, ap, ap₂}
+use mathlib.Core.Logic.{by-cases}
 use mathlib.Core.Bool.{cond}
 use mathlib.Core.List.{List, [], _∷_, map}
 use Prim.Native.Nat.{ℕ, zero, suc, _+_, _*_, _-_, _/_, _%_, _≤_, _<_}
@@ -79,25 +80,21 @@ module _ (P : Presentation) (m : ℕ) (pos : 0 < m) where
 
     ref-is : (k g : ℕ) → g < n → extensionAt S 0 k .ref g 0 ≡ rootRef p rows k g
     unfolding extensionAt rootRef start sum sourceOf repOf levelZero
-    ref-is k g l = go (ℕ-discrete g 0)
-      where
-        go : Dec (g ≡ 0) → cond (leb g 0) 0 (0 + (landing S g 0 + k * suc (P .w 0 g .0)) % p) ≡ cond (eqb g 0) 0 (k * suc (getD (getD rows (pairNumber g 0) []) 0 0) % p)
-        go (yes e) = cond-true (leb g 0) 0 _ (le-leb g 0 (omega arith)) ∙ sym (cond-eq g 0 0 _ e)
-        go (no e) =
-            let z : (x : ℕ) → 0 + x ≡ x = λ x. omega arith in
-            cond-false (leb g 0) 0 _ (lt-leb g 0 (omega arith)) ∙ z _
-            ∙ ap (λ x. x % p) (ap₂ (λ x y. x + k * suc y) (landing-zero g) (words g (omega arith) l) ∙ z _)
-            ∙ sym (cond-ne g 0 0 _ e)
+    ref-is k g l = by-cases (ℕ-discrete g 0)
+        (λ e. cond-true (leb g 0) 0 _ (le-leb g 0 (omega arith)) ∙ sym (cond-eq g 0 0 _ e))
+        (λ e.
+        let z : (x : ℕ) → 0 + x ≡ x = λ x. omega arith in
+        cond-false (leb g 0) 0 _ (lt-leb g 0 (omega arith)) ∙ z _
+        ∙ ap (λ x. x % p) (ap₂ (λ x y. x + k * suc y) (landing-zero g) (words g (omega arith) l) ∙ z _)
+        ∙ sym (cond-ne g 0 0 _ e))
 
     exp-is : (k g : ℕ) → k < p → col (extensionAt S 0 k .matrix g) 0 .exp ≡ rootExp p m k g
     unfolding extensionAt rootExp col scale identity upto sourceOf repOf levelZero
-    exp-is k g l = go (ℕ-discrete g 0)
-      where
-        go : Dec (g ≡ 0) → (0 + cond (eqb g 0) (shift S 0 / p + k * (m / p)) 0) % m ≡ cond (eqb g 0) (k * (m / p)) 0
-        go (yes e) =
-            let z : 0 + (0 + k * (m / p)) ≡ k * (m / p) = omega arith in
-            ap (λ x. (0 + x) % m) (cond-eq g 0 _ 0 e) ∙ ap (λ x. (0 + (x + k * (m / p))) % m) root-zero ∙ ap (λ x. x % m) z ∙ mod-eq-of-lt (multiple-below k l) ∙ sym (cond-eq g 0 _ 0 e)
-        go (no e) = ap (λ x. (0 + x) % m) (cond-ne g 0 _ 0 e) ∙ zero-mod ∙ sym (cond-ne g 0 _ 0 e)
+    exp-is k g l = by-cases (ℕ-discrete g 0)
+        (λ e.
+        let z : 0 + (0 + k * (m / p)) ≡ k * (m / p) = omega arith in
+        ap (λ x. (0 + x) % m) (cond-eq g 0 _ 0 e) ∙ ap (λ x. (0 + (x + k * (m / p))) % m) root-zero ∙ ap (λ x. x % m) z ∙ mod-eq-of-lt (multiple-below k l) ∙ sym (cond-eq g 0 _ 0 e))
+        (λ e. ap (λ x. (0 + x) % m) (cond-ne g 0 _ 0 e) ∙ zero-mod ∙ sym (cond-ne g 0 _ 0 e))
 
     line-is : (k g : ℕ) → k < p → g < n → lineOf 1 k (extensionAt S 0 k) g 0 ≡ rootLine p m rows k g
     unfolding lineOf rootLine extensionAt col scale identity upto sourceOf repOf levelZero

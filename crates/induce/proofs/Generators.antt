@@ -5,6 +5,7 @@
 --   above-is                   the number of what a generator above the one on top leads to
 --   induced-degree, induction-is, induction-room     what is induced from an orbit: its degree, its words, and their room
 use mathlib.Core.Path.{_≡_, refl, sym, ap, _∙_, subst}
+use mathlib.Core.Logic.{by-cases}
 use mathlib.Core.List.{List}
 use Prim.Native.Nat.{ℕ, zero, suc, _+_, _*_, _≤_, _<_}
 use native.Mathlib.Omega.{arith}
@@ -50,11 +51,9 @@ module _ (f : Frame) (W : List ℕ) (rows : List (List ℕ)) (notes b₁ : List 
       go (no e) = ap (by (shift S r)) (known (omega (arith, e)) .at b h)
 
   refers-is : (q x y : ℕ) → (f .top < g → x ≡ y) → cond (leb g (f .top)) q x ≡ cond (leb g (f .top)) q y
-  refers-is q x y e = go (decLt (f .top) g)
-    where
-      go : Dec (f .top < g) → cond (leb g (f .top)) q x ≡ cond (leb g (f .top)) q y
-      go (yes a) = ap (cond (leb g (f .top)) q) (e a)
-      go (no a) = let l = le-leb g (f .top) (omega (arith, a)) in cond-true _ _ _ l ∙ sym (cond-true _ _ _ l)
+  refers-is q x y e = by-cases (decLt (f .top) g)
+      (λ a. ap (cond (leb g (f .top)) q) (e a))
+      (λ a. let l = le-leb g (f .top) (omega (arith, a)) in cond-true _ _ _ l ∙ sym (cond-true _ _ _ l))
 
   above-is : g < f .gens → f .top < g → numberAbove f W notes g r ≡ start S (leader S (targetOf f W g r))
   above-is l a =

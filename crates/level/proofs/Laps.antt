@@ -5,6 +5,7 @@
 --   laps-power                 laps, and the turns behind them, are a power
 --   power-turns, turns-power   a power that is not below zero is so many turns
 use mathlib.Core.Path.{_≡_, sym, ap, ap₂, _∙_}
+use mathlib.Core.Logic.{by-cases}
 use mathlib.Core.Bool.{Bool, true, false}
 use mathlib.Core.List.{List}
 use Prim.Native.Nat.{ℕ, zero, suc, _+_, _-_, _*_, _%_, _<_}
@@ -128,18 +129,16 @@ module _ {m : ℕ} {W : List ℕ} {at d : ℕ} (H : Holds m W at d) where
     closed-early L l = record { lapped = L .lapping .lapped; row = L .ends l }
 
     pub closed-late : {w : Lap} → LapOf m W at d d x w → ClosedLap m W at d x w
-    closed-late {w} L = go (decLt (w .turns) d)
-      where
-        go : Dec (w .turns < d) → ClosedLap m W at d x w
-        go (yes l) = closed-early L l
-        go (no l) =
-            let e : w .turns ≡ d = omega (arith, L .lapping .at-most) in
-            record {
-              lapped = L .lapping .lapped;
-              row = ap (λ (y : Entry). y .row) (L .lapping .lapped .leads ∙ ap (λ k. iter (act m M) k x) e) ∙ row-turned m positive d K d x
-                  ∙ injects-returns d (λ r. col M r .row) (monomial-injects m d M K) (x .row) (X .row)
-                  (λ k a b q. L .lapping .first k a (omega arith) (row-turned m positive d K k x ∙ q));
-            }
+    closed-late {w} L = by-cases (decLt (w .turns) d)
+        (λ l. closed-early L l)
+        (λ l.
+        let e : w .turns ≡ d = omega (arith, L .lapping .at-most) in
+        record {
+          lapped = L .lapping .lapped;
+          row = ap (λ (y : Entry). y .row) (L .lapping .lapped .leads ∙ ap (λ k. iter (act m M) k x) e) ∙ row-turned m positive d K d x
+              ∙ injects-returns d (λ r. col M r .row) (monomial-injects m d M K) (x .row) (X .row)
+              (λ k a b q. L .lapping .first k a (omega arith) (row-turned m positive d K k x ∙ q));
+        })
 
     -- ---- Laps, and turns behind them
 

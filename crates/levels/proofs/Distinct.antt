@@ -3,6 +3,7 @@
 --   image-inverse, intertwiner-inverse-at      generators of the level and intertwiners have inverses
 --   rows-distinct                              so their matrices have different rows
 use mathlib.Core.Path.{_≡_, sym, _∙_, ap}
+use mathlib.Core.Logic.{by-cases}
 use Prim.Native.Nat.{ℕ, suc, _≤_, _<_}
 use native.Mathlib.Omega.{arith}
 use native.Mathlib.Decide.{decLt}
@@ -60,8 +61,6 @@ module _ (A : Accepted) (k : ℕ) (l : k < A .C .P .n) where
   pub rows-distinct : (r g : ℕ) → r < length (levelOf A (suc k)) → g < A .C .P .n → (c c′ : ℕ) → c < degreeIn A k r → c′ < degreeIn A k r
       → col (repOf (levelOf A (suc k)) r .matrix g) c .row ≡ col (repOf (levelOf A (suc k)) r .matrix g) c′ .row
       → c ≡ c′
-  rows-distinct r g h a = go (decLt g (suc k))
-    where
-      go : Dec (g < suc k) → (c c′ : ℕ) → c < degreeIn A k r → c′ < degreeIn A k r → col (repOf L r .matrix g) c .row ≡ col (repOf L r .matrix g) c′ .row → c ≡ c′
-      go (yes b) = shows-distinct m pos Φ (here .stands .complete) h (here .stands .represents g b r h) (image-inverse g)
-      go (no b) = shows-distinct m pos Φ (here .stands .complete) h (here .stands .intertwines g (omega arith) a r h) (intertwiner-inverse-at g (omega arith) a)
+  rows-distinct r g h a = by-cases (decLt g (suc k))
+      (λ b. shows-distinct m pos Φ (here .stands .complete) h (here .stands .represents g b r h) (image-inverse g))
+      (λ b. shows-distinct m pos Φ (here .stands .complete) h (here .stands .intertwines g (omega arith) a r h) (intertwiner-inverse-at g (omega arith) a))

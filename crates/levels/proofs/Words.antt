@@ -6,6 +6,7 @@
 --   reads                     all of it
 --   source-told               the level and the words of the presentation, as the formulas ask for them
 use mathlib.Core.Path.{_≡_, refl, sym, _∙_, ap, ap₂, subst}
+use mathlib.Core.Logic.{by-cases}
 use mathlib.Core.List.{List, []}
 use Prim.Native.Nat.{ℕ, zero, suc, _+_, _*_, _-_, _≤_, _<_}
 use native.Mathlib.Omega.{arith}
@@ -111,20 +112,16 @@ module _ (A : Accepted) (k : ℕ) (l : k < A .C .P .n) where
       })
 
   pub size-of : (r g : ℕ) → r < length L → g < n → length (repOf L r .matrix g) ≡ d r
-  size-of r g h a = go (decLt g (suc k))
-    where
-      go : Dec (g < suc k) → length (repOf L r .matrix g) ≡ d r
-      go (yes b) = standsHere .stands .represents g b r h .size
-      go (no b) = standsHere .stands .intertwines g (omega arith) a r h .size
+  size-of r g h a = by-cases (decLt g (suc k))
+      (λ b. standsHere .stands .represents g b r h .size)
+      (λ b. standsHere .stands .intertwines g (omega arith) a r h .size)
 
   pub column-below : (r g c : ℕ) → r < length L → g < n → c < d r → Below m (d r) (col (repOf L r .matrix g) c)
-  column-below r g c h a e = go (decLt g (suc k))
-    where
-      go : Dec (g < suc k) → Below m (d r) (col (repOf L r .matrix g) c)
-      go (yes b) = shown-below r r c (repOf L r .matrix g) _ h refl e (standsHere .stands .represents g b r h)
-      go (no b) =
-          let S = standsHere .stands in
-          shown-below r (standsHere .F .target g r) c (repOf L r .matrix g) _ h (S .degree-target g (omega arith) a r h) e (S .intertwines g (omega arith) a r h)
+  column-below r g c h a e = by-cases (decLt g (suc k))
+      (λ b. shown-below r r c (repOf L r .matrix g) _ h refl e (standsHere .stands .represents g b r h))
+      (λ b.
+      let S = standsHere .stands in
+      shown-below r (standsHere .F .target g r) c (repOf L r .matrix g) _ h (S .degree-target g (omega arith) a r h) e (S .intertwines g (omega arith) a r h))
 
   pub matrix-of : (r g : ℕ) → r < length L → g < n → repOf L r .matrix g ≡ matrixIn W (matrixOf f W g r) (degOf f W r)
   unfolding col

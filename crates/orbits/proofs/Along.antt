@@ -5,6 +5,7 @@
 --   scaling-none, scaling-more       up to block 0; one more
 --   scaling-all                after p steps every scalar is listed
 use mathlib.Core.Path.{_≡_, refl, sym, _∙_, ap, ap₂, subst}
+use mathlib.Core.Logic.{by-cases}
 use mathlib.Core.List.{List}
 use Prim.Native.Nat.{ℕ, suc, _+_, _-_, _%_, _<_}
 use native.Mathlib.Omega.{arith}
@@ -54,11 +55,9 @@ module _ (f : Frame) (W : List ℕ) (rows : List (List ℕ)) (j r : ℕ) where
 
     along-more : Cycles f W rows j r → (a : List ℕ) (t b x : ℕ) → t < f .p → b < length a → b ≡ blockAt S j r t → x ≡ scalarAt S j r t
         → Along a t → Along (set a b x) (t + 1)
-    along-more C a t b x h l e v A u k = go (ℕ-discrete u t)
-      where
-        go : Dec (u ≡ t) → getD (set a b x) (blockAt S j r u) 0 ≡ scalarAt S j r u
-        go (yes q) = ap (λ y. getD (set a b x) y 0) (ap (blockAt S j r) q ∙ sym e) ∙ getD-set-same a b x 0 l ∙ v ∙ ap (scalarAt S j r) (sym q)
-        go (no q) = getD-set-other a b (blockAt S j r u) x 0 (λ o. q (C .once u t (omega arith) h (o ∙ e))) ∙ A u (omega arith)
+    along-more C a t b x h l e v A u k = by-cases (ℕ-discrete u t)
+        (λ q. ap (λ y. getD (set a b x) y 0) (ap (blockAt S j r) q ∙ sym e) ∙ getD-set-same a b x 0 l ∙ v ∙ ap (scalarAt S j r) (sym q))
+        (λ q. getD-set-other a b (blockAt S j r u) x 0 (λ o. q (C .once u t (omega arith) h (o ∙ e))) ∙ A u (omega arith))
 
     -- one more scalar is stored
     stored : {notes a b : List ℕ} (k : ℕ) (s : BlockScalar) → Inducing f W rows notes a r → Put 2 1 (s .block) (s .exp) a b → k < f .p

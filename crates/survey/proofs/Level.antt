@@ -10,6 +10,7 @@
 --   moved-many, moved-prime    an orbit that moves has p members, so that p is no more than there are representations, and small
 --   reps-half                  representations are few
 use mathlib.Core.Path.{_≡_, refl, ap, sym, _∙_, subst}
+use mathlib.Core.Logic.{by-cases}
 use Prim.Native.Nat.{ℕ, suc, _+_, _*_, _<_, _≤_}
 use native.Mathlib.Numerals.{add-one}
 use native.Mathlib.Omega.{arith}
@@ -72,14 +73,12 @@ module _ (f : Frame) (W : List ℕ) where
 
     -- the square of the prime of an orbit that moves is at most the order
     pub moved-prime : f .p ≤ f .reps → f .p ≤ maxDegree
-    moved-prime l = go (decLt maxDegree (f .p))
-      where
-        go : Dec (maxDegree < f .p) → f .p ≤ maxDegree
-        go (yes h) =
-            let a : f .p * f .p ≤ f .p * f .reps = mul-le-mul-left (f .p) l in
-            let b : f .p * suc maxDegree ≤ f .p * f .p = mul-le-mul-left (f .p) h in
-            absurd (omega (arith, S .few))
-        go (no h) = omega arith
+    moved-prime l = by-cases (decLt maxDegree (f .p))
+        (λ h.
+        let a : f .p * f .p ≤ f .p * f .reps = mul-le-mul-left (f .p) l in
+        let b : f .p * suc maxDegree ≤ f .p * f .p = mul-le-mul-left (f .p) h in
+        absurd (omega (arith, S .few)))
+        (λ h. omega arith)
 
 -- ---- The representation that D is
 

@@ -7,6 +7,7 @@
 --   marking-skip               r is marked already, so it begins no orbit
 --   marking-all                every orbit
 use mathlib.Core.Path.{_≡_, ap, sym, _∙_, subst}
+use mathlib.Core.Logic.{by-cases}
 use mathlib.Core.List.{List}
 use Prim.Native.Nat.{ℕ, _+_, _<_, _≤_}
 use native.Mathlib.Omega.{arith}
@@ -147,11 +148,9 @@ module _ (f : Frame) (W : List ℕ) (S : LevelStands f W) where
         }
           where
             here : pos q₀ ≡ k
-            here = position-here (decLt (pos q₀) k)
-              where
-                position-here : Dec (pos q₀ < k) → pos q₀ ≡ k
-                position-here (yes h) = absurd (omega (arith, M .these q₀ l₀ (member k) h .0, u, hr))
-                position-here (no h) = omega (arith, least-position)
+            here = by-cases (decLt (pos q₀) k)
+                (λ h. absurd (omega (arith, M .these q₀ l₀ (member k) h .0, u, hr)))
+                (λ h. omega (arith, least-position))
 
             keep : (q : ℕ) → ¬ (q ≡ q₀) → (getD a′ q 0 ≡ getD a q 0) × (getD b′ q 0 ≡ getD b q 0)
             keep q n = (ap (λ x. getD x q 0) (N .fresh u .0) ∙ getD-set-other a q₀ q r 0 n, ap (λ x. getD x q 0) (N .fresh u .1) ∙ getD-set-other b q₀ q k 0 n)
@@ -196,11 +195,9 @@ module _ (f : Frame) (W : List ℕ) (S : LevelStands f W) where
 
   -- an unmarked r begins its orbit
   pub marking-own : (r : ℕ) (a b : List ℕ) → r < f .reps → getD a r 0 ≡ f .reps → MarkedTo f W a b r 0 → lead r ≡ r
-  marking-own r a b l e M = go (decLt (lead r) r)
-    where
-      go : Dec (lead r < r) → lead r ≡ r
-      go (yes h) = absurd (omega (arith, M .earlier r l h .0, e))
-      go (no h) = omega (arith, lead-below r l)
+  marking-own r a b l e M = by-cases (decLt (lead r) r)
+      (λ h. absurd (omega (arith, M .earlier r l h .0, e)))
+      (λ h. omega (arith, lead-below r l))
 
   pub marking-all : (a b : List ℕ) → MarkedTo f W a b (f .reps) 0 → Array f W a lead × Array f W b pos
   marking-all a b M = (

@@ -11,6 +11,7 @@
 --   inside-targets             a field of a generator that has a row
 --   targeted-none, targeted-more     the array of targets, filled row by row
 use mathlib.Core.Path.{_≡_, refl, ap, ap₂, sym, _∙_, subst}
+use mathlib.Core.Logic.{by-cases}
 use mathlib.Core.List.{List, []}
 use Prim.Native.Nat.{ℕ, zero, suc, _+_, _*_, _/_, _≤_, _<_}
 use native.Mathlib.Omega.{arith}
@@ -125,11 +126,9 @@ module _ (f : Frame) (W : List ℕ) (rows : List (List ℕ)) (r : ℕ) where
   Between a g j = (k : ℕ) → f .top < k → k < j → getD a k 0 ≡ g k
 
   between-more : (a : List ℕ) (g : ℕ → ℕ) (j x : ℕ) → j < length a → x ≡ g j → Between a g j → Between (set a j x) g (j + 1)
-  between-more a g j x l e h k u v = go (ℕ-discrete k j)
-    where
-      go : Dec (k ≡ j) → getD (set a j x) k 0 ≡ g k
-      go (yes q) = ap (λ z. getD (set a j x) z 0) q ∙ getD-set-same a j x 0 l ∙ e ∙ ap g (sym q)
-      go (no q) = getD-set-other a j k x 0 q ∙ h k u (omega arith)
+  between-more a g j x l e h k u v = by-cases (ℕ-discrete k j)
+      (λ q. ap (λ z. getD (set a j x) z 0) q ∙ getD-set-same a j x 0 l ∙ e ∙ ap g (sym q))
+      (λ q. getD-set-other a j k x 0 q ∙ h k u (omega arith))
 
   pub targeted-more : {j x y : ℕ} {a b c : List ℕ} → 2 * f .gens ≤ length a → j < f .gens
       → Put 2 0 j x a b → x ≡ start (sourceIn f W rows) (targetOf f W j r) → Put 2 1 j y b c → y ≡ landing (sourceIn f W rows) j r
