@@ -20,7 +20,7 @@ use Rattle.group.specs.Context.{Context}
 use Rattle.group.proofs.Level.{level, conjNf, genNf}
 use Rattle.monomial.specs.Maps.{Map}
 use Rattle.monomial.specs.Families.{Family}
-use Rattle.monomial.specs.Frames.{Layout, Shows}
+use Rattle.monomial.specs.Frames.{Shows}
 use Rattle.monomial.proofs.Residues.{residues}
 use Rattle.clifford.specs.Stands.{frame, Stands, Restricts}
 use Rattle.clifford.proofs.Lines.{Agrees}
@@ -47,11 +47,8 @@ module _ (C : Context) (n m : ℕ) (pos : 0 < m) (i : ℕ) (l : i ≤ n) (L M : 
   column-in : (r c : ℕ) → r < length L → c < repOf M r .deg → c < repOf L r .deg
   column-in r c h b = subst (λ z. c < z) (sym (A .same-degree r h)) b
 
-  abbrev ΦM : Layout Ω
-  ΦM = frame M (F .rep) column below
-
   agree-shows : (r s g : ℕ) (B : Map (residues m pos) Ω) → r < length L → g < n
-      → Shows m (frame L (F .rep) column (St .column-below)) r s (repOf L r .matrix g) B → Shows m ΦM r s (repOf M r .matrix g) B
+      → Shows m (frame L (F .rep) column (St .column-below)) r s (repOf L r .matrix g) B → Shows m (frame M (F .rep) column below) r s (repOf M r .matrix g) B
   agree-shows r s g B h a sh = record {
     size = A .size r g h a;
     maps-to = sh .maps-to;
@@ -82,23 +79,23 @@ module _ (C : Context) (n m : ℕ) (pos : 0 < m) (i : ℕ) (l : i ≤ n) (L M : 
 
 pub agree-restricts : (n i : ℕ) → i < n → (low low′ L L′ : Level) → Agrees n low low′ → Agrees n L L′ → (r : ℕ) → r < length L
     → Restricts i low (repOf L r) → Restricts i low′ (repOf L′ r)
-agree-restricts n i l low low′ L L′ A B r h Q = record {
-  count = Q .count;
-  width = Q .width;
-  part = Q .part;
-  width-pos = Q .width-pos;
-  part-below = λ b a. subst (λ z. Q .part b < z) (A .same-length) (Q .part-below b a);
-  part-degree = λ b a. sym (A .same-degree (Q .part b) (Q .part-below b a)) ∙ Q .part-degree b a;
-  degree = sym (B .same-degree r h) ∙ Q .degree;
-  refers = λ g a b c e f. sym (B .same-ref r g (b * Q .width + c) h (omega arith) (inside b c e f)) ∙ Q .refers g a b c e f;
-  acts = λ k a b c e f.
-      sym (B .same-column r k (b * Q .width + c) h (omega arith) (inside b c e f)) ∙ Q .acts k a b c e f
-      ∙ ap (λ (x : Entry). entry (b * Q .width + x .row) (x .exp))
-      (A .same-column (Q .part b) k c (Q .part-below b e) (omega arith) (subst (λ z. c < z) (sym (Q .part-degree b e)) f));
-}
-  where
-    inside : (b c : ℕ) → b < Q .count → c < Q .width → b * Q .width + c < repOf L r .deg
-    inside b c e f = subst (λ z. b * Q .width + c < z) (sym (Q .degree)) (digits-lt e f)
+agree-restricts n i l low low′ L L′ A B r h Q =
+    let inside : (b c : ℕ) → b < Q .count → c < Q .width → b * Q .width + c < repOf L r .deg
+    = λ b c e f. subst (λ z. b * Q .width + c < z) (sym (Q .degree)) (digits-lt e f) in
+    record {
+      count = Q .count;
+      width = Q .width;
+      part = Q .part;
+      width-pos = Q .width-pos;
+      part-below = λ b a. subst (λ z. Q .part b < z) (A .same-length) (Q .part-below b a);
+      part-degree = λ b a. sym (A .same-degree (Q .part b) (Q .part-below b a)) ∙ Q .part-degree b a;
+      degree = sym (B .same-degree r h) ∙ Q .degree;
+      refers = λ g a b c e f. sym (B .same-ref r g (b * Q .width + c) h (omega arith) (inside b c e f)) ∙ Q .refers g a b c e f;
+      acts = λ k a b c e f.
+          sym (B .same-column r k (b * Q .width + c) h (omega arith) (inside b c e f)) ∙ Q .acts k a b c e f
+          ∙ ap (λ (x : Entry). entry (b * Q .width + x .row) (x .exp))
+          (A .same-column (Q .part b) k c (Q .part-below b e) (omega arith) (subst (λ z. c < z) (sym (Q .part-degree b e)) f));
+    }
 
 pub agree-words : (n i : ℕ) (L M : Level) → Agrees n L M → levelWords n i L ≡ levelWords n i M
 unfolding levelWords repWords lineOf

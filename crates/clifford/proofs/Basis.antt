@@ -4,6 +4,7 @@
 --   basis-path, basis-discrete           they are known by their numbers
 --   basis-frame, basis-complete          a frame in which every column is one
 use mathlib.Core.Path.{_≡_, refl, ap}
+use mathlib.Core.Logic.{by-cases}
 use mathlib.Core.HLevel.{Σ-prop-path, ×-prop}
 use Prim.Native.Nat.{ℕ, _<_}
 use native.Mathlib.Bridge.{le-prop}
@@ -21,12 +22,9 @@ module _ (L : Level) where
   basis-path x y p q = Σ-prop-path (λ z. ×-prop le-prop le-prop) (λ j. (p j, q j))
 
   pub basis-discrete : Discrete Basis
-  basis-discrete x y = go (ℕ-discrete (x .0 .0) (y .0 .0)) (ℕ-discrete (x .0 .1) (y .0 .1))
-    where
-      go : Dec (x .0 .0 ≡ y .0 .0) → Dec (x .0 .1 ≡ y .0 .1) → Dec (x ≡ y)
-      go (yes a) (yes b) = yes (basis-path x y a b)
-      go (yes a) (no b) = no (λ q. b (ap (λ z. z .0 .1) q))
-      go (no a) d = no (λ q. a (ap (λ z. z .0 .0) q))
+  basis-discrete x y = by-cases (ℕ-discrete (x .0 .0) (y .0 .0))
+      (λ a. by-cases (ℕ-discrete (x .0 .1) (y .0 .1)) (λ b. yes (basis-path x y a b)) (λ b. no (λ q. b (ap (λ z. z .0 .1) q))))
+      (λ a. no (λ q. a (ap (λ z. z .0 .0) q)))
 
   abbrev pub basis-frame : Layout Basis
   basis-frame = frame L (λ (x : Basis). x .0 .0) (λ (x : Basis). x .0 .1) (λ (x : Basis). x .1 .1)

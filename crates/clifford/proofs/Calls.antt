@@ -6,6 +6,7 @@
 --   left-behind           the table stands at the start of the buffer that it was written over
 --   built-checks          a finished build leaves words whose check answers 0
 use mathlib.Core.Path.{_≡_, refl, sym, _∙_, ap, ap₂, subst}
+use mathlib.Core.Logic.{by-cases}
 use mathlib.Core.Bool.{false}
 use mathlib.Core.List.{List, _++_}
 use Prim.Native.Nat.{ℕ, _*_, _/_}
@@ -34,11 +35,7 @@ module _ (t : Bytes) (U : Unrefused t) (R : Relations) (s : Says t R) where
   words-used = unsaid misused s (U .1 .1 .1 .0)
 
   pub consistent : Consistent (presentation R)
-  consistent = go (decision R (s .formed) primes words-used)
-    where
-      go : Dec (Consistent (presentation R)) → Consistent (presentation R)
-      go (yes c) = c
-      go (no c) = absurd (U .1 .1 .1 .1 .0 (R, s, c))
+  consistent = by-cases (decision R (s .formed) primes words-used) (λ c. c) (λ c. absurd (U .1 .1 .1 .1 .0 (R, s, c)))
 
   abbrev T : List ℕ
   T = tableOf (presentation R)
@@ -46,16 +43,14 @@ module _ (t : Bytes) (U : Unrefused t) (R : Relations) (s : Says t R) where
   pub passes-check : Check t (tableOf (presentation R)) 0
   passes-check = check-judged t U R s (λ P. order P (P .n)) T 0 .1 (sym (built-passes R (s .formed) primes words-used consistent))
 
-  whole-lines : lineWords * lineCount T ≡ length T
-  unfolding lineCount lineWords
-  whole-lines =
-      let (k, e) = table-words R (s .formed) primes words-used consistent in
-      ap (λ z. lineWords * (z / lineWords)) e ∙ ap (λ z. lineWords * z) (mul-div-right k (omega arith)) ∙ sym e
-
   pub left-behind : (before : List ℕ)
       → take (lineWords * lineCount (tableOf (presentation R))) (over before (tableOf (presentation R))) ≡ tableOf (presentation R)
-  unfolding over
-  left-behind before = ap (λ k. take k (T ++ drop (length T) before)) whole-lines ∙ take-append-seam T _
+  unfolding over lineCount lineWords
+  left-behind before =
+      let (k, e) = table-words R (s .formed) primes words-used consistent in
+      let whole : lineWords * lineCount T ≡ length T
+      = ap (λ z. lineWords * (z / lineWords)) e ∙ ap (λ z. lineWords * z) (mul-div-right k (omega arith)) ∙ sym e in
+      ap (λ k. take k (T ++ drop (length T) before)) whole ∙ take-append-seam T _
 
 pub built-checks : (t : Bytes) (before : List ℕ) (count : ℕ) (after : List ℕ) → Build t before 0 count after → Check t (take (lineWords * count) after) 0
 built-checks t before count after B =

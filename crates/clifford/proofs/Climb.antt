@@ -3,21 +3,21 @@
 --   next-stands          the next level stands
 --   next-restricts       its representations are cut into blocks
 use mathlib.Core.Path.{_≡_, refl, sym, _∙_, ap, subst}
+use mathlib.Core.Logic.{by-cases}
 use Prim.Native.Nat.{ℕ, suc, _+_, _*_, _≤_, _<_}
 use native.Mathlib.Nat.{mul-pos}
 use native.Mathlib.Omega.{arith}
 use native.Mathlib.Decide.{ℕ-discrete}
 use lib.Arith.{digits-div}
 use lib.ListN.{length}
-use Rattle.definitions.specs.Monomial.{entry, col, Rep, repOf}
+use Rattle.definitions.specs.Monomial.{Matrix, entry, col, Rep, repOf}
 use Rattle.definitions.specs.Steps
 use Rattle.numbers.proofs.Bools.{cond-lt}
 use Rattle.numbers.proofs.Blocks.{getD-even}
 use Rattle.numbers.proofs.Orbits.{leader}
-use Rattle.group.specs.Context.{Context}
 use Rattle.clifford.specs.Stands.{Stands, Restricts, Rung}
 use Rattle.clifford.proofs.Numbering.{P, p, N, deg, rep, τ, O, rep-below, next, made-some}
-use Rattle.clifford.proofs.Indices.{Index, base, mk, next-rep, wide, wide-below, next-complete, next-find, next-below, degree-fixed, degree-moved}
+use Rattle.clifford.proofs.Indices.{Index, base, mk, wide, wide-below, next-complete, next-find, next-below, degree-fixed, degree-moved}
 use Rattle.clifford.proofs.Extensions.{first}
 use Rattle.clifford.proofs.Next.{target-fixed, target-moved, next-target, next-X, next-X-is, mapped, family}
 use Rattle.clifford.proofs.Inductions.{lift-col, lift-length, orb, orb-below, orb-degree}
@@ -27,59 +27,29 @@ use Rattle.clifford.proofs.Squares.{next-squares}
 module _ (R : Rung) where
   open Rung R using (T, m, pos, i, L, Ω, F, stands)
 
-  abbrev C : Context
-  C = T .context
-
-  two : 1 < p R
-  two = C .two i
-
   -- ---- Degrees
 
   next-degree-pos : (r′ : ℕ) → r′ < length (next R) → 0 < repOf (next R) r′ .deg
   unfolding Steps.extension Steps.induction
   next-degree-pos r′ h = at-source R (0 < repOf (next R) r′ .deg) r′ h
       (λ e. subst (λ (D : Rep). 0 < D .deg) (sym (e .rep-is)) (stands .degree-pos (e .s) (e .s-below)))
-      (λ e. subst (λ (D : Rep). 0 < D .deg) (sym (e .rep-is)) (mul-pos (omega (arith, two)) (stands .degree-pos (e .s) (e .s-below))))
-
-  some-index : Index R
-  some-index = mk R a 0 (made-some R (rep R a) (rep-below R a))
-    where
-      a : Ω
-      a = first R 0
-
-  next-nonempty : 0 < length (next R)
-  next-nonempty = omega (arith, next-below R some-index)
+      (λ e. subst (λ (D : Rep). 0 < D .deg) (sym (e .rep-is)) (mul-pos (omega (arith, T .context .two i)) (stands .degree-pos (e .s) (e .s-below))))
 
   next-degree-target : (j : ℕ) → suc i ≤ j → j < T .n → (r′ : ℕ) → r′ < length (next R) → repOf (next R) (next-target R j r′) .deg ≡ repOf (next R) r′ .deg
+  unfolding mapped
   next-degree-target j ij jn r′ h =
       let o = next-find R r′ 0 h (next-degree-pos r′ h) in
       let x : Index R = o .index in
+      let y : Index R = next-X R j x .0 in
+      let r : ℕ = rep R (base R x) in
+      let l : r < N R = rep-below R (base R x) in
+      let ry : rep R (base R y) ≡ F .target j r = ap (λ f. rep R (base R ((f x) .0))) (next-X-is R j ij jn) ∙ F .maps-to j (omega arith) jn (base R x) in
+      let same : deg R (rep R (base R y)) ≡ deg R r = ap (deg R) ry ∙ stands .degree-target j (omega arith) jn r l in
       ap (λ r. repOf (next R) (next-target R j r) .deg) (sym (o .is-rep)) ∙ ap (λ r. repOf (next R) r .deg) (sym (family R .maps-to j ij jn x))
-      ∙ go x (next-X R j x .0) (ap (λ f. base R ((f x) .0)) (next-X-is R j ij jn) ∙ mapped-base x)
-      (ℕ-discrete (τ R (rep R (base R x))) (rep R (base R x))) ∙ ap (λ r. repOf (next R) r .deg) (o .is-rep)
-    where
-      mapped-base : (x : Index R) → base R ((mapped R j ij jn x) .0) ≡ (F .X j (base R x)) .0
-      mapped-base x = unfold mapped in refl
-
-      go : (x y : Index R) → base R y ≡ (F .X j (base R x)) .0 → Dec (τ R (rep R (base R x)) ≡ rep R (base R x))
-          → repOf (next R) (next-rep R y) .deg ≡ repOf (next R) (next-rep R x) .deg
-      go x y e d =
-          let r : ℕ = rep R (base R x) in
-          let h : r < N R = rep-below R (base R x) in
-          let ry : rep R (base R y) ≡ F .target j r = ap (rep R) e ∙ F .maps-to j (omega arith) jn (base R x) in
-          let same : deg R (rep R (base R y)) ≡ deg R r = ap (deg R) ry ∙ stands .degree-target j (omega arith) jn r h in
-          split r h ry same d
-        where
-          split : (r : ℕ) (h : r < N R) → rep R (base R y) ≡ F .target j r → deg R (rep R (base R y)) ≡ deg R (rep R (base R x))
-              → Dec (τ R (rep R (base R x)) ≡ rep R (base R x))
-              → repOf (next R) (next-rep R y) .deg ≡ repOf (next R) (next-rep R x) .deg
-          split r h ry same (yes f) =
-              degree-fixed R y (subst (λ s. τ R s ≡ s) (sym (ap (rep R) e ∙ F .maps-to j (omega arith) jn (base R x)))
-              (target-fixed R j ij jn (rep R (base R x)) (rep-below R (base R x)) f)) ∙ same ∙ sym (degree-fixed R x f)
-          split r h ry same (no f) =
-              degree-moved R y (λ g. target-moved R j ij jn (rep R (base R x)) (rep-below R (base R x)) f
-              (subst (λ s. τ R s ≡ s) (ap (rep R) e ∙ F .maps-to j (omega arith) jn (base R x)) g))
-              ∙ ap (λ d. p R * d) same ∙ sym (degree-moved R x f)
+      ∙ by-cases (ℕ-discrete (τ R r) r)
+      (λ f. degree-fixed R y (subst (λ s. τ R s ≡ s) (sym ry) (target-fixed R j ij jn r l f)) ∙ same ∙ sym (degree-fixed R x f))
+      (λ f. degree-moved R y (λ g. target-moved R j ij jn r l f (subst (λ s. τ R s ≡ s) ry g)) ∙ ap (λ d. p R * d) same ∙ sym (degree-moved R x f))
+      ∙ ap (λ r. repOf (next R) r .deg) (o .is-rep)
 
   pub next-stands : Stands (T .context) (T .n) m pos (suc i) (next R) (family R)
   next-stands = record {
@@ -89,7 +59,7 @@ module _ (R : Rung) where
     represents = next-represents R;
     intertwines = next-intertwines R;
     refers = λ j ij jn r h c l. next-refers R j ij jn r h c;
-    nonempty = next-nonempty;
+    nonempty = omega (arith, next-below R (mk R (first R 0) 0 (made-some R (rep R (first R 0)) (rep-below R (first R 0)))));
     degree-pos = next-degree-pos;
     degree-target = next-degree-target;
     squares = next-squares R;
@@ -98,6 +68,7 @@ module _ (R : Rung) where
   -- ---- Blocks
 
   extended-restricts : (s κ : ℕ) → s < N R → Restricts i L (Steps.extension (P R) m i L s κ)
+  unfolding Steps.extension
   extended-restricts s κ h = record {
     count = 1;
     width = deg R s;
@@ -105,20 +76,14 @@ module _ (R : Rung) where
     width-pos = stands .degree-pos s h;
     part-below = λ b l. h;
     part-degree = λ b l. refl;
-    degree = degree-one;
+    degree = omega arith;
     refers = λ g l b c a e. extension-base R s κ g l (b * deg R s + c);
     acts = λ k l b c a e.
-        let z : b * deg R s + c ≡ c = omega (arith, ap (λ x. x * deg R s) (zero-of b a)) in
-        let z′ : (x : ℕ) → b * deg R s + x ≡ x = λ x. omega (arith, ap (λ x. x * deg R s) (zero-of b a)) in
-        ap (λ M. col M (b * deg R s + c)) (extension-low R s κ k (omega arith) ∙ cond-lt k i _ _ l) ∙ ap (col (repOf L s .matrix k)) z
-        ∙ ap (λ x. entry x (col (repOf L s .matrix k) c .exp)) (sym (z′ (col (repOf L s .matrix k) c .row)));
+        let o : b ≡ 0 = omega arith in
+        let z : (x : ℕ) → b * deg R s + x ≡ x = λ x. omega (arith, ap (λ x. x * deg R s) o) in
+        ap (λ M. col M (b * deg R s + c)) (extension-low R s κ k (omega arith) ∙ cond-lt k i _ _ l) ∙ ap (col (repOf L s .matrix k)) (z c)
+        ∙ ap (λ x. entry x (col (repOf L s .matrix k) c .exp)) (sym (z (col (repOf L s .matrix k) c .row)));
   }
-    where
-      zero-of : (b : ℕ) → b < 1 → b ≡ 0
-      zero-of b l = omega arith
-
-      degree-one : Steps.extension (P R) m i L s κ .deg ≡ 1 * deg R s
-      degree-one = unfold Steps.extension in (omega arith)
 
   induced-restricts : (s : ℕ) (h : s < N R) (mv : ¬ (τ R s ≡ s)) (own : leader (O R) s ≡ s) → Restricts i L (Steps.induction (P R) m i L s)
   unfolding Steps.induction Steps.blockDiagonal col
@@ -132,15 +97,13 @@ module _ (R : Rung) where
     degree = refl;
     refers = λ g l b c a e. induction-base R s g l (b * deg R s + c) ∙ ap (orb R s h mv own) (digits-div b e);
     acts = λ k l b c a e.
+        let M : ℕ → Matrix = λ b. repOf L (orb R s h mv own b) .matrix k in
+        let size : (b : ℕ) → length (M b) ≡ deg R s
+        = λ b. stands .represents k l (orb R s h mv own b) (orb-below R s h mv own b) .size ∙ orb-degree R s h mv own b in
         ap (λ M. col M (b * deg R s + c)) (induction-low R s k (omega arith) ∙ cond-lt k i _ _ l)
-        ∙ getD-even (λ b. Steps.lift (b * deg R s) (repOf L (orb R s h mv own b) .matrix k)) (deg R s) (entry 0 0) (p R) b c (λ b l′. length-block k l b) a e
-        ∙ lift-col (b * deg R s) (repOf L (orb R s h mv own b) .matrix k) c
-        (subst (λ z. c < z) (sym (stands .represents k l (orb R s h mv own b) (orb-below R s h mv own b) .size ∙ orb-degree R s h mv own b)) e);
+        ∙ getD-even (λ b. Steps.lift (b * deg R s) (M b)) (deg R s) (entry 0 0) (p R) b c (λ b l′. lift-length (b * deg R s) (M b) ∙ size b) a e
+        ∙ lift-col (b * deg R s) (M b) c (subst (λ z. c < z) (sym (size b)) e);
   }
-    where
-      length-block : (k : ℕ) → k < i → (b : ℕ) → length (Steps.lift (b * deg R s) (repOf L (orb R s h mv own b) .matrix k)) ≡ deg R s
-      length-block k l b = lift-length (b * deg R s) (repOf L (orb R s h mv own b) .matrix k)
-          ∙ stands .represents k l (orb R s h mv own b) (orb-below R s h mv own b) .size ∙ orb-degree R s h mv own b
 
   pub next-restricts : (r′ : ℕ) → r′ < length (next R) → Restricts i L (repOf (next R) r′)
   next-restricts r′ h = at-source R (Restricts i L (repOf (next R) r′)) r′ h

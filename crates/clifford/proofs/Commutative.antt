@@ -6,7 +6,7 @@
 --                                commutator words are empty
 --   top-ones                     and so for the relations of a text
 use mathlib.Core.Path.{_≡_, refl, sym, _∙_, ap, subst, fun-ext}
-use mathlib.Core.Logic.{_↔_}
+use mathlib.Core.Logic.{_↔_, by-cases}
 use mathlib.Core.Bool.{true, false}
 use mathlib.Core.List.{List}
 use Prim.Native.Nat.{ℕ, suc, _-_, _≤_, _<_}
@@ -25,11 +25,12 @@ use Rattle.numbers.proofs.Lists.{all-getD, all-intro}
 use Rattle.group.specs.Models.{Abelian, WordsEmpty}
 use Rattle.group.specs.Context.{Context, Nf}
 use Rattle.group.proofs.Level.{level}
-use Rattle.group.proofs.Group.{group}
+use Rattle.group.proofs.Group.{TestedContext, group}
 use Rattle.group.proofs.Order.{inverse, inverse-right, inverse-left}
 use Rattle.group.proofs.Commutative.{empty-abelian, abelian-empty}
 use Rattle.monomial.specs.Exponents.{Exponents, Residue}
-use Rattle.monomial.specs.Maps.{Map, maps}
+use Rattle.monomial.specs.Maps.{maps}
+use Rattle.monomial.specs.Families.{Family}
 use Rattle.monomial.proofs.Exponents.{cancel}
 use Rattle.monomial.proofs.Maps.{pair, at-column, at-mul, mul-at}
 use Rattle.monomial.proofs.Residues.{residues}
@@ -46,10 +47,9 @@ Ones L = (r : ℕ) → r < length L → repOf L r .deg ≡ 1
 
 module _ (G : Setting) (i : ℕ) (l : i ≤ G .T .n) (L : Level) (St : Standing G i L) where
   open Setting G using (T, m, pos)
+  open TestedContext T using (context as C)
   open Standing St using (Ω, F, stands)
-
-  abbrev C : Context
-  C = T .context
+  open Family F using (d)
 
   abbrev E : Exponents (Residue m)
   E = residues m pos
@@ -58,12 +58,15 @@ module _ (G : Setting) (i : ℕ) (l : i ≤ G .T .n) (L : Level) (St : Standing 
   open Mul (level C i) using (mul as _*_, one)
   open Mul (maps E Ω) using (mul as _⊛_)
 
-  abbrev d : Nf C i → Map E Ω
-  d = F .d
-
   -- two columns of one representation would be separated by an element that commutes with one that takes the first to the second
   pub abelian-ones : Abelian (level (G .T .context) i) → Ones L
-  abelian-ones commute r h = go (decLt 1 (repOf L r .deg))
+  abelian-ones commute r h = by-cases (decLt 1 (repOf L r .deg)) (λ c.
+      let z : 0 < repOf L r .deg = omega arith in
+      let a : Ω = stands .complete .find r 0 h z in
+      let b : Ω = stands .complete .find r 1 h c in
+      absurd (apart a b (stands .complete .find-rep r 0 h z ∙ sym (stands .complete .find-rep r 1 h c)) (λ e.
+      let k : _≡_ {A = ℕ} 0 1 = sym (stands .complete .find-column r 0 h z) ∙ ap (stands .column) e ∙ stands .complete .find-column r 1 h c in
+      omega arith))) (λ c. omega (arith, stands .degree-pos r h))
     where
       apart : (a b : Ω) → F .rep a ≡ F .rep b → ¬ (a ≡ b) → ⊥
       apart a b same ne =
@@ -77,17 +80,6 @@ module _ (G : Setting) (i : ℕ) (l : i ≤ G .T .n) (L : Level) (St : Standing 
           let q : E .add t (s .x) ≡ E .add t (s .y) = ap (λ z. z .1) (sym second ∙ at-column E (sym both) a ∙ first) ∙ E .comm _ _ in
           s .differ (cancel E t (s .x) (s .y) q)
 
-      go : Dec (1 < repOf L r .deg) → repOf L r .deg ≡ 1
-      go (no c) = omega (arith, stands .degree-pos r h)
-      go (yes c) =
-          let z : 0 < repOf L r .deg = omega arith in
-          let a : Ω = stands .complete .find r 0 h z in
-          let b : Ω = stands .complete .find r 1 h c in
-          absurd (apart a b (stands .complete .find-rep r 0 h z ∙ sym (stands .complete .find-rep r 1 h c)) (λ e.
-          let k : _≡_ {A = ℕ} 0 1
-          = sym (stands .complete .find-column r 0 h z) ∙ ap (stands .column) e ∙ stands .complete .find-column r 1 h c in
-          omega arith))
-
   -- elements that act alike are equal
   alike : Faithful F → (x y : Nf C i) → d x ≡ d y → x ≡ y
   alike faithful x y e =
@@ -98,32 +90,20 @@ module _ (G : Setting) (i : ℕ) (l : i ≤ G .T .n) (L : Level) (St : Standing 
       sym (𝓛 .idr x) ∙ ap (λ t. x * t) (sym (inverse-left T i l y)) ∙ sym (𝓛 .assoc _ _ _) ∙ ap (λ t. t * y) u ∙ 𝓛 .idl y
 
   pub ones-abelian : Faithful (St .F) → Ones L → Abelian (level (G .T .context) i)
-  ones-abelian faithful ones x y = alike faithful (x * y) (y * x) (F .hom .on-mul x y ∙ fun-ext both ∙ sym (F .hom .on-mul y x))
-    where
-      still : (x : Nf C i) (a : Ω) → (d x a) .0 ≡ a
-      still x a =
-          let b : Ω = (d x a) .0 in
-          let below : (a : Ω) → stands .column a ≡ 0 = λ a. omega (arith, stands .column-below a, ones (F .rep a) (stands .complete .rep-below a)) in
-          stands .complete .known b a (F .inside x a) (below b ∙ sym (below a))
-
-      at : (x y : Nf C i) (a : Ω) → (d x ⊛ d y) a ≡ (a, E .add ((d x a) .1) ((d y a) .1))
-      at x y a =
-          at-mul E (d x) (d y) a ∙ ap (λ (b : Ω). ((d x b) .0, E .add ((d x b) .1) ((d y a) .1))) (still y a)
-          ∙ pair E (still x a) refl
-
-      both : (a : Ω) → (d x ⊛ d y) a ≡ (d y ⊛ d x) a
-      both a = at x y a ∙ pair E refl (E .comm _ _) ∙ sym (at y x a)
+  ones-abelian faithful ones x y =
+      let below : (a : Ω) → stands .column a ≡ 0 = λ a. omega (arith, stands .column-below a, ones (F .rep a) (stands .complete .rep-below a)) in
+      let still : (x : Nf C i) (a : Ω) → (d x a) .0 ≡ a = λ x a. stands .complete .known _ a (F .inside x a) (below _ ∙ sym (below a)) in
+      let at : (x y : Nf C i) (a : Ω) → (d x ⊛ d y) a ≡ (a, E .add ((d x a) .1) ((d y a) .1)) = λ x y a.
+      at-mul E (d x) (d y) a ∙ ap (λ (b : Ω). ((d x b) .0, E .add ((d x b) .1) ((d y a) .1))) (still y a) ∙ pair E (still x a) refl in
+      alike faithful (x * y) (y * x)
+      (F .hom .on-mul x y ∙ fun-ext (λ a. at x y a ∙ pair E refl (E .comm _ _) ∙ sym (at y x a)) ∙ sym (F .hom .on-mul y x))
 
 -- ---- The table of an accepted presentation
 
 module _ (A : Accepted) where
-  open Accepted A using (positive)
-
-  abbrev P : Presentation
-  P = A .C .P
-
-  abbrev n : ℕ
-  n = P .n
+  open Accepted A using (C, positive)
+  open Context C using (P)
+  open Presentation P using (n)
 
   abbrev top : Level
   top = levels P (order P n) n

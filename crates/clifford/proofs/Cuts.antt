@@ -4,13 +4,14 @@
 --   blocks-whole         the references are in whole blocks, the same for every generator
 --   blocks-restrict      each generator acts in a block as in what the block refers to
 use mathlib.Core.Path.{_≡_, refl, sym, _∙_, ap, subst}
-use mathlib.Core.Bool.{Bool, true, _&&_, cond}
-use mathlib.Core.List.{List, [], _∷_}
+use mathlib.Core.Logic.{by-cases}
+use mathlib.Core.Bool.{Bool, true, _&&_}
+use mathlib.Core.List.{List}
 use Prim.Native.Nat.{ℕ, zero, suc, _+_, _*_, _/_, _%_, _≤_, _<_}
 use native.Mathlib.Nat.{mod-lt, mod-add-div', mul-le-mul-right, div-lt-iff-lt-mul}
 use native.Mathlib.Omega.{arith}
 use native.Mathlib.Decide.{decLt}
-use lib.Dec.{eqb, ltb}
+use lib.Dec.{eqb}
 use lib.ListN.{length}
 use borrow.Author.Tests.{eq-eqb, lt-ltb, le-leb}
 use Rattle.definitions.specs.declared.Entry.{Entry}
@@ -37,19 +38,15 @@ module _ (i : ℕ) (low : Level) (D : Rep) (Q : Restricts i low D) where
   from-block : (q : ℕ → Bool) → ((b : ℕ) → b < count → q (b * width) ≡ true) → (f b : ℕ) → all q (Judgement.cutsFrom low D f (b * width)) ≡ true
   unfolding Judgement.cutsFrom all
   from-block q h zero b = refl
-  from-block q h (suc f) b = go (decLt b count) (λ c. from-block q h f c)
-    where
-      go : Dec (b < count) → ((c : ℕ) → all q (Judgement.cutsFrom low D f (c * width)) ≡ true)
-          → all q (cond (ltb (b * width) (D .deg)) (b * width ∷ Judgement.cutsFrom low D f (b * width + repOf low (D .ref 0 (b * width)) .deg)) []) ≡ true
-      go (yes l) rec =
-          let inside : b * width < D .deg = subst (λ z. b * width < z) (sym (Q .degree)) (omega (arith, mul-le-mul-right width l, Q .width-pos)) in
-          let z : b * width + width ≡ suc b * width = omega arith in
-          ap (all q) (cond-lt (b * width) (D .deg) _ _ inside)
-          ∙ and-intro _ _ (h b l)
-          (ap (λ w. all q (Judgement.cutsFrom low D f (b * width + w))) (width-at b l) ∙ ap (λ w. all q (Judgement.cutsFrom low D f w)) z ∙ rec (suc b))
-      go (no l) rec =
-          let out : D .deg ≤ b * width = subst (λ z. z ≤ b * width) (sym (Q .degree)) (mul-le-mul-right width (omega arith)) in
-          ap (all q) (cond-ge (b * width) (D .deg) _ _ out)
+  from-block q h (suc f) b = by-cases (decLt b count) (λ l.
+      let inside : b * width < D .deg = subst (λ z. b * width < z) (sym (Q .degree)) (omega (arith, mul-le-mul-right width l, Q .width-pos)) in
+      let z : b * width + width ≡ suc b * width = omega arith in
+      ap (all q) (cond-lt (b * width) (D .deg) _ _ inside)
+      ∙ and-intro _ _ (h b l)
+      (ap (λ w. all q (Judgement.cutsFrom low D f (b * width + w))) (width-at b l) ∙ ap (λ w. all q (Judgement.cutsFrom low D f w)) z
+      ∙ from-block q h f (suc b))) (λ l.
+      let out : D .deg ≤ b * width = subst (λ z. z ≤ b * width) (sym (Q .degree)) (mul-le-mul-right width (omega arith)) in
+      ap (all q) (cond-ge (b * width) (D .deg) _ _ out))
 
   pub cuts-pass : (q : ℕ → Bool) → ((b : ℕ) → b < Q .count → q (b * Q .width) ≡ true) → all q (Judgement.cuts low D) ≡ true
   unfolding Judgement.cuts
@@ -90,12 +87,10 @@ module _ (P : Presentation) (m : ℕ) (table : List ℕ) (i : ℕ) (D : Rep) (Q 
   unfolding Judgement.blockRestricts sameEntry
   block-restricts b l =
       let low : Level = levelAt (P .n) table i in
-      let ref : D .ref 0 (b * width) ≡ part b = ref-start i (levelAt (P .n) table i) D Q b l in
+      let ref : D .ref 0 (b * width) ≡ part b = ref-start i low D Q b l in
       allBelow-intro i _ (λ k a. allBelow-intro _ _ (λ c e.
-      let c-below : c < width = subst (λ z. c < z) (width-at i (levelAt (P .n) table i) D Q b l) e in
-      let same : col (D .matrix k) (b * width + c) ≡ entry (b * width + col (repOf low (D .ref 0 (b * width)) .matrix k) c .row)
-      (col (repOf low (D .ref 0 (b * width)) .matrix k) c .exp)
-      = Q .acts k a b c l c-below ∙ ap (λ r. entry (b * width + col (repOf low r .matrix k) c .row) (col (repOf low r .matrix k) c .exp)) (sym ref) in
+      let c-below : c < width = subst (λ z. c < z) (width-at i low D Q b l) e in
+      let same = Q .acts k a b c l c-below ∙ ap (λ r. entry (b * width + col (repOf low r .matrix k) c .row) (col (repOf low r .matrix k) c .exp)) (sym ref) in
       and-intro _ _ (eq-eqb _ _ (ap (λ (x : Entry). x .row) same)) (eq-eqb _ _ (ap (λ (x : Entry). x .exp % m) same))))
 
   pub blocks-restrict : Judgement.restricts P m table (suc i) D ≡ true

@@ -1,7 +1,7 @@
 -- The p-th power of the intertwiner X of generator i is the image of the power word u, times a scalar on each
 -- representation: the defect.
 --
---   inverse-image, X-inverse            images of group elements and intertwiners have inverses
+--   image-inverse, X-inverse            images of group elements and intertwiners have inverses
 --   target-period                       an intertwiner moves the representations by a permutation of finite order
 --   defect, defect-eq, defect-const     X^p = defect · D(u)
 --   target-home                         X^p maps every representation home
@@ -14,7 +14,7 @@ use Prim.Native.Nat.{ℕ, zero, suc, _≤_, _<_}
 use native.Mathlib.Omega.{arith}
 use Rattle.definitions.specs.Lists.{iter}
 use Rattle.definitions.specs.Presentation.{Mul, power}
-use Rattle.group.specs.Models.{Laws}
+use Rattle.group.specs.Models.{Laws, Hom}
 use Rattle.group.proofs.Values.{power-zero, power-suc, power-past, power-hom, iter-past}
 use Rattle.monomial.specs.Exponents.{Exponents, times}
 use Rattle.monomial.specs.Maps.{Map, maps, Inverse}
@@ -23,6 +23,14 @@ use Rattle.monomial.proofs.Exponents.{idr, lcomm, cancel}
 use Rattle.monomial.proofs.Maps.{pair, at-column, at-mul, at-one, mul-at, maps-laws, power-fixes}
 use Rattle.monomial.proofs.Schur.{commuting-fixes, power-commutes, intertwiner-inverse, ratio, ratio-eq, ratio-const, rep-power}
 use Rattle.clifford.specs.Extension.{Extension}
+
+abbrev pub image-inverse : {G M : Type 0} {𝓖 : Mul G} {𝓜 : Mul M} {d : G → M} → Hom 𝓖 𝓜 d → (x y : G) → 𝓖 .mul x y ≡ 𝓖 .one → 𝓖 .mul y x ≡ 𝓖 .one
+    → Inverse 𝓜 (d x)
+image-inverse {d = d} H x y r l = record {
+  to = d y;
+  right = sym (H .on-mul _ _) ∙ ap d r ∙ H .on-one;
+  left = sym (H .on-mul _ _) ∙ ap d l ∙ H .on-one;
+}
 
 module _ {G G⁺ : Type 0} {𝓖 : Mul G} {𝓖⁺ : Mul G⁺} {conj : ℕ → G → G} {conj⁺ : ℕ → G⁺ → G⁺} {i n : ℕ} (S : Extension 𝓖 𝓖⁺ conj conj⁺ i n)
     {E : Type 0} {𝓔 : Exponents E} {Ω : Type 0} (F : Family 𝓔 Ω 𝓖 conj i n) where
@@ -42,13 +50,6 @@ module _ {G G⁺ : Type 0} {𝓖 : Mul G} {𝓖⁺ : Mul G⁺} {conj : ℕ → G
 
   abbrev pub τ : ℕ → ℕ
   τ = target i
-
-  pub inverse-image : (x : G) → Inverse (maps 𝓔 Ω) (d x)
-  inverse-image x = record {
-    to = d (S .inv x);
-    right = sym (F .hom .on-mul _ _) ∙ ap d (S .inv-right x) ∙ F .hom .on-one;
-    left = sym (F .hom .on-mul _ _) ∙ ap d (S .inv-left x) ∙ F .hom .on-one;
-  }
 
   pub X-inverse : (j : ℕ) → i ≤ j → j < n → Inverse (maps 𝓔 Ω) (X j)
   X-inverse j a b = intertwiner-inverse F (X j) (conj j) (F .past j a b) (S .period j) (S .period-pos j) (S .conj-period j a b)
@@ -70,7 +71,7 @@ module _ {G G⁺ : Type 0} {𝓖 : Mul G} {𝓖⁺ : Mul G⁺} {conj : ℕ → G
   alike = record {
     first = iter-past (maps-laws 𝓔) d (X i) f X-past p;
     second = λ x. sym (F .hom .on-mul _ _) ∙ ap d (S .inner x) ∙ F .hom .on-mul _ _;
-    inverse = inverse-image u;
+    inverse = image-inverse (F .hom) u (S .inv u) (S .inv-right u) (S .inv-left u);
   }
 
   pub defect : Ω → E
@@ -89,19 +90,13 @@ module _ {G G⁺ : Type 0} {𝓖 : Mul G} {𝓖⁺ : Mul G⁺} {conj : ℕ → G
 
   pub defect-step : (a : Ω) → defect ((X i a) .0) ≡ defect a
   defect-step a =
+      let one-way = at-mul 𝓔 (pow (X i) p) (X i) a ∙ ap (λ s. (s .0, add (s .1) ((X i a) .1))) (defect-eq ((X i a) .0)) in
+      let other-way = mul-at 𝓔 (X i) (pow (X i) p) a _ _ (defect-eq a) in
+      let u-X = sym (at-mul 𝓔 (X i) (d u) a) ∙ at-column 𝓔 (ap (λ s. X i * d s) (sym (S .conj-u)) ∙ X-past u) a ∙ at-mul 𝓔 (d u) (X i) a in
       cancel 𝓔 (add ((d u ((X i a) .0)) .1) ((X i a) .1)) _ _
       (𝓔 .comm _ _ ∙ sym (𝓔 .assoc _ _ _)
       ∙ ap (λ s. s .1) (sym one-way ∙ at-column 𝓔 (sym (power-past (maps-laws 𝓔) (X i) (X i) (X i) refl p)) a ∙ other-way)
       ∙ lcomm 𝓔 _ _ _ ∙ ap (add (defect a)) (ap (λ s. s .1) u-X) ∙ 𝓔 .comm _ _)
-    where
-      one-way : (pow (X i) p * X i) a ≡ ((d u ((X i a) .0)) .0, add (add (defect ((X i a) .0)) ((d u ((X i a) .0)) .1)) ((X i a) .1))
-      one-way = at-mul 𝓔 (pow (X i) p) (X i) a ∙ ap (λ s. (s .0, add (s .1) ((X i a) .1))) (defect-eq ((X i a) .0))
-
-      other-way : (X i * pow (X i) p) a ≡ ((X i ((d u a) .0)) .0, add ((X i ((d u a) .0)) .1) (add (defect a) ((d u a) .1)))
-      other-way = mul-at 𝓔 (X i) (pow (X i) p) a _ _ (defect-eq a)
-
-      u-X : _≡_ {A = Ω × E} ((X i ((d u a) .0)) .0, add ((X i ((d u a) .0)) .1) ((d u a) .1)) ((d u ((X i a) .0)) .0, add ((d u ((X i a) .0)) .1) ((X i a) .1))
-      u-X = sym (at-mul 𝓔 (X i) (d u) a) ∙ at-column 𝓔 (ap (λ s. X i * d s) (sym (S .conj-u)) ∙ X-past u) a ∙ at-mul 𝓔 (d u) (X i) a
 
   pub defect-power : (k : ℕ) (a : Ω) → defect ((pow (X i) k a) .0) ≡ defect a
   defect-power zero a = ap (λ z. defect (z .0)) (at-column 𝓔 (power-zero (maps 𝓔 Ω) (X i)) a ∙ at-one 𝓔 a)
@@ -111,11 +106,10 @@ module _ {G G⁺ : Type 0} {𝓖 : Mul G} {𝓖⁺ : Mul G⁺} {conj : ℕ → G
   pub last-block : (k : ℕ) → suc k ≡ p → (a : Ω)
       → ((X i ((pow (X i) k a) .0)) .0 ≡ (d u a) .0)
       × (add ((X i ((pow (X i) k a) .0)) .1) (neg (defect ((pow (X i) k a) .0))) ≡ add ((d u a) .1) (neg ((pow (X i) k a) .1)))
-  last-block k e a = (ap (λ z. z .0) line, ap₂ (λ x s. add x (neg s)) refl (defect-power k a) ∙ across _ _ _ _ (ap (λ z. z .1) line))
+  last-block k e a =
+      let line = sym (at-mul 𝓔 (X i) (pow (X i) k) a) ∙ at-column 𝓔 (sym (power-suc (maps 𝓔 Ω) (X i) k) ∙ ap (pow (X i)) e) a ∙ defect-eq a in
+      (ap (λ z. z .0) line, ap₂ (λ x s. add x (neg s)) refl (defect-power k a) ∙ across _ _ _ _ (ap (λ z. z .1) line))
     where
-      line : _≡_ {A = Ω × E} ((X i ((pow (X i) k a) .0)) .0, add ((X i ((pow (X i) k a) .0)) .1) ((pow (X i) k a) .1)) ((d u a) .0, add (defect a) ((d u a) .1))
-      line = sym (at-mul 𝓔 (X i) (pow (X i) k) a) ∙ at-column 𝓔 (sym (power-suc (maps 𝓔 Ω) (X i) k) ∙ ap (pow (X i)) e) a ∙ defect-eq a
-
       turn : (x b t m : E) → add (add b t) (add x m) ≡ add (add x b) (add t m)
       turn x b t m = simp (𝓔 .assoc, 𝓔 .comm, lcomm 𝓔)
 

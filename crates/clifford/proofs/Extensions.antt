@@ -10,7 +10,6 @@
 --   base-shows                 the matrices of extension κ
 --   l-is                       l is the number of the scalar q
 use mathlib.Core.Path.{_≡_, refl, sym, _∙_, ap, ap₂, subst}
-use mathlib.Core.Bool.{true}
 use Prim.Native.Nat.{ℕ, suc, _+_, _*_, _/_, _%_, _<_}
 use native.Mathlib.Nat.{add-mod-mod, div-eq-of-eq-mul-right}
 use native.Mathlib.Omega.{arith}
@@ -23,10 +22,10 @@ use Rattle.definitions.specs.Steps
 use Rattle.numbers.proofs.Bools.{cond-lt, cond-ge}
 use Rattle.numbers.proofs.Lists.{below-suc}
 use Rattle.numbers.proofs.Searches.{least-is}
-use Rattle.group.specs.Context.{Context, Nf}
+use Rattle.group.specs.Context.{Nf}
 use Rattle.group.proofs.Values.{value-hom}
 use Rattle.group.proofs.Level.{level, conjNf, genNf, uNf, wNf, top, gen-low, gen-top}
-use Rattle.group.proofs.Group.{group}
+use Rattle.group.proofs.Group.{TestedContext, group}
 use Rattle.monomial.specs.Exponents.{Exponents, times, Residue}
 use Rattle.monomial.specs.Maps.{Map, maps}
 use Rattle.monomial.specs.Frames.{Layout, Shows}
@@ -35,7 +34,7 @@ use Rattle.monomial.proofs.Maps.{pair, at-mul}
 use Rattle.monomial.proofs.Residues.{residues, add-value, times-value, less-value, part-value, unit, unit-value, unit-injective, log, log-below}
 use Rattle.monomial.proofs.Frames.{shows-mul, shows-power, shows-value, shows-map, shows-on, shows-scale, same-shown, shown-same}
 use Rattle.clifford.specs.Stands.{frame, Stands, Rung}
-use Rattle.clifford.proofs.Numbering.{P, p, N, deg, rep, τ, S, ready, rep-below, firstOf-rep, firstOf-column, target-same}
+use Rattle.clifford.proofs.Numbering.{P, p, N, deg, rep, τ, S, ready, rep-below, firstOf-rep, firstOf-column}
 use Rattle.clifford.proofs.Defect.{defect, defect-eq}
 use Rattle.clifford.proofs.Top.{Normed, Y, Y-at, raised, raised-hom, raised-low, raised-top, φ, q-eq, fixed-stays}
 use Rattle.clifford.proofs.Step.{Roots, numbered, numbered-zero, Y-numbered-at}
@@ -43,6 +42,7 @@ use Rattle.clifford.proofs.Scalars.{parts, normed, roots, σ, σ-fixed,
 
 module _ (R : Rung) where
   open Rung R using (T, m, pos, i, L, Ω, F, stands)
+  open TestedContext T using (context as C)
   open Stands (R .stands) using (column, column-below, complete)
 
   abbrev pub E : Exponents (Residue (R .m))
@@ -67,18 +67,13 @@ module _ (R : Rung) where
   open Mul (maps E Ω) using (mul as _*′_)
   open Exponents E using (add, nil, neg)
 
-  abbrev C : Context
-  C = T .context
-
   -- ---- Values
-
-  d-value : (x : Nf C i) → value (maps E Ω) (λ k. F .d (genNf C i k)) i (x .0) ≡ F .d x
-  d-value x = sym (value-hom (F .hom) (genNf C i) i (x .0)) ∙ ap (F .d) (group T i (omega (arith, R .in-range)) .gen-value x)
 
   pub image-shows : (r : ℕ) → r < N R → (x : Nf (T .context) i) → Shows m Φ r r (image m (repOf L r) i (x .0)) (F .d x)
   unfolding image
   image-shows r h x = shows-map m pos Φ
-      (shows-value m pos Φ refl (repOf L r .matrix) (λ k. F .d (genNf C i k)) i (λ k l. stands .represents k l r h) (x .0)) (d-value x)
+      (shows-value m pos Φ refl (repOf L r .matrix) (λ k. F .d (genNf C i k)) i (λ k l. stands .represents k l r h) (x .0))
+      (sym (value-hom (F .hom) (genNf C i) i (x .0)) ∙ ap (F .d) (group T i (omega (arith, R .in-range)) .gen-value x))
 
   pub raised-value : (𝓨 : Normed (S R) F) (x : Nf (T .context) (suc i))
       → value (maps E Ω) (λ k. raised (S R) F 𝓨 (genNf (T .context) (suc i) k)) (suc i) (x .0) ≡ raised (S R) F 𝓨 x
@@ -126,33 +121,22 @@ module _ (R : Rung) where
   s-is r h f =
       ap₂ (less m) (first-shown h (image-shows r h (uNf C i)))
       (first-shown h (shows-power m pos Φ refl (fixed-shows r h f) (p R)) ∙ ap (λ z. z .1 .0) (defect-eq (S R) F (first r)))
-      ∙ less-value m pos _ _ ∙ ap (λ z. z .0) (neg-of E (defect (S R) F (first r)) _ (turn (defect (S R) F (first r)) ((F .d (uNf C i) (first r)) .1)))
-    where
-      swap : (t x y : Residue m) → add t (add x y) ≡ add (add t x) y
-      swap t x y = sym (E .assoc t x y)
-
-      turn : (t x : Residue m) → add t (add x (neg (add t x))) ≡ nil
-      turn t x = swap t x (neg (add t x)) ∙ E .negr (add t x)
+      ∙ less-value m pos _ _ ∙ ap (λ z. z .0) (neg-of E (defect (S R) F (first r)) _ (sym (E .assoc _ _ _) ∙ E .negr _))
 
   share-is : m / p R ≡ R .share
   share-is = div-eq-of-eq-mul-right (omega (arith, T .context .two i)) (R .split)
 
   pub extended-shows : (r κ : ℕ) → r < N R → τ R r ≡ r → Shows m Φ r r (Steps.extended (P R) m i L r κ) (Y (S R) F (numbered (S R) F 𝓢 ρ κ))
   unfolding Steps.extended
-  extended-shows r κ h f = shows-scale m pos Φ (Steps.s (P R) m i L r / p R + κ * (m / p R)) (fixed-shows r h f)
-      (λ a e. (ap (λ z. z .0) (Y-numbered-at (S R) F 𝓢 ρ κ a), exps a e))
-    where
-      σ-is : (a : Ω) → rep R a ≡ r → σ (S R) m pos F (ready R) (rep R a) .0 ≡ Steps.s (P R) m i L r / p R
-      σ-is a e = ap (λ r. σ (S R) m pos F (ready R) r .0) e ∙ ap (λ z. z .0) (σ-fixed (S R) m pos F (ready R) r f) ∙ part-value m pos _ _
-          ∙ ap (λ z. z / p R) (sym (s-is r h f))
-
-      exps : (a : Ω) → rep R a ≡ r → (Y (S R) F (numbered (S R) F 𝓢 ρ κ) a) .1 .0 ≡ ((F .X i a) .1 .0 + (Steps.s (P R) m i L r / p R + κ * (m / p R))) % m
-      exps a e =
-          ap (λ z. z .1 .0) (Y-numbered-at (S R) F 𝓢 ρ κ a) ∙ add-value m pos _ _
-          ∙ ap (λ z. ((F .X i a) .1 .0 + z) % m)
-          (add-value m pos _ _
-          ∙ ap₂ (λ x y. (x + y) % m) (σ-is a e) (times-value m pos κ _ ∙ ap (λ z. (κ * z) % m) (unit-value m pos _ ∙ sym share-is)) ∙ add-mod-mod _ _ _)
-          ∙ add-mod-mod _ _ _
+  extended-shows r κ h f = shows-scale m pos Φ (Steps.s (P R) m i L r / p R + κ * (m / p R)) (fixed-shows r h f) (λ a e.
+      let σ-is = ap (λ r. σ (S R) m pos F (ready R) r .0) e ∙ ap (λ z. z .0) (σ-fixed (S R) m pos F (ready R) r f) ∙ part-value m pos _ _
+      ∙ ap (λ z. z / p R) (sym (s-is r h f)) in (
+        ap (λ z. z .0) (Y-numbered-at (S R) F 𝓢 ρ κ a),
+        ap (λ z. z .1 .0) (Y-numbered-at (S R) F 𝓢 ρ κ a) ∙ add-value m pos _ _
+            ∙ ap (λ z. ((F .X i a) .1 .0 + z) % m) (add-value m pos _ _
+            ∙ ap₂ (λ x y. (x + y) % m) σ-is (times-value m pos κ _ ∙ ap (λ z. (κ * z) % m) (unit-value m pos _ ∙ sym share-is)) ∙ add-mod-mod _ _ _)
+            ∙ add-mod-mod _ _ _,
+      ))
 
   pub base-shows : (r κ : ℕ) → r < N R → τ R r ≡ r → (k : ℕ) → k < suc i → Shows m Φ r r (Steps.extensionBase (P R) m i L r κ .matrix k) (D κ k)
   base-shows r κ h f = below-suc i (λ k. Shows m Φ r r (Steps.extensionBase (P R) m i L r κ .matrix k) (D κ k))
@@ -170,9 +154,6 @@ module _ (R : Rung) where
     abbrev qr : Residue m
     qr = q̂ (S R) m pos F (ready R) j ij jn r
 
-    literal-target : Steps.target (P R) m i L j r ≡ tr
-    literal-target = ap (λ t. t r) (target-same R j)
-
     tr-below : tr < N R
     tr-below = subst (λ s. s < N R) (F .maps-to j (omega arith) jn (first r) ∙ ap (F .target j) (first-rep r h)) (rep-below R ((F .X j (first r)) .0))
 
@@ -183,33 +164,28 @@ module _ (R : Rung) where
     Xj : Shows m Φ r tr (repOf L r .matrix j) (F .X j)
     Xj = stands .intertwines j (omega arith) jn r h
 
-    φ-zero : φ (S R) F (numbered (S R) F 𝓢 ρ 0) j ij jn ≡ φ (S R) F 𝓢 j ij jn
-    unfolding φ
-    φ-zero = ap (λ g. g (conjNf C (suc i) j (top C i))) (numbered-zero (S R) F 𝓢 ρ)
-
     pub left-shows : Shows m Φ r (F .target j r) (product m (repOf L r .matrix j) (conjugate m (P R) (Steps.extensionBase (P R) m i L r 0) i j))
         (F .X j *′ φ (S R) F 𝓢 j ij jn)
+    unfolding φ
     left-shows = shows-mul m pos Φ Xj
-        (shows-map m pos Φ (conjugate-shows Φ (numbered (S R) F 𝓢 ρ 0) (Steps.extensionBase (P R) m i L r 0) r refl (base-shows r 0 h f) j ij jn) φ-zero)
+        (shows-map m pos Φ (conjugate-shows Φ (numbered (S R) F 𝓢 ρ 0) (Steps.extensionBase (P R) m i L r 0) r refl (base-shows r 0 h f) j ij jn)
+        (ap (λ g. g (conjNf C (suc i) j (top C i))) (numbered-zero (S R) F 𝓢 ρ)))
 
     right : (k : ℕ) → Shows m Φ r tr (product m (Steps.extended (P R) m i L tr k) (repOf L r .matrix j)) (Y (S R) F (numbered (S R) F 𝓢 ρ k) *′ F .X j)
     right k = shows-mul m pos Φ (extended-shows tr k tr-below tr-fixed) Xj
 
-    ε^ : ℕ → Residue m
+    abbrev ε^ : ℕ → Residue m
     ε^ k = times E k (ρ .ε)
 
     -- the two sides differ by the multiple k of the root
     right-at : (k : ℕ) (a : Ω) → (Y (S R) F (numbered (S R) F 𝓢 ρ k) *′ F .X j) a
         ≡ (((Y (S R) F 𝓢 *′ F .X j) a) .0, add (ε^ k) (((Y (S R) F 𝓢 *′ F .X j) a) .1))
-    unfolding ε^
     right-at k a =
+        let move : (x s e y : Residue m) → add (add x (add s e)) y ≡ add e (add (add x s) y) = λ x s e y. simp (E .assoc, E .comm, lcomm E) in
         at-mul E (Y (S R) F (numbered (S R) F 𝓢 ρ k)) (F .X j) a ∙ ap (λ z. (z .0, add (z .1) ((F .X j a) .1))) (Y-numbered-at (S R) F 𝓢 ρ k ((F .X j a) .0))
         ∙ pair E refl (move _ _ _ _)
         ∙ sym (ap (λ z. (z .0, add (ε^ k) (z .1)))
         (at-mul E (Y (S R) F 𝓢) (F .X j) a ∙ ap (λ z. (z .0, add (z .1) ((F .X j a) .1))) (Y-at (S R) F 𝓢 ((F .X j a) .0))))
-      where
-        move : (x s e y : Residue m) → add (add x (add s e)) y ≡ add e (add (add x s) y)
-        move x s e y = simp (E .assoc, E .comm, lcomm E)
 
     agree : (k : ℕ) → ε^ k ≡ qr → (a : Ω) → rep R a ≡ r → (Y (S R) F (numbered (S R) F 𝓢 ρ k) *′ F .X j) a ≡ (F .X j *′ φ (S R) F 𝓢 j ij jn) a
     agree k e a ra =
@@ -218,27 +194,22 @@ module _ (R : Rung) where
         (e ∙ ap (q̂ (S R) m pos F (ready R) j ij jn) (sym ra) ∙ q-first (S R) m pos F (ready R) j ij jn a)) ∙ sym (q-eq (S R) F 𝓢 j ij jn a)
 
     log-is : ε^ (log m pos (parts (S R) m pos F (ready R)) qr) ≡ qr
-    unfolding ε^
     log-is =
         subst (λ s. times E (log m pos (parts (S R) m pos F (ready R)) (q̂ (S R) m pos F (ready R) j ij jn s))
         (unit m pos (parts (S R) m pos F (ready R))) ≡ q̂ (S R) m pos F (ready R) j ij jn s) (first-rep r h)
         (log-q (S R) m pos F (ready R) j ij jn (first r) (subst (λ s. τ R s ≡ s) (sym (first-rep r h)) f))
 
     pub l-is : Steps.l (P R) m i L j r ≡ log m pos (parts (S R) m pos F (ready R)) (q̂ (S R) m pos F (ready R) j ij jn r)
-    unfolding Steps.l ε^
+    unfolding Steps.l
     l-is =
         ap (λ s. least (p R)
         (λ k. sameMatrix m (product m (repOf L r .matrix j) (conjugate m (P R) (Steps.extensionBase (P R) m i L r 0) i j))
-        (product m (Steps.extended (P R) m i L s k) (repOf L r .matrix j)))) literal-target
+        (product m (Steps.extended (P R) m i L s k) (repOf L r .matrix j)))) (sym (R .literal j r))
         ∙ least-is (p R) _ (log m pos (parts (S R) m pos F (ready R)) qr) (log-below m pos _ qr)
         (same-shown m pos Φ complete h left-shows (shows-on m pos Φ (right _) (agree _ log-is)))
-        (λ k l e. unit-injective m pos (parts (S R) m pos F (ready R)) k _ l (log-below m pos _ qr) (one k e ∙ sym log-is))
-      where
-        one : (k : ℕ) → sameMatrix m (product m (repOf L r .matrix j) (conjugate m (P R) (Steps.extensionBase (P R) m i L r 0) i j))
-            (product m (Steps.extended (P R) m i L tr k) (repOf L r .matrix j)) ≡ true
-            → ε^ k ≡ qr
-        one k e =
-            let a : Ω = first r in
-            let line = sym (right-at k a) ∙ sym (shown-same m pos Φ complete left-shows (right k) e a (first-rep r h)) ∙ q-eq (S R) F 𝓢 j ij jn a in
-            cancel E (((Y (S R) F 𝓢 *′ F .X j) a) .1) _ _ (E .comm _ _ ∙ ap (λ z. z .1) line ∙ E .comm _ _)
-            ∙ sym (q-first (S R) m pos F (ready R) j ij jn a) ∙ ap (q̂ (S R) m pos F (ready R) j ij jn) (first-rep r h)
+        (λ k l e.
+        let a : Ω = first r in
+        let line = sym (right-at k a) ∙ sym (shown-same m pos Φ complete left-shows (right k) e a (first-rep r h)) ∙ q-eq (S R) F 𝓢 j ij jn a in
+        let one : ε^ k ≡ qr = cancel E (((Y (S R) F 𝓢 *′ F .X j) a) .1) _ _ (E .comm _ _ ∙ ap (λ z. z .1) line ∙ E .comm _ _)
+        ∙ sym (q-first (S R) m pos F (ready R) j ij jn a) ∙ ap (q̂ (S R) m pos F (ready R) j ij jn) (first-rep r h) in
+        unit-injective m pos (parts (S R) m pos F (ready R)) k _ l (log-below m pos _ qr) (one ∙ sym log-is))

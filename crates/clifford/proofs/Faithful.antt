@@ -3,6 +3,7 @@
 --   Faithful F           so for the family F
 --   next-faithful        the family of the next level is faithful if that of the level below is
 use mathlib.Core.Path.{_≡_, sym, _∙_, ap, fun-ext}
+use mathlib.Core.Logic.{by-cases}
 use Prim.Native.Nat.{ℕ, suc, _<_}
 use native.Mathlib.Omega.{arith}
 use native.Mathlib.Decide.{ℕ-discrete}
@@ -12,14 +13,15 @@ use Rattle.numbers.proofs.Orbits.{leader, moved-distinct}
 use Rattle.group.specs.Context.{Context, Nf}
 use Rattle.group.proofs.Values.{power-zero}
 use Rattle.group.proofs.Level.{level}
-use Rattle.group.proofs.Group.{group}
+use Rattle.group.proofs.Group.{TestedContext, group}
 use Rattle.monomial.specs.Exponents.{Exponents, times}
 use Rattle.monomial.specs.Maps.{maps}
 use Rattle.monomial.specs.Families.{Family}
 use Rattle.monomial.proofs.Exponents.{neg-of, total-zero, times-nil, times-one}
 use Rattle.monomial.proofs.Maps.{at-column, at-one}
+use Rattle.clifford.specs.Extension.{Extension}
 use Rattle.clifford.specs.Stands.{Rung}
-use Rattle.clifford.proofs.Numbering.{p, rep, τ, S, O, rep-below, made, made-of-fixed, made-some}
+use Rattle.clifford.proofs.Numbering.{rep, τ, S, O, rep-below, made, made-of-fixed, made-some}
 use Rattle.clifford.proofs.Indices.{Index, base, mk}
 use Rattle.clifford.proofs.Top.{Normed, raised, raised-low, raised-maps}
 use Rattle.clifford.proofs.Step.{numbered, raised-numbered}
@@ -33,21 +35,12 @@ pub record Faithful {G R Ω : Type 0} {𝓔 : Exponents R} {𝓖 : Mul G} {conj 
 
 module _ (R : Rung) where
   open Rung R using (T, i, Ω, F)
-
-  abbrev C : Context
-  C = T .context
-
-  two : 1 < p R
-  two = C .two i
+  open TestedContext T using (context as C)
+  open Context C using (two)
+  open Extension (S R) using (exponent as e, rest)
 
   abbrev 𝓨 : ℕ → Normed (S R) F
   𝓨 κ = numbered (S R) F (𝓢 R) (ρ R) κ
-
-  abbrev e : Nf C (suc i) → ℕ
-  e = S R .exponent
-
-  abbrev rest : Nf C (suc i) → Nf C i
-  rest = S R .rest
 
   module _ (w : Nf C (suc i)) (acts : next-d R w ≡ maps (E R) (Index R) .one) where
     -- on the extension of number κ
@@ -60,27 +53,19 @@ module _ (R : Rung) where
 
     -- an orbit that moves would be turned; where the generator on top fixes a representation, two extensions would differ
     exponent-zero : e w ≡ 0
-    exponent-zero = go (ℕ-discrete (τ R r) r)
-      where
-        a : Ω
-        a = first R 0
-
-        r : ℕ
-        r = rep R a
-
-        undone : (κ : ℕ) → raised (S R) F (𝓨 κ) w a ≡ (a, E R .nil)
-            → times (E R) (e w) (times (E R) κ (ρ R .ε)) ≡ E R .neg ((raised (S R) F (𝓢 R) w a) .1)
-        undone κ h = neg-of (E R) _ _ (E R .comm _ _ ∙ ap (λ z. z .1) (sym (raised-numbered (S R) F (𝓢 R) (ρ R) κ w a) ∙ h))
-
-        go : Dec (τ R r ≡ r) → e w ≡ 0
-        go (no f) =
-            moved-distinct (O R) r (rep-below R a) f (e w) 0 (w .1 .0) (omega (arith, two))
-            (sym (raised-maps (S R) F (𝓨 0) w a) ∙ ap (λ z. rep R (z .0)) (still-first a) ∙ sym (iter-zero (τ R) r))
-        go (yes f) =
-            let one-below : 1 < made R (leader (O R) r) = omega (arith, made-of-fixed R r (rep-below R a) f, two) in
-            ρ R .ε-injective (e w) 0 (w .1 .0) (omega (arith, two))
-            (ap (times (E R) (e w)) (sym (times-one (E R) (ρ R .ε))) ∙ undone 1 (still a 1 one-below) ∙ sym (undone 0 (still-first a))
-            ∙ ap (times (E R) (e w)) (total-zero (E R) _) ∙ times-nil (E R) (e w) ∙ sym (total-zero (E R) _))
+    exponent-zero =
+        let a : Ω = first R 0 in
+        let r : ℕ = rep R a in
+        let undone : (κ : ℕ) → raised (S R) F (𝓨 κ) w a ≡ (a, E R .nil)
+        → times (E R) (e w) (times (E R) κ (ρ R .ε)) ≡ E R .neg ((raised (S R) F (𝓢 R) w a) .1)
+        = λ κ h. neg-of (E R) _ _ (E R .comm _ _ ∙ ap (λ z. z .1) (sym (raised-numbered (S R) F (𝓢 R) (ρ R) κ w a) ∙ h)) in
+        by-cases (ℕ-discrete (τ R r) r) (λ f.
+        let one-below : 1 < made R (leader (O R) r) = omega (arith, made-of-fixed R r (rep-below R a) f, two i) in
+        ρ R .ε-injective (e w) 0 (w .1 .0) (omega (arith, two i))
+        (ap (times (E R) (e w)) (sym (times-one (E R) (ρ R .ε))) ∙ undone 1 (still a 1 one-below) ∙ sym (undone 0 (still-first a))
+        ∙ ap (times (E R) (e w)) (total-zero (E R) _) ∙ times-nil (E R) (e w) ∙ sym (total-zero (E R) _)))
+        (λ f. moved-distinct (O R) r (rep-below R a) f (e w) 0 (w .1 .0) (omega (arith, two i))
+        (sym (raised-maps (S R) F (𝓨 0) w a) ∙ ap (λ z. rep R (z .0)) (still-first a) ∙ sym (iter-zero (τ R) r)))
 
     is-low : w ≡ S R .low (rest w)
     is-low =

@@ -12,7 +12,6 @@ use Rattle.definitions.specs.Steps
 use Rattle.numbers.proofs.Orbits.{leader, position, iter-below, iter-moved}
 use Rattle.group.proofs.Level.{uNf}
 use Rattle.monomial.specs.Exponents.{Exponents, Residue}
-use Rattle.monomial.specs.Frames.{Shows}
 use Rattle.monomial.proofs.Exponents.{neg-of}
 use Rattle.monomial.proofs.Residues.{residues, add-value, less-value}
 use Rattle.monomial.proofs.Frames.{shows-scale, shown-unique}
@@ -20,7 +19,7 @@ use Rattle.monomial.proofs.Schur.{rep-power}
 use Rattle.clifford.specs.Stands.{Stands, Rung}
 use Rattle.clifford.proofs.Numbering.{P, p, N, rep, τ, S, ready, O, orbit-same}
 use Rattle.clifford.proofs.Defect.{defect, defect-eq, defect-const, defect-power, X-maps}
-use Rattle.clifford.proofs.Top.{Y, Y-at, q}
+use Rattle.clifford.proofs.Top.{Y-at, q}
 use Rattle.clifford.proofs.Scalars.{σ, σ-last}
 use Rattle.clifford.proofs.Extensions.{E, Φ, 𝓢, first, first-rep, first-shown, image-shows}
 use Rattle.clifford.proofs.Inductions.{along-shows, last-shows, position-of}
@@ -41,8 +40,6 @@ module _ (R : Rung) where
   pub share-is : m / p R ≡ R .share
   share-is = div-eq-of-eq-mul-right (omega (arith, T .context .two i)) (R .split)
 
-  -- ---- l
-
   -- ---- The last block
 
   module _ (r : ℕ) (h : r < N R) (mv : ¬ (τ R r ≡ r)) (own : leader (O R) r ≡ r) where
@@ -59,32 +56,20 @@ module _ (R : Rung) where
         ≡ scale m (less m (col (image m (repOf L r) i (P R .u i)) 0 .exp) (col (Steps.along (P R) m i L r (p R)) 0 .exp))
         (repOf L (Steps.orbit (P R) m i L r (p R - 1)) .matrix i)
     last-formula =
-        shown-unique m pos (Φ R) complete (iter-below (O R) e r h) (last-shows R r h mv own) scaled
-        ∙ ap (λ s. scale m k (repOf L s .matrix i)) (sym (orbit-same R r e))
-      where
-        e : ℕ
-        e = p R - 1
-
-        t : ℕ
-        t = iter (τ R) e r
-
-        k : ℕ
-        k = less m (col (image m (repOf L r) i (P R .u i)) 0 .exp) (col (Steps.along (P R) m i L r (p R)) 0 .exp)
-
+        let e : ℕ = p R - 1 in
+        let t : ℕ = iter (τ R) e r in
+        let k : ℕ = less m (col (image m (repOf L r) i (P R .u i)) 0 .exp) (col (Steps.along (P R) m i L r (p R)) 0 .exp) in
         -- along the orbit the defect is that of r
-        defect-here : (a : Ω) → rep R a ≡ t → defect (S R) F a ≡ defect (S R) F (first R r)
-        defect-here a q =
-            defect-const (S R) F a _ (q ∙ sym (rep-power F (τ R) (F .X i) (X-maps (S R) F) e (first R r) ∙ ap (iter (τ R) e) (first-rep R r h)))
-            ∙ defect-power (S R) F e (first R r)
-
-        σ-here : (a : Ω) → rep R a ≡ t → σ (S R) m pos F (ready R) (rep R a) .0 ≡ k
-        σ-here a q =
-            ap (λ z. z .0) (σ-last (S R) m pos F (ready R) (rep R a) (λ f. iter-moved (O R) e r h mv (subst (λ s. τ R s ≡ s) q f))
-            (ap (position (O R)) q ∙ position-of R r h mv own e (omega (arith, T .context .two i)))
-            ∙ ap neg (defect-const (S R) F _ a (first-rep R (rep R a) (complete .rep-below a)) ∙ defect-here a q)) ∙ sym defect-formula
-
-        scaled : Shows m (Φ R) t (τ R t) (scale m k (repOf L t .matrix i)) (Y (S R) F (𝓢 R))
-        scaled = shows-scale m pos (Φ R) k (stands .intertwines i (omega arith) (R .in-range) t (iter-below (O R) e r h)) (λ a q. (
+        let defect-here : (a : Ω) → rep R a ≡ t → defect (S R) F a ≡ defect (S R) F (first R r) = λ a q.
+        defect-const (S R) F a _ (q ∙ sym (rep-power F (τ R) (F .X i) (X-maps (S R) F) e (first R r) ∙ ap (iter (τ R) e) (first-rep R r h)))
+        ∙ defect-power (S R) F e (first R r) in
+        let σ-here : (a : Ω) → rep R a ≡ t → σ (S R) m pos F (ready R) (rep R a) .0 ≡ k = λ a q.
+        ap (λ z. z .0) (σ-last (S R) m pos F (ready R) (rep R a) (λ f. iter-moved (O R) e r h mv (subst (λ s. τ R s ≡ s) q f))
+        (ap (position (O R)) q ∙ position-of R r h mv own e (omega (arith, T .context .two i)))
+        ∙ ap neg (defect-const (S R) F _ a (first-rep R (rep R a) (complete .rep-below a)) ∙ defect-here a q)) ∙ sym defect-formula in
+        shown-unique m pos (Φ R) complete (iter-below (O R) e r h) (last-shows R r h mv own)
+        (shows-scale m pos (Φ R) k (stands .intertwines i (omega arith) (R .in-range) t (iter-below (O R) e r h)) (λ a q. (
           ap (λ z. z .0) (Y-at (S R) F (𝓢 R) a),
           ap (λ z. z .1 .0) (Y-at (S R) F (𝓢 R) a) ∙ add-value m pos _ _ ∙ ap (λ z. ((F .X i a) .1 .0 + z) % m) (σ-here a q),
-        ))
+        )))
+        ∙ ap (λ s. scale m k (repOf L s .matrix i)) (sym (orbit-same R r e))

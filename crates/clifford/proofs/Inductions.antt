@@ -10,6 +10,7 @@
 --   cycle-shows              the blocks of generator i
 --   induced-shows            the matrices of the induced representation
 use mathlib.Core.Path.{_≡_, refl, sym, _∙_, ap, ap₂, subst}
+use mathlib.Core.Logic.{by-cases}
 use mathlib.Core.Bool.{cond}
 use mathlib.Core.List.{_++_}
 use Prim.Native.Nat.{ℕ, zero, suc, _+_, _*_, _-_, _%_, _<_}
@@ -33,7 +34,8 @@ use Rattle.numbers.proofs.Orbits.{position-is}
 use Rattle.group.specs.Context.{Context}
 use Rattle.group.proofs.Values.{power-zero, power-suc}
 use Rattle.group.proofs.Level.{genNf, uNf}
-use Rattle.monomial.specs.Exponents.{Exponents, Residue}
+use Rattle.group.proofs.Group.{TestedContext}
+use Rattle.monomial.specs.Exponents.{Exponents}
 use Rattle.monomial.specs.Maps.{Map, maps, Inverse}
 use Rattle.monomial.specs.Frames.{Layout, Shows}
 use Rattle.monomial.proofs.Exponents.{idr, neg-of}
@@ -43,7 +45,7 @@ use Rattle.monomial.proofs.Frames.{col-map, entry-path, shows-one, shows-mul, s
 use Rattle.monomial.proofs.Schur.{rep-power}
 use Rattle.clifford.specs.Stands.{Stands, Rung}
 use Rattle.clifford.proofs.Numbering.{P, p, N, deg, rep, τ, S, ready, O, rep-below, orbit-same, degree-iter, degree-leader}
-use Rattle.clifford.proofs.Indices.{wide, wide-fixed, wide-moved}
+use Rattle.clifford.proofs.Indices.{wide, wide-fixed, wide-moved, rep-of-fixed}
 use Rattle.clifford.proofs.Defect.{defect, defect-const, X-inverse, X-maps, last-block}
 use Rattle.clifford.proofs.Top.{Y, Y-at, Y-maps, raised, q}
 use Rattle.clifford.proofs.Scalars.{σ, σ-last, σ-other}
@@ -68,10 +70,9 @@ scale-length m s M = length-map M _
 
 module _ (R : Rung) where
   open Rung R using (T, m, pos, i, L, Ω, F, stands)
+  open TestedContext T using (context as C)
+  open Context C using (two)
   open Stands (R .stands) using (column, column-below, complete)
-
-  abbrev C : Context
-  C = T .context
 
   abbrev leaderAt : Ω → ℕ
   leaderAt a = leader (O R) (rep R a)
@@ -94,34 +95,20 @@ module _ (R : Rung) where
   spread-moved r f = cond-ne _ _ _ _ f
 
   pub wide-spread : (a : Ω) → wide R a < spread (leader (O R) (rep R a))
-  wide-spread a = go (ℕ-discrete (τ R (rep R a)) (rep R a))
-    where
-      go : Dec (τ R (rep R a) ≡ rep R a) → wide R a < spread (leaderAt a)
-      go (yes f) =
-          subst (λ s. wide R a < s) (sym (ap spread (leader-fixed (O R) (rep R a) (rep-below R a) f) ∙ spread-fixed (rep R a) f))
-          (subst (λ s. s < deg R (rep R a)) (sym (wide-fixed R a f)) (column-below a))
-      go (no f) =
-          subst (λ s. wide R a < s)
-          (sym (spread-moved (leaderAt a) (leader-moved (O R) (rep R a) (rep-below R a) f) ∙ ap (λ d. p R * d) (degree-leader R (rep R a) (rep-below R a))))
-          (subst (λ s. s < p R * deg R (rep R a)) (sym (wide-moved R a f)) (digits-lt (position-below (O R) (rep R a) (rep-below R a)) (column-below a)))
+  wide-spread a = by-cases (ℕ-discrete (τ R (rep R a)) (rep R a))
+      (λ f. rw (wide-fixed R a f, leader-fixed (O R) (rep R a) (rep-below R a) f, spread-fixed (rep R a) f) (column-below a))
+      (λ f. rw (wide-moved R a f, spread-moved (leaderAt a) (leader-moved (O R) (rep R a) (rep-below R a) f), degree-leader R (rep R a) (rep-below R a))
+      (digits-lt (position-below (O R) (rep R a) (rep-below R a)) (column-below a)))
 
   abbrev pub Ψ : Layout Ω
   Ψ = record { rep = λ a. leader (O R) (rep R a); column = wide R; degree = spread; column-below = wide-spread }
 
-  -- a basis index of the orbit of a fixed leader
-  pub rep-of-fixed : (a : Ω) (r : ℕ) → leader (O R) (rep R a) ≡ r → τ R r ≡ r → rep R a ≡ r
-  rep-of-fixed a r e f = go (ℕ-discrete (τ R (rep R a)) (rep R a))
-    where
-      go : Dec (τ R (rep R a) ≡ rep R a) → rep R a ≡ r
-      go (yes g) = sym (leader-fixed (O R) (rep R a) (rep-below R a) g) ∙ e
-      go (no g) = absurd (leader-moved (O R) (rep R a) (rep-below R a) g (subst (λ s. τ R s ≡ s) (sym e) f))
-
   pub fixed-spreads : {r s : ℕ} {M : Matrix} {A : Map (E R) Ω} → τ R r ≡ r → s < N R → τ R s ≡ s → Shows m (Φ R) r s M A → Shows m Ψ r s M A
   fixed-spreads {r} {s} {M} {A} f l g sh = record {
     size = sh .size ∙ sym (spread-fixed r f);
-    maps-to = λ a e. ap (leader (O R)) (sh .maps-to a (rep-of-fixed a r e f)) ∙ leader-fixed (O R) s l g;
+    maps-to = λ a e. ap (leader (O R)) (sh .maps-to a (rep-of-fixed R a r e f)) ∙ leader-fixed (O R) s l g;
     shown = λ a e.
-        let ra : rep R a ≡ r = rep-of-fixed a r e f in
+        let ra : rep R a ≡ r = rep-of-fixed R a r e f in
         ap (col M) (wide-fixed R a (subst (λ s. τ R s ≡ s) (sym ra) f)) ∙ sh .shown a ra
         ∙ entry-path (sym (wide-fixed R ((A a) .0) (subst (λ s. τ R s ≡ s) (sym (sh .maps-to a ra)) g))) refl;
   }
@@ -131,9 +118,6 @@ module _ (R : Rung) where
   module _ (r : ℕ) (h : r < N R) (mv : ¬ (τ R r ≡ r)) (own : leader (O R) r ≡ r) where
     abbrev pub d : ℕ
     d = deg R r
-
-    two : 1 < p R
-    two = C .two i
 
     -- what is known of a basis index of the orbit
     pub record Member (a : Ω) : Type 0 where
@@ -164,7 +148,7 @@ module _ (R : Rung) where
         (ap (iter (τ R) k) (leader-iter (O R) k r h ∙ own))
 
     pub position-mod : (k : ℕ) → position (O R) (iter (τ R) k r) ≡ k % p R
-    position-mod k = ap (position (O R)) (sym (iter-mod (O R) k r h)) ∙ position-of (k % p R) (mod-lt k (omega (arith, two)))
+    position-mod k = ap (position (O R)) (sym (iter-mod (O R) k r h)) ∙ position-of (k % p R) (mod-lt k (omega (arith, two i)))
 
     -- ---- Blocks
 
@@ -200,22 +184,16 @@ module _ (R : Rung) where
     unfolding Steps.blockDiagonal
     diagonal-shows k l = shows-blocks (λ b. Steps.lift (b * d) (repOf L (orb b) .matrix k))
         (λ b a. lift-length (b * d) (repOf L (orb b) .matrix k) ∙ stands .represents k l (orb b) (orb-below b) .size ∙ orb-degree b)
-        (λ a e. ap (leader (O R)) (F .inside (genNf C i k) a) ∙ e)
-        entries
-      where
-        entries : (a : Ω) → leaderAt a ≡ r → col (Steps.lift (position (O R) (rep R a) * d) (repOf L (orb (position (O R) (rep R a))) .matrix k)) (column a)
-            ≡ entry (wide R ((F .d (genNf C i k) a) .0)) ((F .d (genNf C i k) a) .1 .0)
-        entries a e =
-            let M = member a e in
-            let b : ℕ = position (O R) (rep R a) in
-            let sh = stands .represents k l (rep R a) (rep-below R a) in
-            let a′ : Ω = (F .d (genNf C i k) a) .0 in
-            let inside : rep R a′ ≡ rep R a = F .inside (genNf C i k) a in
-            let M′ = member a′ (ap (leader (O R)) inside ∙ e) in
-            ap (λ s. col (Steps.lift (b * d) (repOf L s .matrix k)) (column a)) (orb-back a e)
-            ∙ lift-col (b * d) (repOf L (rep R a) .matrix k) (column a) (subst (λ z. column a < z) (sym (sh .size)) (column-below a))
-            ∙ ap (λ (x : Entry). entry (b * d + x .row) (x .exp)) (sh .shown a refl)
-            ∙ entry-path (ap (λ z. position (O R) z * d + column a′) (sym inside) ∙ sym (M′ .wide-is)) refl
+        (λ a e. ap (leader (O R)) (F .inside (genNf C i k) a) ∙ e) (λ a e.
+        let b : ℕ = position (O R) (rep R a) in
+        let sh = stands .represents k l (rep R a) (rep-below R a) in
+        let a′ : Ω = (F .d (genNf C i k) a) .0 in
+        let inside : rep R a′ ≡ rep R a = F .inside (genNf C i k) a in
+        let M′ = member a′ (ap (leader (O R)) inside ∙ e) in
+        ap (λ s. col (Steps.lift (b * d) (repOf L s .matrix k)) (column a)) (orb-back a e)
+        ∙ lift-col (b * d) (repOf L (rep R a) .matrix k) (column a) (subst (λ z. column a < z) (sym (sh .size)) (column-below a))
+        ∙ ap (λ (x : Entry). entry (b * d + x .row) (x .exp)) (sh .shown a refl)
+        ∙ entry-path (ap (λ z. position (O R) z * d + column a′) (sym inside) ∙ sym (M′ .wide-is)) refl)
 
     -- ---- The last block
 
@@ -228,18 +206,16 @@ module _ (R : Rung) where
         subst (λ s. Shows m (Φ R) r s (identity d) (pow zero)) (sym (iter-zero (τ R) r))
         (shows-map m pos (Φ R) (shows-one m pos (Φ R) r) (sym (power-zero (maps (E R) Ω) (F .X i))))
     along-shows (suc k) =
+        let step = subst (λ s. Shows m (Φ R) (iter (τ R) k r) (τ R (iter (τ R) k r)) (repOf L s .matrix i) (F .X i)) (sym (orbit-same R r k))
+        (stands .intertwines i (omega arith) (R .in-range) (iter (τ R) k r) (iter-below (O R) k r h)) in
         subst (λ s. Shows m (Φ R) r s (product m (repOf L (orb k) .matrix i) (Steps.along (P R) m i L r k)) (pow (suc k))) (sym (iter-out (τ R) k r))
         (shows-map m pos (Φ R) (shows-mul m pos (Φ R) step (along-shows k)) (sym (power-suc (maps (E R) Ω) (F .X i) k)))
-      where
-        step : Shows m (Φ R) (iter (τ R) k r) (τ R (iter (τ R) k r)) (repOf L (orb k) .matrix i) (F .X i)
-        step = subst (λ s. Shows m (Φ R) (iter (τ R) k r) (τ R (iter (τ R) k r)) (repOf L s .matrix i) (F .X i)) (sym (orbit-same R r k))
-            (stands .intertwines i (omega arith) (R .in-range) (iter (τ R) k r) (iter-below (O R) k r h))
 
     abbrev e : ℕ
     e = p R - 1
 
     e-suc : suc e ≡ p R
-    e-suc = omega (arith, two)
+    e-suc = omega (arith, two i)
 
     W : Inverse (maps (E R) Ω) (pow e)
     W = inverse-power (maps-laws (E R)) (F .X i) (X-inverse (S R) F i (omega arith) (R .in-range)) e
@@ -256,35 +232,27 @@ module _ (R : Rung) where
     from-last : (a : Ω) → rep R a ≡ t → rep R ((W .to a) .0) ≡ r
     from-last a q =
         let b : Ω = (W .to a) .0 in
+        let round : (s : ℕ) → s < N R → τ R (iter (τ R) e s) ≡ s = λ s l. sym (iter-out (τ R) e s) ∙ ap (λ k. iter (τ R) k s) e-suc ∙ O R .home s l in
         let line : iter (τ R) e (rep R b) ≡ iter (τ R) e r = sym (rep-power F (τ R) (F .X i) (X-maps (S R) F) e b) ∙ ap (λ z. rep R (z .0)) (there a) ∙ q in
         sym (round (rep R b) (rep-below R b)) ∙ ap (τ R) line ∙ round r h
-      where
-        round : (s : ℕ) → s < N R → τ R (iter (τ R) e s) ≡ s
-        round s l = sym (iter-out (τ R) e s) ∙ ap (λ k. iter (τ R) k s) e-suc ∙ O R .home s l
 
     pub last-shows : Shows m (Φ R) (iter (τ R) (p R - 1) r) r (Steps.lastBlock (P R) m i L r) (Y (S R) F (𝓢 R))
     unfolding Steps.lastBlock uNf
     last-shows =
         shows-on m pos (Φ R)
-        (shows-mul m pos (Φ R) (image-shows R r h (uNf C i)) (shows-inverse m pos (Φ R) complete h (along-shows e) W (degree-iter R e r h) from-last)) same
-      where
-        same : (a : Ω) → rep R a ≡ t → (F .d (uNf C i) *′ W .to) a ≡ Y (S R) F (𝓢 R) a
-        same a q =
-            let b : Ω = (W .to a) .0 in
-            let (x, y) = last-block (S R) F e e-suc b in
-            let at-a : pow e b ≡ (a, neg ((W .to a) .1)) = there a in
-            let last : position (O R) (rep R a) ≡ p R - 1 = ap (position (O R)) q ∙ position-of e (omega (arith, two)) in
-            let mvd : ¬ (τ R (rep R a) ≡ rep R a) = λ f. iter-moved (O R) e r h mv (subst (λ s. τ R s ≡ s) q f) in
-            let σ-is : σ (S R) m pos F (ready R) (rep R a) ≡ neg (defect (S R) F a)
-            = σ-last (S R) m pos F (ready R) (rep R a) mvd last ∙ ap neg (defect-const (S R) F _ a (first-rep R (rep R a) (rep-below R a))) in
-            at-mul (E R) (F .d (uNf C i)) (W .to) a
-            ∙ pair (E R) (sym x ∙ ap (λ z. (F .X i (z .0)) .0) at-a)
-            (ap (λ z. add ((F .d (uNf C i) b) .1) z) (sym (negneg ((W .to a) .1)) ∙ ap neg (sym (ap (λ z. z .1) at-a))) ∙ sym y
-            ∙ ap (λ z. add ((F .X i (z .0)) .1) (neg (defect (S R) F (z .0)))) at-a ∙ ap (add ((F .X i a) .1)) (sym σ-is))
-            ∙ sym (Y-at (S R) F (𝓢 R) a)
-          where
-            negneg : (x : Residue m) → neg (neg x) ≡ x
-            negneg x = sym (neg-of (E R) (neg x) x (residues m pos .comm _ _ ∙ residues m pos .negr x))
+        (shows-mul m pos (Φ R) (image-shows R r h (uNf C i)) (shows-inverse m pos (Φ R) complete h (along-shows e) W (degree-iter R e r h) from-last)) (λ a q.
+        let b : Ω = (W .to a) .0 in
+        let (x, y) = last-block (S R) F e e-suc b in
+        let at-a : pow e b ≡ (a, neg ((W .to a) .1)) = there a in
+        let last : position (O R) (rep R a) ≡ p R - 1 = ap (position (O R)) q ∙ position-of e (omega (arith, two i)) in
+        let mvd : ¬ (τ R (rep R a) ≡ rep R a) = λ f. iter-moved (O R) e r h mv (subst (λ s. τ R s ≡ s) q f) in
+        let σ-is : σ (S R) m pos F (ready R) (rep R a) ≡ neg (defect (S R) F a)
+        = σ-last (S R) m pos F (ready R) (rep R a) mvd last ∙ ap neg (defect-const (S R) F _ a (first-rep R (rep R a) (rep-below R a))) in
+        at-mul (E R) (F .d (uNf C i)) (W .to) a
+        ∙ pair (E R) (sym x ∙ ap (λ z. (F .X i (z .0)) .0) at-a)
+        (ap (λ z. add ((F .d (uNf C i) b) .1) z) (neg-of (E R) _ _ (residues m pos .comm _ _ ∙ residues m pos .negr _) ∙ ap neg (sym (ap (λ z. z .1) at-a)))
+        ∙ sym y ∙ ap (λ z. add ((F .X i (z .0)) .1) (neg (defect (S R) F (z .0)))) at-a ∙ ap (add ((F .X i a) .1)) (sym σ-is))
+        ∙ sym (Y-at (S R) F (𝓢 R) a))
 
     -- ---- Generator i
 
@@ -306,42 +274,33 @@ module _ (R : Rung) where
     pub cycle-shows : Shows m Ψ r r (Steps.blockCycle (P R) m i L r) (Y (S R) F (𝓢 R))
     unfolding cycle-block
     cycle-shows = subst (λ M. Shows m Ψ r r M (Y (S R) F (𝓢 R))) cycle-is
-        (shows-blocks cycle-block (λ b l. len b (ℕ-discrete b e)) Y-inside (λ a q. entries a q (ℕ-discrete (position (O R) (rep R a)) e)))
-      where
-        len : (b : ℕ) → Dec (b ≡ e) → length (cycle-block b) ≡ d
-        len b (yes q) = ap length (cond-eq b e _ _ q) ∙ last-shows .size ∙ degree-iter R e r h
-        len b (no q) = ap length (cond-ne b e _ _ q) ∙ lift-length (suc b * d) (repOf L (orb b) .matrix i)
-            ∙ stands .intertwines i (omega arith) (R .in-range) (orb b) (orb-below b) .size ∙ orb-degree b
-
-        entries : (a : Ω) → leaderAt a ≡ r → Dec (position (O R) (rep R a) ≡ e) → col (cycle-block (position (O R) (rep R a))) (column a)
-            ≡ entry (wide R ((Y (S R) F (𝓢 R) a) .0)) ((Y (S R) F (𝓢 R) a) .1 .0)
-        entries a q (yes b) =
-            let M = member a q in
-            let ra : rep R a ≡ t = sym (M .back) ∙ ap (λ k. iter (τ R) k r) b in
-            let M′ = member ((Y (S R) F (𝓢 R) a) .0) (Y-inside a q) in
-            let zero-position : position (O R) (rep R ((Y (S R) F (𝓢 R) a) .0)) ≡ 0 = ap (position (O R)) (last-shows .maps-to a ra)
-            ∙ ap (position (O R)) (sym (iter-zero (τ R) r)) ∙ position-of 0 (omega (arith, two)) in
-            let z : 0 * d + column ((Y (S R) F (𝓢 R) a) .0) ≡ column ((Y (S R) F (𝓢 R) a) .0) = omega arith in
-            ap (λ M. col M (column a)) (cond-eq _ e _ _ b) ∙ last-shows .shown a ra
-            ∙ entry-path (sym (M′ .wide-is ∙ ap (λ k. k * d + column ((Y (S R) F (𝓢 R) a) .0)) zero-position ∙ z)) refl
-        entries a q (no b) =
-            let M = member a q in
-            let k : ℕ = position (O R) (rep R a) in
-            let k-lt : suc k < p R = omega (arith, M .below, two) in
-            let sh = stands .intertwines i (omega arith) (R .in-range) (rep R a) (rep-below R a) in
-            let M′ = member ((Y (S R) F (𝓢 R) a) .0) (Y-inside a q) in
-            let ps : position (O R) (rep R ((Y (S R) F (𝓢 R) a) .0)) ≡ suc k
-            = ap (position (O R)) (Y-maps (S R) F (𝓢 R) a ∙ ap (τ R) (sym (M .back)) ∙ sym (iter-out (τ R) k r)) ∙ position-of (suc k) k-lt in
-            ap (λ M. col M (column a)) (cond-ne _ e _ _ b)
-            ∙ ap (λ s. col (Steps.lift (suc k * d) (repOf L s .matrix i)) (column a)) (orb-back a q)
-            ∙ lift-col (suc k * d) (repOf L (rep R a) .matrix i) (column a) (subst (λ z. column a < z) (sym (sh .size)) (column-below a))
-            ∙ ap (λ (x : Entry). entry (suc k * d + x .row) (x .exp)) (sh .shown a refl)
-            ∙ entry-path
-            (ap (λ z. suc k * d + column (z .0)) (sym (Y-plain a (M .moved) b)) ∙ sym (M′ .wide-is ∙ ap (λ z. z * d + column ((Y (S R) F (𝓢 R) a) .0)) ps))
-            (ap (λ z. z .1 .0) (sym (Y-plain a (M .moved) b)))
-          where
-            Y-plain : (a : Ω) → ¬ (τ R (rep R a) ≡ rep R a) → ¬ (position (O R) (rep R a) ≡ e) → Y (S R) F (𝓢 R) a ≡ F .X i a
-            Y-plain a f g = Y-at (S R) F (𝓢 R) a ∙ pair (E R) refl (ap (add ((F .X i a) .1)) (σ-other (S R) m pos F (ready R) (rep R a) f g) ∙ idr (E R) _)
+        (shows-blocks cycle-block (λ b l. by-cases (ℕ-discrete b e) (λ q. ap length (cond-eq b e _ _ q) ∙ last-shows .size ∙ degree-iter R e r h)
+        (λ q. ap length (cond-ne b e _ _ q) ∙ lift-length (suc b * d) (repOf L (orb b) .matrix i)
+        ∙ stands .intertwines i (omega arith) (R .in-range) (orb b) (orb-below b) .size ∙ orb-degree b))
+        Y-inside (λ a q.
+        let k : ℕ = position (O R) (rep R a) in
+        let a′ : Ω = (Y (S R) F (𝓢 R) a) .0 in
+        let M = member a q in
+        let M′ = member a′ (Y-inside a q) in
+        by-cases (ℕ-discrete k e) (λ b.
+        let ra : rep R a ≡ t = sym (M .back) ∙ ap (λ k. iter (τ R) k r) b in
+        let zero-position : position (O R) (rep R a′) ≡ 0 = ap (position (O R)) (last-shows .maps-to a ra ∙ sym (iter-zero (τ R) r))
+        ∙ position-of 0 (omega (arith, two i)) in
+        let z : 0 * d + column a′ ≡ column a′ = omega arith in
+        ap (λ M. col M (column a)) (cond-eq _ e _ _ b) ∙ last-shows .shown a ra
+        ∙ entry-path (sym (M′ .wide-is ∙ ap (λ k. k * d + column a′) zero-position ∙ z)) refl) (λ b.
+        let k-lt : suc k < p R = omega (arith, M .below, two i) in
+        let sh = stands .intertwines i (omega arith) (R .in-range) (rep R a) (rep-below R a) in
+        let plain : Y (S R) F (𝓢 R) a ≡ F .X i a
+        = Y-at (S R) F (𝓢 R) a ∙ pair (E R) refl (ap (add ((F .X i a) .1)) (σ-other (S R) m pos F (ready R) (rep R a) (M .moved) b) ∙ idr (E R) _) in
+        let ps : position (O R) (rep R a′) ≡ suc k
+        = ap (position (O R)) (Y-maps (S R) F (𝓢 R) a ∙ ap (τ R) (sym (M .back)) ∙ sym (iter-out (τ R) k r)) ∙ position-of (suc k) k-lt in
+        ap (λ M. col M (column a)) (cond-ne _ e _ _ b)
+        ∙ ap (λ s. col (Steps.lift (suc k * d) (repOf L s .matrix i)) (column a)) (orb-back a q)
+        ∙ lift-col (suc k * d) (repOf L (rep R a) .matrix i) (column a) (subst (λ z. column a < z) (sym (sh .size)) (column-below a))
+        ∙ ap (λ (x : Entry). entry (suc k * d + x .row) (x .exp)) (sh .shown a refl)
+        ∙ entry-path (ap (λ z. suc k * d + column (z .0)) (sym plain) ∙ sym (M′ .wide-is ∙ ap (λ z. z * d + column a′) ps))
+        (ap (λ z. z .1 .0) (sym plain)))))
 
     pub induced-shows : (k : ℕ) → k < suc i → Shows m Ψ r r (Steps.inductionBase (P R) m i L r .matrix k) (raised (S R) F (𝓢 R) (genNf (T .context) (suc i) k))
     induced-shows = below-suc i (λ k. Shows m Ψ r r (Steps.inductionBase (P R) m i L r .matrix k) (raised (S R) F (𝓢 R) (genNf C (suc i) k)))

@@ -22,6 +22,7 @@ use Rattle.definitions.specs.Steps
 use Rattle.numbers.proofs.Lists.{iter-zero, iter-add}
 use Rattle.numbers.proofs.Iterates.{iter-out}
 use Rattle.numbers.proofs.Orbits.{leader, position, paces, iter-below, iter-mod, leader-below, leader-leader, leader-iter, leader-moved}
+use Rattle.group.specs.Context.{Context}
 use Rattle.monomial.specs.Exponents.{Exponents, total, Residue}
 use Rattle.monomial.specs.Maps.{Map, maps}
 use Rattle.monomial.specs.Frames.{Shows}
@@ -29,7 +30,7 @@ use Rattle.monomial.proofs.Exponents.{lcomm, neg-of, total-zero, total-suc}
 use Rattle.monomial.proofs.Residues.{residues, add-value, nil-value, less-value, less-mod}
 use Rattle.monomial.proofs.Frames.{entry-path, shows-mul}
 use Rattle.clifford.specs.Stands.{Stands, Rung}
-use Rattle.clifford.proofs.Numbering.{P, p, N, deg, rep, τ, S, ready, O, rep-below, firstOf-column, target-same, leader-same, position-same}
+use Rattle.clifford.proofs.Numbering.{P, p, N, deg, rep, τ, S, ready, O, rep-below, firstOf-column, leader-same, position-same}
 use Rattle.clifford.proofs.Numbering.{degree-leader}
 use Rattle.clifford.proofs.Indices.{wide}
 use Rattle.clifford.proofs.Top.{Y, φ, φ-maps, q, q-eq}
@@ -41,6 +42,7 @@ use Rattle.clifford.proofs.Inductions.{shows-blocks, orb, orb-back, orb
 
 module _ (R : Rung) where
   open Rung R using (T, m, pos, i, L, Ω, F, stands)
+  open Context (T .context) using (two)
   open Stands (R .stands) using (column, column-below)
   open Exponents (residues m pos) using (add, nil, neg)
 
@@ -56,9 +58,6 @@ module _ (R : Rung) where
 
     abbrev d : ℕ
     d = deg R r
-
-    two : 1 < p R
-    two = T .context .two i
 
     abbrev to : ℕ → ℕ
     to = F .target j
@@ -79,9 +78,6 @@ module _ (R : Rung) where
     s-degree : deg R s ≡ d
     s-degree = degree-leader R (to r) (target-below R j ij jn r h) ∙ stands .degree-target j (omega arith) jn r h
 
-    literal : (r : ℕ) → Steps.target (P R) m i L j r ≡ to r
-    literal r = ap (λ t. t r) (target-same R j)
-
     of : (a : Ω) → leaderAt a ≡ r → Member R r h mv own a
     of = member R r h mv own
 
@@ -95,36 +91,27 @@ module _ (R : Rung) where
         → ((a : Ω) → leader (O R) (rep R a) ≡ r → ((B a) .0 ≡ (F .X j a) .0) × ((B a) .1 .0 ≡ ((F .X j a) .1 .0 + k (position (O R) (rep R a))) % m))
         → Shows m (Ψ R) r (leader (O R) (F .target j r)) (Steps.blockIntertwiner (P R) m i L j r k) B
     unfolding Steps.blockIntertwiner
-    intertwiner-shows k {B} is = shows-blocks R r h mv own block len
-        (λ a e. ap leaderAt (is a e .0) ∙ mapped-to a e) entries
-      where
-        o : ℕ → ℕ
-        o = orb R r h mv own
-
-        block : ℕ → Matrix
-        block b = Steps.lift (Steps.position (P R) m i L (Steps.target (P R) m i L j (o b)) * d) (scale m (k b) (repOf L (o b) .matrix j))
-
-        len : (b : ℕ) → b < p R → length (block b) ≡ d
-        len b l =
-            lift-length _ (scale m (k b) (repOf L (o b) .matrix j)) ∙ scale-length m (k b) (repOf L (o b) .matrix j)
-            ∙ stands .intertwines j (omega arith) jn (o b) (orb-below R r h mv own b) .size ∙ orb-degree R r h mv own b
-
-        entries : (a : Ω) → leaderAt a ≡ r → col (block (position (O R) (rep R a))) (column a) ≡ entry (wide R ((B a) .0)) ((B a) .1 .0)
-        entries a e =
-            let b : ℕ = position (O R) (rep R a) in
-            let a′ : Ω = (F .X j a) .0 in
-            let sh = stands .intertwines j (omega arith) jn (rep R a) (rep-below R a) in
-            let l : column a < length (repOf L (rep R a) .matrix j) = subst (λ z. column a < z) (sym (sh .size)) (column-below a) in
-            let M′ = member R s s-below s-moved s-own a′ (mapped-to a e) in
-            let pw : position (O R) (rep R a′) * deg R s + column a′ ≡ position (O R) (to (rep R a)) * d + column a′
-            = ap₂ (λ x y. position (O R) x * y + column a′) (F .maps-to j (omega arith) jn a) s-degree in
-            ap (λ t. col (Steps.lift (Steps.position (P R) m i L (Steps.target (P R) m i L j t) * d) (scale m (k b) (repOf L t .matrix j)))
-            (column a)) (orb-back R r h mv own a e)
-            ∙ lift-col _ (scale m (k b) (repOf L (rep R a) .matrix j)) (column a)
-            (subst (λ z. column a < z) (sym (scale-length m (k b) (repOf L (rep R a) .matrix j))) l)
-            ∙ ap₂ (λ u (x : Entry). entry (u * d + x .row) (x .exp)) (position-same R _ ∙ ap (position (O R)) (literal (rep R a)))
-            (scale-col m (k b) (repOf L (rep R a) .matrix j) (column a) l ∙ ap (λ (x : Entry). entry (x .row) ((x .exp + k b) % m)) (sh .shown a refl))
-            ∙ entry-path (sym (ap (wide R) (is a e .0) ∙ M′ .wide-is ∙ pw)) (sym (is a e .1))
+    intertwiner-shows k {B} is =
+        let o : ℕ → ℕ = orb R r h mv own in
+        shows-blocks R r h mv own
+        (λ b. Steps.lift (Steps.position (P R) m i L (Steps.target (P R) m i L j (o b)) * d) (scale m (k b) (repOf L (o b) .matrix j)))
+        (λ b l. lift-length _ (scale m (k b) (repOf L (o b) .matrix j)) ∙ scale-length m (k b) (repOf L (o b) .matrix j)
+        ∙ stands .intertwines j (omega arith) jn (o b) (orb-below R r h mv own b) .size ∙ orb-degree R r h mv own b)
+        (λ a e. ap leaderAt (is a e .0) ∙ mapped-to a e) (λ a e.
+        let b : ℕ = position (O R) (rep R a) in
+        let a′ : Ω = (F .X j a) .0 in
+        let sh = stands .intertwines j (omega arith) jn (rep R a) (rep-below R a) in
+        let l : column a < length (repOf L (rep R a) .matrix j) = subst (λ z. column a < z) (sym (sh .size)) (column-below a) in
+        let M′ = member R s s-below s-moved s-own a′ (mapped-to a e) in
+        let pw : position (O R) (rep R a′) * deg R s + column a′ ≡ position (O R) (to (rep R a)) * d + column a′
+        = ap₂ (λ x y. position (O R) x * y + column a′) (F .maps-to j (omega arith) jn a) s-degree in
+        ap (λ t. col (Steps.lift (Steps.position (P R) m i L (Steps.target (P R) m i L j t) * d) (scale m (k b) (repOf L t .matrix j)))
+        (column a)) (orb-back R r h mv own a e)
+        ∙ lift-col _ (scale m (k b) (repOf L (rep R a) .matrix j)) (column a)
+        (subst (λ z. column a < z) (sym (scale-length m (k b) (repOf L (rep R a) .matrix j))) l)
+        ∙ ap₂ (λ u (x : Entry). entry (u * d + x .row) (x .exp)) (position-same R _ ∙ ap (position (O R)) (sym (R .literal j (rep R a))))
+        (scale-col m (k b) (repOf L (rep R a) .matrix j) (column a) l ∙ ap (λ (x : Entry). entry (x .row) ((x .exp + k b) % m)) (sh .shown a refl))
+        ∙ entry-path (sym (ap (wide R) (is a e .0) ∙ M′ .wide-is ∙ pw)) (sym (is a e .1)))
 
     -- ---- Both sides of the equation that forces the scalars
 
@@ -143,7 +130,7 @@ module _ (R : Rung) where
     right-shows =
         subst (λ t. Shows m (Ψ R) r s (product m (Steps.blockCycle (P R) m i L t) (Steps.blockIntertwiner (P R) m i L j r (λ b. 0)))
         (Y (S R) F (𝓢 R) *′ F .X j))
-        (sym (leader-same R _ ∙ ap (leader (O R)) (literal r)))
+        (sym (leader-same R _ ∙ ap (leader (O R)) (sym (R .literal j r))))
         (shows-mul m pos (Ψ R) (cycle-shows R s s-below s-moved s-own) plain-shows)
 
     -- the first column of block b
@@ -185,7 +172,7 @@ module _ (R : Rung) where
     block-after (suc t) =
         let z : A * t + A ≡ A * suc t = omega arith in
         iter-out (Steps.nextBlock (P R) m i L j r) t 0 ∙ ap (Steps.nextBlock (P R) m i L j r) (block-after t)
-        ∙ next-block ((A * t) % p R) (mod-lt _ (omega (arith, two))) ∙ mod-add-mod (A * t) (p R) A ∙ ap (λ k. k % p R) z
+        ∙ next-block ((A * t) % p R) (mod-lt _ (omega (arith, two i))) ∙ mod-add-mod (A * t) (p R) A ∙ ap (λ k. k % p R) z
 
     -- ---- The scalars along generator i
 
@@ -194,11 +181,10 @@ module _ (R : Rung) where
 
     forced : (x y t : Residue m) → less m ((neg t) .0 + y .0) ((add x y) .0) ≡ (neg (add x t)) .0
     forced x y t =
+        let turn : (x t t′ y n : Residue m) → add (add x t) (add (add t′ y) n) ≡ add (add t t′) (add (add x y) n) = λ x t t′ y n.
+        simp (E R .assoc, E R .comm, lcomm (E R)) in
         less-mod m pos _ _ ∙ ap (λ z. less m z ((add x y) .0)) (sym (add-value m pos (neg t) y)) ∙ less-value m pos (add (neg t) y) (add x y)
         ∙ ap (λ z. z .0) (neg-of (E R) (add x t) _ (turn x t (neg t) y (neg (add x y)) ∙ ap₂ add (E R .negr t) (E R .negr (add x y)) ∙ E R .idl _))
-      where
-        turn : (x t t′ y n : Residue m) → add (add x t) (add (add t′ y) n) ≡ add (add t t′) (add (add x y) n)
-        turn x t t′ y n = simp (E R .assoc, E R .comm, lcomm (E R))
 
     pub scalar-after : (t : ℕ) → Steps.scalarAfter (P R) m i L j r t
         ≡ (residues m pos .neg (total (residues m pos) (λ k. q̂ (S R) m pos F (ready R) j ij jn (iter (τ R) (S R .shift j * k) r)) t)) .0
@@ -207,19 +193,17 @@ module _ (R : Rung) where
         sym (ap (λ z. (neg z) .0) (total-zero (E R) g) ∙ ap (λ z. z .0) (sym (neg-of (E R) nil nil (E R .idl nil))) ∙ nil-value m pos)
     scalar-after (suc t) =
         let b : ℕ = (A * t) % p R in
-        let l : b < p R = mod-lt _ (omega (arith, two)) in
+        let l : b < p R = mod-lt _ (omega (arith, two i)) in
         let a : Ω = member-of b in
         let y : Residue m = ((Y (S R) F (𝓢 R) *′ F .X j) a) .1 in
+        let q-is = sym (q-first (S R) m pos F (ready R) j ij jn a) ∙ ap (q̂ (S R) m pos F (ready R) j ij jn) (member-rep b ∙ iter-mod (O R) (A * t) r h) in
         ap (λ k. less m (Steps.scalarAfter (P R) m i L j r t + col (Steps.rightSide (P R) m i L j r) (k * d) .exp)
         (col (Steps.leftSide (P R) m i L j r) (k * d) .exp)) (block-after t)
         ∙ ap₂ (λ (x z : Entry). less m (Steps.scalarAfter (P R) m i L j r t + x .exp) (z .exp)) (at-block right-shows b l) (at-block left-shows b l)
         ∙ ap₂ (λ x z. less m (x + y .0) (z .1 .0)) (scalar-after t) (q-eq (S R) F (𝓢 R) j ij jn a)
         ∙ forced (q (S R) F (𝓢 R) j ij jn a) y (total (E R) g t)
-        ∙ ap (λ z. (neg (add z (total (E R) g t))) .0) (q-is b l (iter-mod (O R) (A * t) r h))
+        ∙ ap (λ z. (neg (add z (total (E R) g t))) .0) q-is
         ∙ ap (λ z. (neg z) .0) (sym (total-suc (E R) g t))
-      where
-        q-is : (b : ℕ) → b < p R → iter (τ R) b r ≡ iter (τ R) (A * t) r → q (S R) F (𝓢 R) j ij jn (member-of b) ≡ g t
-        q-is b l e = sym (q-first (S R) m pos F (ready R) j ij jn (member-of b)) ∙ ap (q̂ (S R) m pos F (ready R) j ij jn) (member-rep b ∙ e)
 
     pub c-is : (a : Ω) → leader (O R) (rep R a) ≡ r → Steps.c (P R) m i L j r (position (O R) (rep R a)) ≡ (c (S R) m pos F (ready R) j ij jn (rep R a)) .0
     unfolding Steps.c paces

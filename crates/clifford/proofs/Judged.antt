@@ -3,6 +3,7 @@
 --
 --   valid-holds, listed-holds, relations-hold, intertwiners-hold, separates-hold, squares-hold
 use mathlib.Core.Path.{_≡_, refl, sym, _∙_, ap, subst}
+use mathlib.Core.Logic.{by-cases}
 use mathlib.Core.Bool.{Bool, true, _||_}
 use mathlib.Core.List.{List}
 use Prim.Native.Nat.{ℕ, suc, _*_, _-_, _≤_, _<_}
@@ -34,19 +35,16 @@ use Rattle.monomial.proofs.Frames.{shows-mul, shows-power, shows-value, shows-m
 use Rattle.monomial.proofs.Schur.{intertwiner-inverse, power-commutes, commuting-fixes, rep-power}
 use Rattle.clifford.specs.Stands.{frame, Stands}
 use Rattle.clifford.proofs.Agreement.{target-listed}
+use Rattle.clifford.proofs.Defect.{image-inverse}
 use Rattle.clifford.proofs.Separates.{separates-from}
 
 -- ---- A level that stands
 
 module _ (C : Context) (tests : (k : ℕ) → k < C .P .n → Test C k) (m : ℕ) (pos : 0 < m) (table : List ℕ) (i : ℕ) (l : i ≤ C .P .n) {Ω : Type 0}
     (F : Family (residues m pos) Ω (level C i) (conjNf C i) i (C .P .n)) (St : Stands C (C .P .n) m pos i (levelAt (C .P .n) table i) F) where
+  open Context C using (P)
+  open Presentation P using (n)
   open Stands St using (column, column-below, complete)
-
-  abbrev P : Presentation
-  P = C .P
-
-  abbrev n : ℕ
-  n = C .P .n
 
   abbrev L : Level
   L = levelAt n table i
@@ -68,12 +66,10 @@ module _ (C : Context) (tests : (k : ℕ) → k < C .P .n → Test C k) (m : ℕ
 
   -- ---- Words
 
-  d-value : (k : ℕ) → (x : NF k) → value (maps (residues m pos) Ω) D k x ≡ F .d (value (level C i) (genNf C i) k x)
-  d-value k x = sym (value-hom (F .hom) (genNf C i) k x)
-
   word-shows : (r k : ℕ) → r < length L → k ≤ i → (x : NF k) → Shows m Φ r r (image m (Rp r) k x) (F .d (value (level C i) (genNf C i) k x))
   unfolding image
-  word-shows r k h a x = shows-map m pos Φ (shows-value m pos Φ refl (Rp r .matrix) D k (λ g b. St .represents g (omega arith) r h) x) (d-value k x)
+  word-shows r k h a x = shows-map m pos Φ (shows-value m pos Φ refl (Rp r .matrix) D k (λ g b. St .represents g (omega arith) r h) x)
+      (sym (value-hom (F .hom) (genNf C i) k x))
 
   form-shows : (r : ℕ) → r < length L → (x : Nf C i) → Shows m Φ r r (image m (Rp r) i (x .0)) (F .d x)
   form-shows r h x = shows-map m pos Φ (word-shows r i h (omega arith) (x .0)) (ap (F .d) (group T i l .gen-value x))
@@ -122,11 +118,7 @@ module _ (C : Context) (tests : (k : ℕ) → k < C .P .n → Test C k) (m : ℕ
       (shows-mul m pos Φ (St .represents k c (F .target j r) (target-in j a b r h)) (St .intertwines j a b r h)))))
 
   below-or : (j : ℕ) (q : Bool) → (i ≤ j → q ≡ true) → ltb j i || q ≡ true
-  below-or j q h = go (decLt j i)
-    where
-      go : Dec (j < i) → ltb j i || q ≡ true
-      go (yes a) = or-left (ltb j i) q (lt-ltb j i a)
-      go (no a) = or-right (ltb j i) q (h (omega arith))
+  below-or j q h = by-cases (decLt j i) (λ a. or-left (ltb j i) q (lt-ltb j i a)) (λ a. or-right (ltb j i) q (h (omega arith)))
 
   pub intertwiners-hold : (r : ℕ) → r < length (levelAt (C .P .n) table i)
       → Judgement.intertwinersHold (C .P) m table i (repOf (levelAt (C .P .n) table i) r) ≡ true
@@ -136,10 +128,8 @@ module _ (C : Context) (tests : (k : ℕ) → k < C .P .n → Test C k) (m : ℕ
   -- ---- 25
 
   pub separates-hold : (r : ℕ) → r < length (levelAt (C .P .n) table i) → Judgement.separates (C .P) m table i r ≡ true
-  separates-hold r h = separates-from C m pos table i column-below complete (F .d) form-shows r h
-      (St .degree-pos r h)
-      (λ k a. F .reached _ _ (complete .find-rep r 0 h (St .degree-pos r h) ∙ sym (complete .find-rep r k h a)))
-      (F .separated)
+  separates-hold r h = separates-from C m pos table i column-below complete (F .d) form-shows r h (St .degree-pos r h)
+      (λ k a. F .reached _ _ (complete .find-rep r 0 h (St .degree-pos r h) ∙ sym (complete .find-rep r k h a))) (F .separated)
 
   -- ---- 26
 
@@ -148,13 +138,6 @@ module _ (C : Context) (tests : (k : ℕ) → k < C .P .n → Test C k) (m : ℕ
   squares-hold = eq-eqb _ _ (St .squares)
 
   -- ---- 21, matrices and targets
-
-  D-inverse : (k : ℕ) → Inverse (maps (residues m pos) Ω) (D k)
-  D-inverse k = record {
-    to = F .d (inverse C i (genNf C i k));
-    right = sym (F .hom .on-mul _ _) ∙ ap (F .d) (inverse-right T i l (genNf C i k)) ∙ F .hom .on-one;
-    left = sym (F .hom .on-mul _ _) ∙ ap (F .d) (inverse-left T i l (genNf C i k)) ∙ F .hom .on-one;
-  }
 
   module _ (j : ℕ) (a : i ≤ j) (b : j < n) where
     abbrev N : ℕ
@@ -171,11 +154,11 @@ module _ (C : Context) (tests : (k : ℕ) → k < C .P .n → Test C k) (m : ℕ
 
     -- different representations are mapped to different ones
     target-injective : (x y : Ω) → F .target j (F .rep x) ≡ F .target j (F .rep y) → F .rep x ≡ F .rep y
-    target-injective x y q = back x ∙ ap (iter (F .target j) (N - 1)) q ∙ sym (back y)
-      where
-        back : (x : Ω) → F .rep x ≡ iter (F .target j) (N - 1) (F .target j (F .rep x))
-        back x = let e : N ≡ suc (N - 1) = omega (arith, order-positive C (suc j)) in sym (home x) ∙ ap (λ k. iter (F .target j) k (F .rep x)) e
-            ∙ iter-suc (F .target j) (N - 1) (F .rep x)
+    target-injective x y q =
+        let e : N ≡ suc (N - 1) = omega (arith, order-positive C (suc j)) in
+        let back : (x : Ω) → F .rep x ≡ iter (F .target j) (N - 1) (F .target j (F .rep x))
+        = λ x. sym (home x) ∙ ap (λ k. iter (F .target j) k (F .rep x)) e ∙ iter-suc (F .target j) (N - 1) (F .rep x) in
+        back x ∙ ap (iter (F .target j) (N - 1)) q ∙ sym (back y)
 
     X-back : (r : ℕ) → r < length L → (x : Ω) → F .rep x ≡ F .target j r → F .rep ((X-inverse .to x) .0) ≡ r
     X-back r h x q =
@@ -188,13 +171,11 @@ module _ (C : Context) (tests : (k : ℕ) → k < C .P .n → Test C k) (m : ℕ
         target-injective y z (sym (F .maps-to j a b y) ∙ ap (F .rep) there ∙ q ∙ ap (F .target j) (sym rz)) ∙ rz
 
   matrix-valid : (r g : ℕ) → r < length L → g < n → valid m (Rp r .deg) (Rp r .matrix g) ≡ true
-  unfolding D-inverse
-  matrix-valid r g h b = go (decLt g i)
-    where
-      go : Dec (g < i) → valid m (Rp r .deg) (Rp r .matrix g) ≡ true
-      go (yes a) = shows-valid m pos Φ complete h (St .represents g a r h) (D-inverse g) h refl (λ x q. F .inside _ x ∙ q)
-      go (no a) = shows-valid m pos Φ complete h (St .intertwines g (omega arith) b r h) (X-inverse g (omega arith) b)
-          (target-in g (omega arith) b r h) (St .degree-target g (omega arith) b r h) (X-back g (omega arith) b r h)
+  matrix-valid r g h b = by-cases (decLt g i)
+      (λ a. shows-valid m pos Φ complete h (St .represents g a r h)
+      (image-inverse (F .hom) (genNf C i g) (inverse C i (genNf C i g)) (inverse-right T i l _) (inverse-left T i l _)) h refl (λ x q. F .inside _ x ∙ q))
+      (λ a. shows-valid m pos Φ complete h (St .intertwines g (omega arith) b r h) (X-inverse g (omega arith) b)
+      (target-in g (omega arith) b r h) (St .degree-target g (omega arith) b r h) (X-back g (omega arith) b r h))
 
   pub valid-holds : (r : ℕ) → r < length (levelAt (C .P .n) table i) → Judgement.matricesValid (C .P) m table i (repOf (levelAt (C .P .n) table i) r) ≡ true
   unfolding Judgement.matricesValid

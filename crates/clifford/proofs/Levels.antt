@@ -4,6 +4,7 @@
 --   exponentNf, restNf     the exponent of the generator on top, and the form of the level below
 --   extension              level suc i over level i
 use mathlib.Core.Path.{_≡_, refl, sym, _∙_, ap, ap₂}
+use mathlib.Core.Logic.{by-cases}
 use Prim.Native.Nat.{ℕ, suc, _+_, _-_, _≤_, _<_}
 use native.Mathlib.Omega.{arith}
 use native.Mathlib.Decide.{decLt}
@@ -84,20 +85,13 @@ module _ (C : Context) (i : ℕ) where
 
     raise-mul : (x z : Nf C (suc i)) → pow (exponentNf (level C (suc i) .mul x z)) * d (restNf (level C (suc i) .mul x z))
         ≡ pow (exponentNf x) * d (restNf x) * (pow (exponentNf z) * d (restNf z))
-    raise-mul x z = go (decLt (exponentNf x + exponentNf z) (C .P .p i))
-      where
-        go : Dec (exponentNf x + exponentNf z < C .P .p i)
-            → pow (exponentNf (level C (suc i) .mul x z)) * d (restNf (level C (suc i) .mul x z))
-            ≡ pow (exponentNf x) * d (restNf x) * (pow (exponentNf z) * d (restNf z))
-        go (yes l) = let (a, b) = mul-below x z l in ap₂ (λ s t. pow s * d t) a b ∙ together _ _ _ _
-        go (no l) =
-            let (a, b) = mul-over x z (omega arith) in
-            let e : exponentNf x + exponentNf z - C .P .p i + C .P .p i ≡ exponentNf x + exponentNf z = omega arith in
-            ap₂ (λ s t. pow s * d t) a b
-            ∙ ap (λ s. pow (exponentNf x + exponentNf z - C .P .p i) * s)
-            (H .on-mul _ _ ∙ ap (λ s. s * d (level C i .mul (iter (conjNf C i i) (exponentNf z) (restNf x)) (restNf z))) (sym root))
-            ∙ sym (assoc _ _ _) ∙ ap (λ s. s * d (level C i .mul (iter (conjNf C i i) (exponentNf z) (restNf x)) (restNf z)))
-            (sym (power-add 𝓛 y _ _) ∙ ap pow e) ∙ together _ _ _ _
+    raise-mul x z = by-cases (decLt (exponentNf x + exponentNf z) (C .P .p i))
+        (λ l. let (a, b) = mul-below x z l in ap₂ (λ s t. pow s * d t) a b ∙ together _ _ _ _) (λ l.
+        let (a, b) = mul-over x z (omega arith) in
+        let e : exponentNf x + exponentNf z - C .P .p i + C .P .p i ≡ exponentNf x + exponentNf z = omega arith in
+        let r : M = d (level C i .mul (iter (conjNf C i i) (exponentNf z) (restNf x)) (restNf z)) in
+        ap₂ (λ s t. pow s * d t) a b ∙ ap (λ s. pow (exponentNf x + exponentNf z - C .P .p i) * s) (H .on-mul _ _ ∙ ap (λ s. s * r) (sym root))
+        ∙ sym (assoc _ _ _) ∙ ap (λ s. s * r) (sym (power-add 𝓛 y _ _) ∙ ap pow e) ∙ together _ _ _ _)
 
     pub raise : Hom (level C (suc i)) 𝓜 (λ x. 𝓜 .mul (power 𝓜 y (exponentNf x)) (d (restNf x)))
     unfolding level trivial

@@ -8,7 +8,7 @@
 --   Agrees                two levels agree where a table says something
 --   read-back             the levels that the table says agree with those that were written
 use mathlib.Core.Path.{_≡_, refl, sym, _∙_, ap, ap₂, subst}
-use mathlib.Core.Bool.{Bool, false, _&&_, cond}
+use mathlib.Core.Bool.{_&&_, cond}
 use mathlib.Core.List.{List, [], _∷_}
 use Prim.Native.Nat.{ℕ, suc, _+_, _*_, _/_, _≤_, _<_}
 use native.Mathlib.Nat.{mul-add, mul-div-right, mul-le-mul-left}
@@ -153,27 +153,17 @@ module _ (W : LevelsListed) where
     abbrev chosen : ℕ → ℕ → ℕ → ℕ → List ℕ
     chosen k r g c = cond (eqb (suc k) (suc i) && eqb (suc g) 1 && eqb c 0) (deg k r ∷ []) []
 
-    and-false : (a b : Bool) → a ≡ false → a && b ≡ false
-    and-false a b h = ap (λ t. t && b) h
-
     -- nothing is chosen but the first column of the first generator of level i
     other-level : (k r g c : ℕ) → ¬ (k ≡ i) → chosen k r g c ≡ []
     other-level k r g c ne =
-        cond-false _ (deg k r ∷ []) []
-        (and-false (eqb (suc k) (suc i) && eqb (suc g) 1) (eqb c 0)
-        (and-false (eqb (suc k) (suc i)) (eqb (suc g) 1) (ne-eqb (suc k) (suc i) (λ e. ne (omega arith)))))
+        cond-false _ (deg k r ∷ []) [] (ap (λ t. t && eqb (suc g) 1 && eqb c 0) (ne-eqb (suc k) (suc i) (λ e. ne (omega arith))))
 
     other-generator : (k r g c : ℕ) → ¬ (g ≡ 0) → chosen k r g c ≡ []
     other-generator k r g c ne =
-        cond-false _ (deg k r ∷ []) []
-        (and-false (eqb (suc k) (suc i) && eqb (suc g) 1) (eqb c 0)
-        (and-last (eqb (suc k) (suc i)) (eqb (suc g) 1) (ne-eqb (suc g) 1 (λ e. ne (omega arith)))))
+        cond-false _ (deg k r ∷ []) [] (ap (λ t. t && eqb c 0) (and-last (eqb (suc k) (suc i)) (eqb (suc g) 1) (ne-eqb (suc g) 1 (λ e. ne (omega arith)))))
 
     other-column : (k r g c : ℕ) → ¬ (c ≡ 0) → chosen k r g c ≡ []
     other-column k r g c ne = cond-false _ (deg k r ∷ []) [] (and-last (eqb (suc k) (suc i) && eqb (suc g) 1) (eqb c 0) (ne-eqb c 0 ne))
-
-    the-one : (r : ℕ) → chosen i r 0 0 ≡ deg i r ∷ []
-    the-one r = cond-true _ (deg i r ∷ []) [] (ap₂ (_&&_) (ap₂ (_&&_) (eq-eqb (suc i) (suc i) refl) refl) refl)
 
     -- what the lines of a representation give
     of-rep : (k r : ℕ) → k < n → r < length (L k) → blocks (repLines k r) (λ κ. pick (sum k levelLines + (sum r (repLines k) + κ))) ≡ chosen k r 0 0
@@ -187,20 +177,17 @@ module _ (W : LevelsListed) where
         (λ g l ne. blocks-none (deg k r) (chosen k r g) (λ c e. other-generator k r g c ne))
         ∙ blocks-single (deg k r) (chosen k r 0) 0 (W .degree-pos k r a b) (λ c l ne. other-column k r 0 c ne)
 
-    of-level : (k : ℕ) → k < n → blocks (levelLines k) (λ κ. pick (sum k levelLines + κ)) ≡ blocks (length (L k)) (λ r. chosen k r 0 0)
-    unfolding levelLines
-    of-level k a =
-        blocks-stretches (repLines k) (length (L k)) (λ κ. pick (sum k levelLines + κ))
-        ∙ blocks-below (length (L k)) _ (λ r. chosen k r 0 0) (λ r l. of-rep k r a l)
-
     pub degrees-are : degrees table (suc i) ≡ blocks (length (L i)) (λ r. deg i r ∷ [])
-    unfolding degrees pick
+    unfolding degrees pick levelLines
     degrees-are =
         ap (λ z. blocks z pick) line-count ∙ blocks-stretches levelLines n pick
-        ∙ blocks-below n _ (λ k. blocks (length (L k)) (λ r. chosen k r 0 0)) (λ k l. of-level k l)
+        ∙ blocks-below n _ (λ k. blocks (length (L k)) (λ r. chosen k r 0 0)) (λ k a.
+        blocks-stretches (repLines k) (length (L k)) (λ κ. pick (sum k levelLines + κ))
+        ∙ blocks-below (length (L k)) _ (λ r. chosen k r 0 0) (λ r l. of-rep k r a l))
         ∙ blocks-single n (λ k. blocks (length (L k)) (λ r. chosen k r 0 0)) i i-below
         (λ k l ne. blocks-none (length (L k)) (λ r. chosen k r 0 0) (λ r e. other-level k r 0 0 ne))
-        ∙ blocks-below (length (L i)) (λ r. chosen i r 0 0) (λ r. deg i r ∷ []) (λ r l. the-one r)
+        ∙ blocks-below (length (L i)) (λ r. chosen i r 0 0) (λ r. deg i r ∷ [])
+        (λ r l. cond-true _ (deg i r ∷ []) [] (ap₂ (_&&_) (ap₂ (_&&_) (eq-eqb (suc i) (suc i) refl) refl) refl))
 
     pub degrees-length : length (degrees table (suc i)) ≡ length (L i)
     degrees-length = ap length degrees-are ∙ length-even (λ r. deg i r ∷ []) 1 (length (L i)) (λ k l. refl) ∙ omega arith
@@ -212,14 +199,12 @@ module _ (W : LevelsListed) where
 
   -- ---- First lines
 
-  all-columns : (k : ℕ) → k < n → columns (degrees table (suc k)) (length (degrees table (suc k))) ≡ sum (length (L k)) (deg k)
-  unfolding columns
-  all-columns k l = ap (λ z. sum z (λ q. getD (degrees table (suc k)) q 0)) (degrees-length k l) ∙ sum-below (length (L k)) _ (deg k) (degrees-at k l)
-
   pub first-line : (i r : ℕ) → i < n → r ≤ length (L i) → firstLine n table (suc i) r ≡ sum i levelLines + sum r (repLines i)
   unfolding firstLine columns repLines levelLines
   first-line i r a b =
-      ap₂ (λ x y. n * (x + y)) (sum-below i _ (λ k. sum (length (L k)) (deg k)) (λ k l. all-columns k (omega arith)))
+      ap₂ (λ x y. n * (x + y)) (sum-below i _ (λ k. sum (length (L k)) (deg k)) (λ k l.
+      ap (λ z. sum z (λ q. getD (degrees table (suc k)) q 0)) (degrees-length k (omega arith))
+      ∙ sum-below (length (L k)) _ (deg k) (degrees-at k (omega arith))))
       (sum-below r _ (deg i) (λ q l. degrees-at i a q (omega arith)))
       ∙ mul-add n (sum i (λ k. sum (length (L k)) (deg k))) (sum r (deg i))
       ∙ ap₂ (_+_) (sym (sum-below i levelLines (λ k. n * sum (length (L k)) (deg k)) (λ k l. sum-mul (length (L k)) n (deg k))

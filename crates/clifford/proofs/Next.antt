@@ -7,9 +7,10 @@
 --   next-target               where it maps, as the next level refers to it
 --   family                    they are a family of the next level
 use mathlib.Core.Path.{_≡_, refl, sym, _∙_, ap, ap₂, subst}
+use mathlib.Core.Logic.{by-cases}
 use mathlib.Core.Bool.{cond}
 use Prim.Native.Nat.{ℕ, zero, suc, _+_, _*_, _-_, _%_, _<_, _∣_}
-use native.Mathlib.Nat.{mod-lt}
+use native.Mathlib.Nat.{mod-lt, add-zero}
 use native.Mathlib.Omega.{arith}
 use native.Mathlib.Decide.{ℕ-discrete}
 use lib.Dec.{leb}
@@ -22,15 +23,15 @@ use Rattle.numbers.proofs.Lists.{iter-zero, iter-add}
 use Rattle.numbers.proofs.Iterates.{iter-out}
 use Rattle.numbers.proofs.Sums.{stretch-one}
 use Rattle.numbers.proofs.Orbits.{leader, position, unit-onto, iter-below, iter-mod, leader-below, leader-iter, leader-fixed, leader-moved, leader-reaches}
-use Rattle.numbers.proofs.Orbits.{position-below, position-back}
-use Rattle.group.specs.Context.{Context, Nf}
+use Rattle.numbers.proofs.Orbits.{position-back}
+use Rattle.group.specs.Context.{Nf}
 use Rattle.group.proofs.Level.{level, conjNf}
 use Rattle.monomial.specs.Maps.{Map, maps}
 use Rattle.monomial.specs.Families.{Family}
-use Rattle.monomial.specs.Over.{At}
 use Rattle.monomial.proofs.Residues.{log}
+use Rattle.clifford.specs.Extension.{Extension}
 use Rattle.clifford.specs.Stands.{Rung}
-use Rattle.clifford.proofs.Numbering.{P, p, N, rep, τ, S, ready, O, rep-below, target-same, leader-same, start-same, made, next, made-of, made-of-fixed}
+use Rattle.clifford.proofs.Numbering.{leader-ahead, p, N, rep, τ, S, ready, O, rep-below, leader-same, made, next, made-of, made-of-fixed}
 use Rattle.clifford.proofs.Indices.{Index, base, number, mk, Index-path, Index-discrete, next-rep, number-fixed, number-moved, rep-fixed, rep-moved}
 use Rattle.clifford.proofs.Top.{Normed, raised, raised-maps, swap, fixed-stays, fixed-back}
 use Rattle.clifford.proofs.Step as StepOf
@@ -41,12 +42,7 @@ use Rattle.clifford.proofs.Extensions.{E, 𝓢, ρ, first, first-rep, l
 
 module _ (R : Rung) where
   open Rung R using (T, m, pos, i, L, Ω, F, stands)
-
-  abbrev C : Context
-  C = T .context
-
-  abbrev A : ℕ → ℕ
-  A = S R .shift
+  open Extension (S R) using (shift as A)
 
   -- ---- Targets
 
@@ -94,7 +90,7 @@ module _ (R : Rung) where
   abbrev 𝓨 : ℕ → Normed (S R) F
   𝓨 κ = numbered (S R) F (𝓢 R) (ρ R) κ
 
-  raised-number : (x : Index R) (w : Nf C (suc i)) → number R x < made R (leader (O R) (rep R ((raised (S R) F (𝓨 (number R x)) w (base R x)) .0)))
+  raised-number : (x : Index R) (w : Nf (T .context) (suc i)) → number R x < made R (leader (O R) (rep R ((raised (S R) F (𝓨 (number R x)) w (base R x)) .0)))
   raised-number x w =
       subst (λ s. number R x < made R s)
       (sym (ap (leader (O R)) (raised-maps (S R) F (𝓨 (number R x)) w (base R x)) ∙ leader-iter (O R) _ (rep R (base R x)) (rep-below R (base R x)))) (x .1)
@@ -109,20 +105,13 @@ module _ (R : Rung) where
 
     mapped-number : (x : Index R) → ν′ (rep R (base R x)) (number R x) < made R (leader (O R) (rep R ((F .X j (base R x)) .0)))
     mapped-number x =
-        subst (λ s. ν′ r (number R x) < made R (leader (O R) s)) (sym (F .maps-to j (omega arith) jn (base R x))) (go (ℕ-discrete (τ R r) r))
-      where
-        r : ℕ
-        r = rep R (base R x)
-
-        go : Dec (τ R r ≡ r) → ν′ r (number R x) < made R (leader (O R) (F .target j r))
-        go (yes f) =
-            subst (λ s. ν′ r (number R x) < s)
-            (sym (made-of-fixed R (F .target j r) (target-below j ij jn r (rep-below R (base R x))) (target-fixed j ij jn r (rep-below R (base R x)) f)))
-            (ν-below (S R) m pos F (ready R) j ij jn r (number R x))
-        go (no f) =
-            subst (λ s. ν′ r (number R x) < s)
-            (sym (made-of R (F .target j r) (target-below j ij jn r (rep-below R (base R x))) (target-moved j ij jn r (rep-below R (base R x)) f)))
-            (omega (arith, ν-moved (S R) m pos F (ready R) j ij jn r (number R x) f))
+        let r : ℕ = rep R (base R x) in
+        let h : r < N R = rep-below R (base R x) in
+        subst (λ s. ν′ r (number R x) < made R (leader (O R) s)) (sym (F .maps-to j (omega arith) jn (base R x))) (by-cases (ℕ-discrete (τ R r) r)
+        (λ f. subst (λ s. ν′ r (number R x) < s) (sym (made-of-fixed R (F .target j r) (target-below j ij jn r h) (target-fixed j ij jn r h f)))
+        (ν-below (S R) m pos F (ready R) j ij jn r (number R x)))
+        (λ f. subst (λ s. ν′ r (number R x) < s) (sym (made-of R (F .target j r) (target-below j ij jn r h) (target-moved j ij jn r h f)))
+        (omega (arith, ν-moved (S R) m pos F (ready R) j ij jn r (number R x) f))))
 
     unfoldable pub mapped : Map (E R) (Index R)
     unfolding mapped-number
@@ -152,41 +141,32 @@ module _ (R : Rung) where
     abbrev to-rx : ℕ
     to-rx = F .target j rx
 
-    literal-target : (r : ℕ) → Steps.target (P R) m i L j r ≡ F .target j r
-    literal-target r = ap (λ t. t r) (target-same R j)
-
     ref-fixed : τ R rx ≡ rx
         → next-target j (next-rep R x)
         ≡ sum to-rx (made R) + (log m pos (parts (S R) m pos F (ready R)) (q̂ (S R) m pos F (ready R) j ij jn rx) + number R x * A j) % p R
-    unfolding Steps.extension Steps.a
+    unfolding Steps.extension Steps.start Steps.a
     ref-fixed f =
         ap (λ (D : Rep). D .ref j 0) (rep-fixed R x f) ∙ above _ _
-        ∙ ap₂ (λ s l. s + (l + number R x * A j) % p R) (start-same R _ ∙ ap (λ r. sum r (made R)) (literal-target rx))
+        ∙ ap₂ (λ s l. s + (l + number R x * A j) % p R) (ap (λ r. sum r (made R)) (sym (R .literal j rx)))
         (l-is R j ij jn rx (rep-below R (base R x)) f)
 
     ref-moved : ¬ (τ R rx ≡ rx) → next-target j (next-rep R x) ≡ sum (leader (O R) to-rx) (made R)
-    unfolding Steps.induction
+    unfolding Steps.induction Steps.start
     ref-moved f =
-        ap (λ (D : Rep). D .ref j 0) (rep-moved R x f) ∙ above _ _ ∙ start-same R _
+        ap (λ (D : Rep). D .ref j 0) (rep-moved R x f) ∙ above _ _
         ∙ ap (λ s. sum s (made R))
-        (leader-same R _ ∙ ap (leader (O R)) (literal-target (leader (O R) rx)) ∙ target-leader j ij jn rx (rep-below R (base R x)) f)
+        (leader-same R _ ∙ ap (leader (O R)) (sym (R .literal j (leader (O R) rx))) ∙ target-leader j ij jn rx (rep-below R (base R x)) f)
 
     mapped-target : next-rep R ((mapped j ij jn x) .0) ≡ next-target j (next-rep R x)
     unfolding mapped next-rep
-    mapped-target = go (ℕ-discrete (τ R rx) rx)
-      where
-        start : sum (leader (O R) (rep R ((F .X j (base R x)) .0))) (made R) ≡ sum (leader (O R) to-rx) (made R)
-        start = ap (λ s. sum (leader (O R) s) (made R)) (F .maps-to j (omega arith) jn (base R x))
-
-        go : Dec (τ R rx ≡ rx) → sum (leader (O R) (rep R ((F .X j (base R x)) .0))) (made R) + ν (S R) m pos F (ready R) j ij jn rx (number R x)
-            ≡ next-target j (next-rep R x)
-        go (yes f) =
-            ap₂ (_+_) (start ∙ ap (λ s. sum s (made R))
-            (leader-fixed (O R) to-rx (target-below j ij jn rx (rep-below R (base R x))) (target-fixed j ij jn rx (rep-below R (base R x)) f)))
-            (ν-fixed (S R) m pos F (ready R) j ij jn rx (number R x) f) ∙ sym (ref-fixed f)
-        go (no f) =
-            let z : sum (leader (O R) to-rx) (made R) + 0 ≡ sum (leader (O R) to-rx) (made R) = omega arith in
-            ap₂ (_+_) start (ν-moved (S R) m pos F (ready R) j ij jn rx (number R x) f) ∙ z ∙ sym (ref-moved f)
+    mapped-target =
+        let h : rx < N R = rep-below R (base R x) in
+        let start : sum (leader (O R) (rep R ((F .X j (base R x)) .0))) (made R) ≡ sum (leader (O R) to-rx) (made R)
+        = ap (λ s. sum (leader (O R) s) (made R)) (F .maps-to j (omega arith) jn (base R x)) in
+        by-cases (ℕ-discrete (τ R rx) rx)
+        (λ f. ap₂ (_+_) (start ∙ ap (λ s. sum s (made R)) (leader-fixed (O R) to-rx (target-below j ij jn rx h) (target-fixed j ij jn rx h f)))
+        (ν-fixed (S R) m pos F (ready R) j ij jn rx (number R x) f) ∙ sym (ref-fixed f))
+        (λ f. ap₂ (_+_) start (ν-moved (S R) m pos F (ready R) j ij jn rx (number R x) f) ∙ add-zero _ ∙ sym (ref-moved f))
 
   -- ---- The step
 
@@ -194,27 +174,25 @@ module _ (R : Rung) where
       → (k : ℕ) × (iter (τ R) k (rep R (base R x)) ≡ rep R (base R y))
   same-orbit x y e =
       let r : ℕ = rep R (base R x) in
-      let h : r < N R = rep-below R (base R x) in
-      let b : ℕ = position (O R) r in
-      let l : b < p R = position-below (O R) r h in
-      let b′ : ℕ = position (O R) (rep R (base R y)) in
-      let w : b + (p R - b) ≡ p R = omega arith in
-      let back : iter (τ R) (p R - b) r ≡ leader (O R) r
-      = ap (iter (τ R) (p R - b)) (sym (position-back (O R) r h)) ∙ iter-add (τ R) b (p R - b) (leader (O R) r)
-      ∙ ap (λ k. iter (τ R) k (leader (O R) r)) w ∙ O R .home (leader (O R) r) (leader-below (O R) r h) in
-      (p R - b + b′, sym (iter-add (τ R) (p R - b) b′ r) ∙ ap (iter (τ R) b′) (back ∙ e) ∙ position-back (O R) (rep R (base R y)) (rep-below R (base R y)))
+      let k : ℕ = p R - position (O R) r in
+      let b′ : ℕ = position (O R) (rep R (base R y)) in (
+        k + b′,
+        sym (iter-add (τ R) k b′ r) ∙ ap (iter (τ R) b′) (leader-ahead (O R) r (rep-below R (base R x)) ∙ e)
+            ∙ position-back (O R) (rep R (base R y)) (rep-below R (base R y)),
+      )
 
   pub step : StepUp (S R) F (𝓢 R) (ρ R) (base R) (number R) next-d next-X (next-rep R) next-target
-  unfolding next-d next-rep
+  unfolding next-d next-rep mapped
   step = record {
     c = λ j ij jn r κ. c (S R) m pos F (ready R) j ij jn r;
     ν = ν (S R) m pos F (ready R);
     decide = Index-discrete R;
     injective = Index-path R;
-    small = λ x. small x (ℕ-discrete (τ R (rep R (base R x))) (rep R (base R x)));
+    small = λ x. by-cases (ℕ-discrete (τ R (rep R (base R x))) (rep R (base R x))) (number-fixed R x)
+        (λ f. omega (arith, number-moved R x f, T .context .two i));
     plain = number-moved R;
     over = λ w x. record { is-base = refl; is-number = refl; is-exponent = refl };
-    up = λ j ij jn x. up j ij jn x;
+    up = λ j ij jn x. rw (next-X-is j ij jn) (record { is-base = refl; is-number = refl; is-exponent = refl });
     number-stays = λ j ij jn x. number-stays (S R) m pos F (ready R) j ij jn (base R x) (number R x);
     closes = λ j ij jn x. closes (S R) m pos F (ready R) j ij jn (base R x) (number R x) (number-moved R x);
     maps-to = λ j ij jn x. ap (λ f. next-rep R ((f x) .0)) (next-X-is j ij jn) ∙ mapped-target j ij jn x;
@@ -223,19 +201,6 @@ module _ (R : Rung) where
         (k, same-orbit x y s);
     one-rep = λ x y e k q. ap₂ (λ r κ. sum r (made R) + κ) (sym (leader-iter (O R) k (rep R (base R x)) (rep-below R (base R x))) ∙ ap (leader (O R)) q) e;
   }
-    where
-      small : (x : Index R) → Dec (τ R (rep R (base R x)) ≡ rep R (base R x)) → number R x < p R
-      small x (yes f) = number-fixed R x f
-      small x (no f) = omega (arith, number-moved R x f, T .context .two i)
-
-      up : (j : ℕ) (ij : i < j) (jn : j < T .n) (x : Index R)
-          → At (E R) (base R) (number R) (next-X j x) ((F .X j (base R x)) .0) (ν (S R) m pos F (ready R) j ij jn (rep R (base R x)) (number R x))
-          (E R .add ((F .X j (base R x)) .1) (c (S R) m pos F (ready R) j ij jn (rep R (base R x))))
-      up j ij jn x = subst
-          (λ (f : Map (E R) (Index R)). At (E R) (base R) (number R) (f x) ((F .X j (base R x)) .0)
-          (ν (S R) m pos F (ready R) j ij jn (rep R (base R x)) (number R x))
-          (E R .add ((F .X j (base R x)) .1) (c (S R) m pos F (ready R) j ij jn (rep R (base R x)))))
-          (sym (next-X-is j ij jn)) (unfold mapped in (record { is-base = refl; is-number = refl; is-exponent = refl }))
 
   abbrev pub family : Family (E R) (Index R) (level (T .context) (suc i)) (conjNf (T .context) (suc i)) (suc i) (T .n)
   family = StepOf.next (S R) F (𝓢 R) (ρ R) (base R) (number R) next-d next-X (next-rep R) next-target step

@@ -1,16 +1,17 @@
 -- The numbers of the next level: representations, their degrees, basis indices and columns, as the steps count them.
 --
+--   leader-ahead                              a number comes to its leader
 --   ready, O                                  the family of a rung is ready for the scalars; its orbits
 --   target-same, leader-same, position-same, orbit-same      the orbits of the steps are those of the family
 --   made-fixed, made-leader, made-other       how many representations r gives
 --   given-fixed, given-moved                  the representations of the next level
---   below-next                                every representation of the next level is one of these
---   leader-moves                              a leader is moved as its orbit is
+--   source                                    every representation of the next level is one of these
 --   degree-iter, degree-leader                degrees along an orbit
 use mathlib.Core.Path.{_≡_, refl, sym, _∙_, ap, subst, fun-ext}
+use mathlib.Core.Logic.{by-cases}
 use mathlib.Core.Bool.{Bool, true, false, cond}
 use mathlib.Core.List.{List, [], _∷_, map}
-use Prim.Native.Nat.{ℕ, zero, suc, _+_, _<_}
+use Prim.Native.Nat.{ℕ, zero, suc, _+_, _-_, _<_}
 use native.Mathlib.Omega.{arith}
 use native.Mathlib.Decide.{decLt, ℕ-discrete}
 use lib.Dec.{eqb}
@@ -20,16 +21,25 @@ use Rattle.definitions.specs.Presentation.{Presentation}
 use Rattle.definitions.specs.Monomial.{Rep, Level, repOf, noRep}
 use Rattle.definitions.specs.Steps
 use Rattle.numbers.proofs.Bools.{cond-eq, cond-ne}
-use Rattle.numbers.proofs.Lists.{iter-zero, iter-suc, length-blocks}
+use Rattle.numbers.proofs.Lists.{iter-zero, iter-suc, iter-add, length-blocks}
 use Rattle.numbers.proofs.Sums.{sum-below, owner}
 use Rattle.numbers.proofs.Blocks.{getD-table, length-table, getD-blocks}
 use Rattle.numbers.proofs.Orbits.{Orbits, leaderOf, positionOf, leader, position, leader-below, leader-leader, leader-fixed, leader-moved, leader-reaches}
+use Rattle.numbers.proofs.Orbits.{position-below, position-back}
 use Rattle.group.proofs.Level.{level, conjNf}
 use Rattle.clifford.specs.Extension.{Extension}
 use Rattle.clifford.specs.Stands.{Stands, Rung}
 use Rattle.clifford.specs.Ready.{Ready}
 use Rattle.clifford.proofs.Levels.{extension}
 use Rattle.clifford.proofs.Scalars.{orbits}
+
+-- a number comes to its leader in what its position leaves of p
+pub leader-ahead : (O : Orbits) (r : ℕ) → r < O .N → iter (O .τ) (O .p - position O r) r ≡ leader O r
+leader-ahead O r h =
+    let b : ℕ = position O r in
+    let w : b + (O .p - b) ≡ O .p = omega (arith, position-below O r h) in
+    ap (iter (O .τ) (O .p - b)) (sym (position-back O r h)) ∙ iter-add (O .τ) b (O .p - b) (leader O r) ∙ ap (λ k. iter (O .τ) k (leader O r)) w
+    ∙ O .home (leader O r) (leader-below O r h)
 
 module _ (R : Rung) where
   open Rung R using (T, m, pos, i, L, Ω, F, stands)
@@ -121,9 +131,6 @@ module _ (R : Rung) where
   pub leader-yes : {A : Type 0} (r : ℕ) (x y : A) → leader O r ≡ r → cond (eqb (Steps.leader P m i L r) r) x y ≡ x
   leader-yes r x y f = cond-eq _ r x y (leader-same r ∙ f)
 
-  pub leader-no : {A : Type 0} (r : ℕ) (x y : A) → ¬ (leader O r ≡ r) → cond (eqb (Steps.leader P m i L r) r) x y ≡ y
-  leader-no r x y f = cond-ne _ r x y (λ e. f (sym (leader-same r) ∙ e))
-
   -- ---- What a representation gives
 
   abbrev pub made : ℕ → ℕ
@@ -139,7 +146,7 @@ module _ (R : Rung) where
 
   pub made-other : (r : ℕ) → ¬ (τ r ≡ r) → ¬ (leader O r ≡ r) → made r ≡ 0
   unfolding Steps.made
-  made-other r f h = fixed-no r _ _ f ∙ leader-no r _ _ h
+  made-other r f h = fixed-no r _ _ f ∙ cond-ne _ r _ _ (λ e. h (sym (leader-same r) ∙ e))
 
   abbrev pub given : ℕ → List Rep
   given = Steps.givenBy P m i L
@@ -155,10 +162,6 @@ module _ (R : Rung) where
 
   abbrev pub next : Level
   next = Steps.nextLevel P m i L
-
-  pub start-same : (r : ℕ) → Steps.start P m i L r ≡ sum r made
-  unfolding Steps.start
-  start-same r = refl
 
   pub next-length : length next ≡ sum N made
   unfolding Steps.nextLevel
@@ -192,11 +195,7 @@ module _ (R : Rung) where
   made-of-fixed r h f = ap made (leader-fixed O r h f) ∙ made-fixed r f
 
   pub made-some : (r : ℕ) → r < N → 0 < made (leader O r)
-  made-some r h = go (ℕ-discrete (τ r) r)
-    where
-      go : Dec (τ r ≡ r) → 0 < made (leader O r)
-      go (yes f) = omega (arith, made-of-fixed r h f, T .context .two i)
-      go (no f) = omega (arith, made-of r h f)
+  made-some r h = by-cases (ℕ-discrete (τ r) r) (λ f. omega (arith, made-of-fixed r h f, T .context .two i)) (λ f. omega (arith, made-of r h f))
 
   -- a representation that gives one: it is its own leader
   pub record GivenBy (r : ℕ) : Type 0 where
@@ -216,13 +215,9 @@ module _ (R : Rung) where
         s-below = o .s-below;
         κ-below = o .κ-below;
         is = o .is;
-        own = own-leader (o .s) (o .κ) (o .s-below) (o .κ-below) (ℕ-discrete (τ (o .s)) (o .s)) (ℕ-discrete (leader O (o .s)) (o .s));
+        own = by-cases (ℕ-discrete (τ (o .s)) (o .s)) (λ f. leader-fixed O (o .s) (o .s-below) f)
+            (λ f. by-cases (ℕ-discrete (leader O (o .s)) (o .s)) (λ g. g) (λ g. absurd (omega (arith, made-other (o .s) f g, o .κ-below))));
       }
-    where
-      own-leader : (s κ : ℕ) → s < N → κ < made s → Dec (τ s ≡ s) → Dec (leader O s ≡ s) → leader O s ≡ s
-      own-leader s κ h l (yes f) d = leader-fixed O s h f
-      own-leader s κ h l (no f) (yes g) = g
-      own-leader s κ h l (no f) (no g) = absurd (omega (arith, made-other s f g))
 
   -- ---- Degrees
 

@@ -5,7 +5,7 @@
 --   all-pass          a complete table whose levels all pass, passes
 --   levels-pass       so does one whose levels all stand
 use mathlib.Core.Path.{_≡_, _∙_, ap}
-use mathlib.Core.Bool.{Bool, true, false, _&&_, not}
+use mathlib.Core.Bool.{Bool, true, false, not}
 use mathlib.Core.List.{List}
 use Prim.Native.Nat.{ℕ, suc, _%_, _<_}
 use lib.Dec.{eqb}
@@ -41,17 +41,14 @@ pub level-passes : (C : Context) → ((k : ℕ) → k < C .P .n → Test C k) �
     → LevelPasses (C .P) m T i
 level-passes C tests m pos T i l St cut = record {
   formed = λ r h.
-      and-intro _ _ (and-intro _ _ (valid-holds C tests m pos T (suc i) l (St .F) (St .stands) r h) (blocks-whole (C .P) m T i (D r) (cut r h)))
+      and-intro _ _ (and-intro _ _ (valid-holds C tests m pos T (suc i) l (St .F) (St .stands) r h) (blocks-whole (C .P) m T i _ (cut r h)))
       (listed-holds C tests m pos T (suc i) l (St .F) (St .stands) r h);
   relations = λ r h. relations-hold C tests m pos T (suc i) l (St .F) (St .stands) r h;
-  restrictions = λ r h. blocks-restrict (C .P) m T i (D r) (cut r h);
+  restrictions = λ r h. blocks-restrict (C .P) m T i _ (cut r h);
   intertwiners = λ r h. intertwiners-hold C tests m pos T (suc i) l (St .F) (St .stands) r h;
   separated = λ r h. separates-hold C tests m pos T (suc i) l (St .F) (St .stands) r h;
   adds-up = squares-hold C tests m pos T (suc i) l (St .F) (St .stands);
 }
-  where
-    D : ℕ → Rep
-    D r = repOf (levelAt (C .P .n) T (suc i)) r
 
 -- ---- All levels
 
@@ -61,39 +58,16 @@ module _ (P : Presentation) (m : ℕ) (T : List ℕ) (passes : (i : ℕ) → i <
   each : (q : (i : ℕ) → Rep → Bool) → ((i : ℕ) → LevelPasses P m T i → OfEach P T i (q (suc i))) → not (Judgement.everywhere P m T q) ≡ false
   each q h = ap not (everywhere-intro P m T q (λ i l. h i (passes i l)))
 
-  well-formed : Judgement.malformed P m T ≡ false
-  unfolding Judgement.malformed
-  well-formed = ap not (and-intro _ _ (and-intro _ _ whole lines) (everywhere-intro P m T formed (λ i l. passes i l .formed)))
-    where
-      formed : (i : ℕ) → Rep → Bool
-      formed i D = Judgement.matricesValid P m T i D && Judgement.blocksWhole P m T i D && Judgement.targetsListed P m T i D
-
-  relations-pass : Judgement.relationFails P m T ≡ false
-  unfolding Judgement.relationFails
-  relations-pass = each (Judgement.relationsHold P m T) (λ i L. L .relations)
-
-  restrictions-pass : Judgement.restrictionFails P m T ≡ false
-  unfolding Judgement.restrictionFails
-  restrictions-pass = each (Judgement.restricts P m T) (λ i L. L .restrictions)
-
-  intertwiners-pass : Judgement.intertwinerFails P m T ≡ false
-  unfolding Judgement.intertwinerFails
-  intertwiners-pass = each (Judgement.intertwinersHold P m T) (λ i L. L .intertwiners)
-
-  separation-passes : Judgement.notSeparated P m T ≡ false
-  unfolding Judgement.notSeparated Judgement.everyLevel
-  separation-passes = ap not (allBelow-intro (P .n) _ (λ i l. allBelow-intro _ _ (passes i l .separated)))
-
-  squares-pass : Judgement.squaresFail P m T ≡ false
-  unfolding Judgement.squaresFail Judgement.everyLevel
-  squares-pass = ap not (allBelow-intro (P .n) _ (λ i l. passes i l .adds-up))
-
   pub all-pass : judgement P m T ≡ 0
-  unfolding judgement firstOf
+  unfolding judgement firstOf Judgement.malformed Judgement.relationFails Judgement.restrictionFails Judgement.intertwinerFails Judgement.notSeparated
+      Judgement.squaresFail Judgement.everyLevel
   all-pass =
-      cond-false (Judgement.malformed P m T) _ _ well-formed ∙ cond-false (Judgement.relationFails P m T) _ _ relations-pass
-      ∙ cond-false (Judgement.restrictionFails P m T) _ _ restrictions-pass ∙ cond-false (Judgement.intertwinerFails P m T) _ _ intertwiners-pass
-      ∙ cond-false (Judgement.notSeparated P m T) _ _ separation-passes ∙ cond-false (Judgement.squaresFail P m T) _ _ squares-pass
+      cond-false (Judgement.malformed P m T) _ _ (ap not (and-intro _ _ (and-intro _ _ whole lines) (everywhere-intro P m T _ (λ i l. passes i l .formed))))
+      ∙ cond-false (Judgement.relationFails P m T) _ _ (each (Judgement.relationsHold P m T) (λ i L. L .relations))
+      ∙ cond-false (Judgement.restrictionFails P m T) _ _ (each (Judgement.restricts P m T) (λ i L. L .restrictions))
+      ∙ cond-false (Judgement.intertwinerFails P m T) _ _ (each (Judgement.intertwinersHold P m T) (λ i L. L .intertwiners))
+      ∙ cond-false (Judgement.notSeparated P m T) _ _ (ap not (allBelow-intro (P .n) _ (λ i l. allBelow-intro _ _ (passes i l .separated))))
+      ∙ cond-false (Judgement.squaresFail P m T) _ _ (ap not (allBelow-intro (P .n) _ (λ i l. passes i l .adds-up)))
 
 pub levels-pass : (C : Context) → ((k : ℕ) → k < C .P .n → Test C k) → (m : ℕ) (pos : 0 < m) (T : List ℕ)
     → ((i : ℕ) → i < C .P .n → Founded C m pos (suc i) (levelAt (C .P .n) T (suc i)))

@@ -3,9 +3,8 @@
 --   shows-above                 what shows a map of the orbits shows a map of the next level above it
 --   at-source                   the representation of a number, by the one that gives it
 --   next-represents, next-intertwines, next-refers      its matrices and references
---   next-degree, next-degree-target                     its degrees
---   next-restricts              its blocks
-use mathlib.Core.Path.{_≡_, refl, sym, _∙_, ap, ap₂, subst}
+use mathlib.Core.Path.{_≡_, refl, sym, _∙_, ap, subst}
+use mathlib.Core.Logic.{by-cases}
 use Prim.Native.Nat.{ℕ, suc, _+_, _/_, _≤_, _<_}
 use native.Mathlib.Omega.{arith}
 use native.Mathlib.Decide.{ℕ-discrete}
@@ -13,50 +12,51 @@ use lib.Dec.{leb}
 use lib.ListN.{length}
 use borrow.Author.Tests.{le-leb, lt-leb}
 use Rattle.definitions.specs.Lists.{sum}
-use Rattle.definitions.specs.Monomial.{Matrix, entry, Rep, repOf}
+use Rattle.definitions.specs.Monomial.{Matrix, entry, col, Rep, repOf}
 use Rattle.definitions.specs.Steps
 use Rattle.numbers.proofs.Bools.{cond-true, cond-false}
 use Rattle.numbers.proofs.Sums.{stretch-one}
 use Rattle.numbers.proofs.Orbits.{leader}
-use Rattle.group.specs.Context.{Context, Nf}
+use Rattle.group.specs.Context.{Nf}
 use Rattle.group.proofs.Level.{genNf}
+use Rattle.group.proofs.Group.{TestedContext}
+use Rattle.monomial.specs.Exponents.{Residue}
 use Rattle.monomial.specs.Maps.{Map}
 use Rattle.monomial.specs.Frames.{Shows}
 use Rattle.monomial.proofs.Exponents.{idr}
+use Rattle.monomial.proofs.Maps.{pair}
 use Rattle.clifford.specs.Stands.{Rung}
-use Rattle.clifford.proofs.Numbering.{P, p, N, deg, rep, τ, S, ready, O, made, next, made-fixed, made-leader, given-fixed, given-moved, GivenBy, source}
-use Rattle.clifford.proofs.Indices.{Index, base, number, next-rep, wide, next-frame}
+use Rattle.clifford.proofs.Numbering.{P, p, N, deg, rep, τ, S, ready, O, made, next, made-fixed, made-leader, given-fixed, given-moved, source}
+use Rattle.clifford.proofs.Indices.{Index, base, number, next-rep, wide, rep-of-fixed, next-frame}
 use Rattle.clifford.proofs.Top.{raised}
 use Rattle.clifford.proofs.Step.{numbered, numbered-zero}
 use Rattle.clifford.proofs.Scalars.{c, c-fixed}
 use Rattle.clifford.proofs.Extensions.{E, 𝓢, ρ, base-shows}
 use Rattle.clifford.proofs.Next.{target-below, target-fixed, next-d, mapped, next-X, next-X-is, next-target, family}
-use Rattle.clifford.proofs.Inductions.{Ψ, spread, spread-fixed, spread-moved, rep-of-fixed, fixed-spreads, induced-shows}
+use Rattle.clifford.proofs.Inductions.{Ψ, spread, spread-fixed, spread-moved, fixed-spreads, induced-shows}
 use Rattle.clifford.proofs.Intertwiners.{mapped-shows}
 
 module _ (R : Rung) where
   open Rung R using (T, m, pos, i, L, Ω, F, stands)
-
-  abbrev C : Context
-  C = T .context
-
-  abbrev leaderAt : Index R → ℕ
-  leaderAt x = leader (O R) (rep R (base R x))
+  open TestedContext T using (context as C)
 
   -- ---- From the orbits to the next level
 
-  pub shows-above : (s t κ r′ t′ : ℕ) (M : Matrix) (A : Map (E R) Ω) (A′ : Map (E R) (Index R)) → κ < made R s → sum s (made R) + κ ≡ r′
-      → Shows m (Ψ R) s t M A → spread R s ≡ repOf (next R) r′ .deg
-      → ((x : Index R) → leader (O R) (rep R (base R x)) ≡ s → number R x ≡ κ → (base R ((A′ x) .0) ≡ (A (base R x)) .0) × ((A′ x) .1 ≡ (A (base R x)) .1))
-      → ((x : Index R) → next-rep R x ≡ r′ → next-rep R ((A′ x) .0) ≡ t′) → Shows m (next-frame R) r′ t′ M A′
+  -- an entry of the next level, below
+  abbrev above : Index R × Residue (R .m) → Ω × Residue (R .m)
+  above z = (base R (z .0), z .1)
+
+  shows-above : (s t κ r′ t′ k : ℕ) {M : Matrix} (A : Map (E R) Ω) (A′ : Map (E R) (Index R)) → κ < made R s → sum s (made R) + κ ≡ r′
+      → repOf (next R) r′ .matrix k ≡ M → Shows m (Ψ R) s t M A → spread R s ≡ repOf (next R) r′ .deg
+      → ((x : Index R) → leader (O R) (rep R (base R x)) ≡ s → number R x ≡ κ → above (A′ x) ≡ A (base R x))
+      → ((x : Index R) → next-rep R x ≡ r′ → next-rep R ((A′ x) .0) ≡ t′) → Shows m (next-frame R) r′ t′ (repOf (next R) r′ .matrix k) A′
   unfolding next-rep
-  shows-above s t κ r′ t′ M A A′ l is sh dg above ld = record {
-    size = sh .size ∙ dg;
+  shows-above s t κ r′ t′ k A A′ l is mt sh dg lies ld = record {
+    size = ap length mt ∙ sh .size ∙ dg;
     maps-to = ld;
     shown = λ x e.
-        let (a, b) = stretch-one (made R) (leaderAt x) (number R x) s κ (x .1) l (e ∙ sym is) in
-        let (y, z) = above x a b in
-        sh .shown (base R x) a ∙ ap₂ (λ o w. entry (wide R o) (w .0)) (sym y) (sym z);
+        let (a, b) = stretch-one (made R) (leader (O R) (rep R (base R x))) (number R x) s κ (x .1) l (e ∙ sym is) in
+        ap (λ M. col M (wide R (base R x))) mt ∙ sh .shown (base R x) a ∙ ap (λ z. entry (wide R (z .0)) (z .1 .0)) (sym (lies x a b));
   }
 
   -- the representation of a number: an extension of a fixed one, or an induction of an orbit
@@ -80,37 +80,32 @@ module _ (R : Rung) where
     pub rep-is : repOf (next R) r′ ≡ Steps.induction (P R) m i L s
 
   pub at-source : (Q : Type 0) (r′ : ℕ) → r′ < length (next R) → (Extended r′ → Q) → (Induced r′ → Q) → Q
-  at-source Q r′ h ext ind = go (source R r′ h)
-    where
-      go : GivenBy R r′ → Q
-      go o = split (ℕ-discrete (τ R (o .s)) (o .s))
-        where
-          split : Dec (τ R (o .s) ≡ o .s) → Q
-          split (yes f) =
-              let l : o .κ < p R = subst (λ z. o .κ < z) (made-fixed R (o .s) f) (o .κ-below) in
-              ext (record {
-                s = o .s;
-                κ = o .κ;
-                s-below = o .s-below;
-                κ-below = o .κ-below;
-                κ-small = l;
-                is = o .is;
-                fixed = f;
-                rep-is = ap (repOf (next R)) (sym (o .is)) ∙ given-fixed R (o .s) (o .κ) (o .s-below) f l;
-              })
-          split (no f) =
-              let l : o .κ < 1 = subst (λ z. o .κ < z) (made-leader R (o .s) f (o .own)) (o .κ-below) in
-              let z : o .κ ≡ 0 = omega arith in
-              let is : sum (o .s) (made R) + 0 ≡ r′ = ap (λ κ. sum (o .s) (made R) + κ) (sym z) ∙ o .is in
-              ind (record {
-                s = o .s;
-                s-below = o .s-below;
-                κ-below = subst (λ κ. κ < made R (o .s)) z (o .κ-below);
-                is = is;
-                moved = f;
-                own = o .own;
-                rep-is = ap (repOf (next R)) (sym is) ∙ given-moved R (o .s) 0 (o .s-below) f (o .own) refl;
-              })
+  at-source Q r′ h ext ind =
+      let o = source R r′ h in
+      by-cases (ℕ-discrete (τ R (o .s)) (o .s)) (λ f.
+      let l : o .κ < p R = subst (λ z. o .κ < z) (made-fixed R (o .s) f) (o .κ-below) in
+      ext (record {
+        s = o .s;
+        κ = o .κ;
+        s-below = o .s-below;
+        κ-below = o .κ-below;
+        κ-small = l;
+        is = o .is;
+        fixed = f;
+        rep-is = ap (repOf (next R)) (sym (o .is)) ∙ given-fixed R (o .s) (o .κ) (o .s-below) f l;
+      })) (λ f.
+      let l : o .κ < 1 = subst (λ z. o .κ < z) (made-leader R (o .s) f (o .own)) (o .κ-below) in
+      let z : o .κ ≡ 0 = omega arith in
+      let is : sum (o .s) (made R) + 0 ≡ r′ = ap (λ κ. sum (o .s) (made R) + κ) (sym z) ∙ o .is in
+      ind (record {
+        s = o .s;
+        s-below = o .s-below;
+        κ-below = subst (λ κ. κ < made R (o .s)) z (o .κ-below);
+        is = is;
+        moved = f;
+        own = o .own;
+        rep-is = ap (repOf (next R)) (sym is) ∙ given-moved R (o .s) 0 (o .s-below) f (o .own) refl;
+      }))
 
   -- ---- Matrices and references by their generator
 
@@ -158,50 +153,25 @@ module _ (R : Rung) where
     induced-degree e = spread-moved R (e .s) (e .moved) ∙ ap (λ (D : Rep). D .deg) (sym (e .rep-is))
 
   -- what the maps of the next level lie above
-  d-above : (g : Nf C (suc i)) (κ : ℕ) (x : Index R) → number R x ≡ κ
-      → (base R ((next-d R g x) .0) ≡ (raised (S R) F (numbered (S R) F (𝓢 R) (ρ R) κ) g (base R x)) .0)
-      × ((next-d R g x) .1 ≡ (raised (S R) F (numbered (S R) F (𝓢 R) (ρ R) κ) g (base R x)) .1)
+  d-above : (g : Nf C (suc i)) (κ : ℕ) (x : Index R) → number R x ≡ κ → above (next-d R g x) ≡ raised (S R) F (numbered (S R) F (𝓢 R) (ρ R) κ) g (base R x)
   unfolding next-d
-  d-above g κ x b = (
-    ap (λ κ. (raised (S R) F (numbered (S R) F (𝓢 R) (ρ R) κ) g (base R x)) .0) b,
-    ap (λ κ. (raised (S R) F (numbered (S R) F (𝓢 R) (ρ R) κ) g (base R x)) .1) b,
-  )
-
-  mapped-above : (j : ℕ) (ij : suc i ≤ j) (jn : j < T .n) (x : Index R)
-      → (base R ((mapped R j ij jn x) .0) ≡ (F .X j (base R x)) .0)
-      × ((mapped R j ij jn x) .1 ≡ E R .add ((F .X j (base R x)) .1) (c (S R) m pos F (ready R) j ij jn (rep R (base R x))))
-  unfolding mapped
-  mapped-above j ij jn x = (refl, refl)
+  d-above g κ x b = ap (λ κ. raised (S R) F (numbered (S R) F (𝓢 R) (ρ R) κ) g (base R x)) b
 
   -- ---- Generators of the level
 
   pub next-represents : (k : ℕ) → k < suc i → (r′ : ℕ) → r′ < length (next R)
       → Shows m (next-frame R) r′ r′ (repOf (next R) r′ .matrix k) (family R .d (genNf (T .context) (suc i) k))
-  next-represents k l r′ h = at-source (Shows m (next-frame R) r′ r′ (repOf (next R) r′ .matrix k) (family R .d g)) r′ h ext ind
-    where
-      g : Nf C (suc i)
-      g = genNf C (suc i) k
-
-      inside : (x : Index R) → next-rep R x ≡ r′ → next-rep R ((family R .d g x) .0) ≡ r′
-      inside x e = family R .inside g x ∙ e
-
-      ext : Extended r′ → Shows m (next-frame R) r′ r′ (repOf (next R) r′ .matrix k) (family R .d g)
-      ext e =
-          subst (λ (M : Matrix). Shows m (next-frame R) r′ r′ M (family R .d g))
-          (sym (ap (λ (D : Rep). D .matrix k) (e .rep-is) ∙ extension-low (e .s) (e .κ) k l))
-          (shows-above (e .s) (e .s) (e .κ) r′ r′ _ (raised (S R) F (numbered (S R) F (𝓢 R) (ρ R) (e .κ)) g) (family R .d g) (e .κ-below) (e .is)
-          (fixed-spreads R (e .fixed) (e .s-below) (e .fixed) (base-shows R (e .s) (e .κ) (e .s-below) (e .fixed) k l)) (extended-degree r′ e)
-          (λ x a b. d-above g (e .κ) x b) inside)
-
-      ind : Induced r′ → Shows m (next-frame R) r′ r′ (repOf (next R) r′ .matrix k) (family R .d g)
-      ind e =
-          subst (λ (M : Matrix). Shows m (next-frame R) r′ r′ M (family R .d g)) (sym (ap (λ (D : Rep). D .matrix k) (e .rep-is) ∙ induction-low (e .s) k l))
-          (shows-above (e .s) (e .s) 0 r′ r′ _ (raised (S R) F (𝓢 R) g) (family R .d g) (e .κ-below) (e .is)
-          (induced-shows R (e .s) (e .s-below) (e .moved) (e .own) k l) (induced-degree r′ e)
-          (λ x a b. let (y, z) = d-above g 0 x b in (
-            y ∙ ap (λ f. (f g (base R x)) .0) (numbered-zero (S R) F (𝓢 R) (ρ R)),
-            z ∙ ap (λ f. (f g (base R x)) .1) (numbered-zero (S R) F (𝓢 R) (ρ R)),
-          )) inside)
+  next-represents k l r′ h =
+      let g : Nf C (suc i) = genNf C (suc i) k in
+      at-source (Shows m (next-frame R) r′ r′ (repOf (next R) r′ .matrix k) (family R .d g)) r′ h
+      (λ e. shows-above (e .s) (e .s) (e .κ) r′ r′ k (raised (S R) F (numbered (S R) F (𝓢 R) (ρ R) (e .κ)) g) (family R .d g) (e .κ-below) (e .is)
+      (ap (λ (D : Rep). D .matrix k) (e .rep-is) ∙ extension-low (e .s) (e .κ) k l)
+      (fixed-spreads R (e .fixed) (e .s-below) (e .fixed) (base-shows R (e .s) (e .κ) (e .s-below) (e .fixed) k l)) (extended-degree r′ e)
+      (λ x a b. d-above g (e .κ) x b) (λ x q. family R .inside g x ∙ q))
+      (λ e. shows-above (e .s) (e .s) 0 r′ r′ k (raised (S R) F (𝓢 R) g) (family R .d g) (e .κ-below) (e .is)
+      (ap (λ (D : Rep). D .matrix k) (e .rep-is) ∙ induction-low (e .s) k l)
+      (induced-shows R (e .s) (e .s-below) (e .moved) (e .own) k l) (induced-degree r′ e)
+      (λ x a b. d-above g 0 x b ∙ ap (λ f. f g (base R x)) (numbered-zero (S R) F (𝓢 R) (ρ R))) (λ x q. family R .inside g x ∙ q))
 
   -- ---- Generators above
 
@@ -210,36 +180,23 @@ module _ (R : Rung) where
     scaled a = ((F .X j a) .0, E R .add ((F .X j a) .1) (c (S R) m pos F (ready R) j ij jn (rep R a)))
 
     pub next-intertwines : (r′ : ℕ) → r′ < length (next R) → Shows m (next-frame R) r′ (next-target R j r′) (repOf (next R) r′ .matrix j) (next-X R j)
-    unfolding scaled
+    unfolding scaled mapped
     next-intertwines r′ h =
-        subst (λ (f : Map (E R) (Index R)). Shows m (next-frame R) r′ (next-target R j r′) (repOf (next R) r′ .matrix j) f) (sym (next-X-is R j ij jn))
-        (at-source (Shows m (next-frame R) r′ (next-target R j r′) (repOf (next R) r′ .matrix j) (mapped R j ij jn)) r′ h ext ind)
-      where
-        maps-to : (x : Index R) → next-rep R x ≡ r′ → next-rep R ((mapped R j ij jn x) .0) ≡ next-target R j r′
-        maps-to x e = ap (λ f. next-rep R ((f x) .0)) (sym (next-X-is R j ij jn)) ∙ family R .maps-to j ij jn x ∙ ap (next-target R j) e
-
-        ext : Extended r′ → Shows m (next-frame R) r′ (next-target R j r′) (repOf (next R) r′ .matrix j) (mapped R j ij jn)
-        ext e =
-            subst (λ (M : Matrix). Shows m (next-frame R) r′ (next-target R j r′) M (mapped R j ij jn))
-            (sym (ap (λ (D : Rep). D .matrix j) (e .rep-is) ∙ extension-up (e .s) (e .κ) j ij))
-            (shows-above (e .s) (F .target j (e .s)) (e .κ) r′ (next-target R j r′) (repOf L (e .s) .matrix j) (F .X j) (mapped R j ij jn) (e .κ-below) (e .is)
-            (fixed-spreads R (e .fixed) (target-below R j ij jn (e .s) (e .s-below)) (target-fixed R j ij jn (e .s) (e .s-below) (e .fixed))
-            (stands .intertwines j (omega arith) jn (e .s) (e .s-below))) (extended-degree r′ e)
-            (λ x a b. let (y, z) = mapped-above j ij jn x in (
-              y,
-              z ∙ ap (E R .add ((F .X j (base R x)) .1)) (c-fixed (S R) m pos F (ready R) j ij jn (rep R (base R x)) (fixed-at e x a))
-                  ∙ idr (E R) _,
-            )) maps-to)
-          where
-            fixed-at : (e : Extended r′) (x : Index R) → leaderAt x ≡ e .s → τ R (rep R (base R x)) ≡ rep R (base R x)
-            fixed-at e x a = subst (λ s. τ R s ≡ s) (sym (rep-of-fixed R (base R x) (e .s) a (e .fixed))) (e .fixed)
-
-        ind : Induced r′ → Shows m (next-frame R) r′ (next-target R j r′) (repOf (next R) r′ .matrix j) (mapped R j ij jn)
-        ind e =
-            subst (λ (M : Matrix). Shows m (next-frame R) r′ (next-target R j r′) M (mapped R j ij jn))
-            (sym (ap (λ (D : Rep). D .matrix j) (e .rep-is) ∙ induction-up (e .s) j ij))
-            (shows-above (e .s) (leader (O R) (F .target j (e .s))) 0 r′ (next-target R j r′) _ scaled (mapped R j ij jn) (e .κ-below) (e .is)
-            (mapped-shows R j ij jn (e .s) (e .s-below) (e .moved) (e .own) (λ a q. refl)) (induced-degree r′ e) (λ x a b. mapped-above j ij jn x) maps-to)
+        let t′ : ℕ = next-target R j r′ in
+        let A′ : Map (E R) (Index R) = mapped R j ij jn in
+        let maps-to : (x : Index R) → next-rep R x ≡ r′ → next-rep R ((A′ x) .0) ≡ t′
+        = λ x e. ap (λ f. next-rep R ((f x) .0)) (sym (next-X-is R j ij jn)) ∙ family R .maps-to j ij jn x ∙ ap (next-target R j) e in
+        subst (λ (f : Map (E R) (Index R)). Shows m (next-frame R) r′ t′ (repOf (next R) r′ .matrix j) f) (sym (next-X-is R j ij jn))
+        (at-source (Shows m (next-frame R) r′ t′ (repOf (next R) r′ .matrix j) A′) r′ h
+        (λ e. shows-above (e .s) (F .target j (e .s)) (e .κ) r′ t′ j (F .X j) A′ (e .κ-below) (e .is)
+        (ap (λ (D : Rep). D .matrix j) (e .rep-is) ∙ extension-up (e .s) (e .κ) j ij)
+        (fixed-spreads R (e .fixed) (target-below R j ij jn (e .s) (e .s-below)) (target-fixed R j ij jn (e .s) (e .s-below) (e .fixed))
+        (stands .intertwines j (omega arith) jn (e .s) (e .s-below))) (extended-degree r′ e)
+        (λ x a b. pair (E R) refl (ap (E R .add ((F .X j (base R x)) .1)) (c-fixed (S R) m pos F (ready R) j ij jn (rep R (base R x))
+        (subst (λ s. τ R s ≡ s) (sym (rep-of-fixed R (base R x) (e .s) a (e .fixed))) (e .fixed))) ∙ idr (E R) _)) maps-to)
+        (λ e. shows-above (e .s) (leader (O R) (F .target j (e .s))) 0 r′ t′ j scaled A′ (e .κ-below) (e .is)
+        (ap (λ (D : Rep). D .matrix j) (e .rep-is) ∙ induction-up (e .s) j ij)
+        (mapped-shows R j ij jn (e .s) (e .s-below) (e .moved) (e .own) (λ a q. refl)) (induced-degree r′ e) (λ x a b. refl) maps-to))
 
     pub next-refers : (r′ : ℕ) → r′ < length (next R) → (k : ℕ) → repOf (next R) r′ .ref j k ≡ next-target R j r′
     next-refers r′ h k = at-source (repOf (next R) r′ .ref j k ≡ next-target R j r′) r′ h

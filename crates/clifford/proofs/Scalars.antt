@@ -8,7 +8,8 @@
 --   unit-shift                              p does not divide the shift of j where something moves
 --   c, c-fixed, c-moved, ν, ν-fixed, ν-moved, ν-below      scalars and numbers of the intertwiner of j
 --   number-stays, closes                    what a step asks of them
-use mathlib.Core.Path.{_≡_, sym, _∙_, ap, ap₂, subst}
+use mathlib.Core.Path.{_≡_, refl, sym, _∙_, ap, ap₂, subst}
+use mathlib.Core.Logic.{by-cases}
 use mathlib.Core.Bool.{cond}
 use Prim.Native.Nat.{ℕ, zero, suc, _+_, _*_, _-_, _%_, _<_, _∣_}
 use native.Mathlib.Nat.{mod-lt, mod-eq-of-lt, mod-self, mod-eq-sub-mod, mod-eq-zero-of-dvd}
@@ -25,7 +26,7 @@ use Rattle.numbers.proofs.Orbits.{paces-back, paces-next}
 use Rattle.monomial.specs.Exponents.{Exponents, total, times, Residue, Parts}
 use Rattle.monomial.specs.Maps.{maps}
 use Rattle.monomial.specs.Families.{Family}
-use Rattle.monomial.proofs.Exponents.{idr, negl, lcomm, neg-of, total-zero, total-suc, total-ext, total-single, times-nil, times-add, times-mul}
+use Rattle.monomial.proofs.Exponents.{idr, negl, neg-of, total-zero, total-suc, total-ext, total-single, times-nil, times-add, times-mul}
 use Rattle.monomial.proofs.Residues.{residues, root-divides, part, part-times, neg-divides, unit, unit-p, unit-injective, unit-mod, log, log-times}
 use Rattle.clifford.specs.Extension.{Extension}
 use Rattle.clifford.specs.Ready.{Ready}
@@ -94,41 +95,30 @@ module _ {G G⁺ : Type 0} {𝓖 : Mul G} {𝓖⁺ : Mul G⁺} {conj : ℕ → G
     T-along (suc k) a = ap (λ r. T (first r)) (iter-suc τ k (rep a) ∙ ap (iter τ k) (sym (X-maps S F a))) ∙ T-along k ((X i a) .0) ∙ defect-step S F a
 
     pub norm : (a : Ω) → add (total 𝓔 (λ k. σ (iter τ k (rep a))) p) (T a) ≡ nil
-    norm a = go (ℕ-discrete (τ (rep a)) (rep a))
+    norm a =
+        let fixed : τ (rep a) ≡ rep a → total 𝓔 (λ k. σ (iter τ k (rep a))) p ≡ neg (T a) = λ f.
+        total-ext 𝓔 (λ k. σ (iter τ k (rep a))) (λ k. σ (rep a)) p (λ k h. ap σ (iter-fix τ (rep a) f k)) ∙ ap (times 𝓔 p) (σ-fixed (rep a) f)
+        ∙ (part-times m pos parts (neg (T (first (rep a))))
+        (neg-divides m pos parts (T (first (rep a))) (subst (λ s. p ∣ s .0) (sym (T-first a)) (T-divides a f))))
+        ∙ ap neg (T-first a) in
+        let moved : ¬ (τ (rep a) ≡ rep a) → total 𝓔 (λ k. σ (iter τ k (rep a))) p ≡ neg (T a) = λ f.
+        let b : ℕ = position orbits (rep a) in
+        let b-below : b < p = position-below orbits (rep a) (rep-below a) in
+        let mv : (k : ℕ) → ¬ (τ (iter τ k (rep a)) ≡ iter τ k (rep a)) = λ k. iter-moved orbits k (rep a) (rep-below a) f in
+        let at : (k : ℕ) → position orbits (iter τ k (rep a)) ≡ (b + k) % p = λ k. position-iter orbits (rep a) k (rep-below a) f in
+        let l : ℕ = p - 1 - b in
+        let e : b + l ≡ p - 1 = omega arith in
+        total-single 𝓔 (λ k. σ (iter τ k (rep a))) p l (neg (T a)) (omega (arith, S .two))
+        (σ-last (iter τ l (rep a)) (mv l) (at l ∙ ap (λ x. x % p) e ∙ mod-eq-of-lt (omega (arith, S .two))) ∙ ap neg (T-along l a))
+        (λ k h ne. σ-other (iter τ k (rep a)) (mv k) (λ e. away k b h b-below ne (sym (at k) ∙ e))) in
+        ap (λ s. add s (T a)) (by-cases (ℕ-discrete (τ (rep a)) (rep a)) fixed moved) ∙ negl 𝓔 (T a)
       where
-        fixed : τ (rep a) ≡ rep a → total 𝓔 (λ k. σ (iter τ k (rep a))) p ≡ neg (T a)
-        fixed f =
-            total-ext 𝓔 (λ k. σ (iter τ k (rep a))) (λ k. σ (rep a)) p (λ k h. ap σ (iter-fix τ (rep a) f k)) ∙ ap (times 𝓔 p) (σ-fixed (rep a) f)
-            ∙ (part-times m pos parts (neg (T (first (rep a))))
-            (neg-divides m pos parts (T (first (rep a))) (subst (λ s. p ∣ s .0) (sym (T-first a)) (T-divides a f))))
-            ∙ ap neg (T-first a)
-
         -- only the last position of the orbit counts
         away : (k b : ℕ) → k < p → b < p → ¬ (k ≡ p - 1 - b) → (b + k) % p ≡ p - 1 → ⊥
-        away k b h h′ ne e = split-case (decLt (b + k) p)
-          where
-            split-case : Dec (b + k < p) → ⊥
-            split-case (yes o) = let w : b + k ≡ p - 1 = sym (mod-eq-of-lt o) ∙ e in ne (omega arith)
-            split-case (no o) =
-                let s₁ : (b + k - p) % p ≡ b + k - p = mod-eq-of-lt (omega arith) in
-                let s₂ : (b + k) % p ≡ (b + k - p) % p = mod-eq-sub-mod (omega arith) in
-                omega (arith, S .two)
-
-        moved : ¬ (τ (rep a) ≡ rep a) → total 𝓔 (λ k. σ (iter τ k (rep a))) p ≡ neg (T a)
-        moved f =
-            let b : ℕ = position orbits (rep a) in
-            let b-below : b < p = position-below orbits (rep a) (rep-below a) in
-            let mv : (k : ℕ) → ¬ (τ (iter τ k (rep a)) ≡ iter τ k (rep a)) = λ k. iter-moved orbits k (rep a) (rep-below a) f in
-            let at : (k : ℕ) → position orbits (iter τ k (rep a)) ≡ (b + k) % p = λ k. position-iter orbits (rep a) k (rep-below a) f in
-            let l : ℕ = p - 1 - b in
-            let e : b + l ≡ p - 1 = omega arith in
-            total-single 𝓔 (λ k. σ (iter τ k (rep a))) p l (neg (T a)) (omega (arith, S .two))
-            (σ-last (iter τ l (rep a)) (mv l) (at l ∙ ap (λ x. x % p) e ∙ mod-eq-of-lt (omega (arith, S .two))) ∙ ap neg (T-along l a))
-            (λ k h ne. σ-other (iter τ k (rep a)) (mv k) (λ e. away k b h b-below ne (sym (at k) ∙ e)))
-
-        go : Dec (τ (rep a) ≡ rep a) → add (total 𝓔 (λ k. σ (iter τ k (rep a))) p) (T a) ≡ nil
-        go (yes f) = ap (λ s. add s (T a)) (fixed f) ∙ negl 𝓔 (T a)
-        go (no f) = ap (λ s. add s (T a)) (moved f) ∙ negl 𝓔 (T a)
+        away k b h h′ ne e = by-cases (decLt (b + k) p) (λ o. let w : b + k ≡ p - 1 = sym (mod-eq-of-lt o) ∙ e in ne (omega arith)) (λ o.
+            let s₁ : (b + k - p) % p ≡ b + k - p = mod-eq-of-lt (omega arith) in
+            let s₂ : (b + k) % p ≡ (b + k - p) % p = mod-eq-sub-mod (omega arith) in
+            omega (arith, S .two))
 
     abbrev pub normed : Normed S F
     normed = record { σ = σ; norm = norm }
@@ -153,10 +143,9 @@ module _ {G G⁺ : Type 0} {𝓖 : Mul G} {𝓖⁺ : Mul G⁺} {conj : ℕ → G
       q-first a = q-const S F normed j ij jn _ a (first-same a)
 
       pub unit-shift : (a : Ω) → ¬ (τ (rep a) ≡ rep a) → ¬ (p ∣ A)
-      unit-shift a mv h = mv (fixed-back S F normed j ij jn a (sym (swap S F normed j ij jn a) ∙ ap (target j) stay))
-        where
-          stay : iter τ A (rep a) ≡ rep a
-          stay = sym (iter-mod orbits A (rep a) (rep-below a)) ∙ ap (λ k. iter τ k (rep a)) (mod-eq-zero-of-dvd p h) ∙ iter-zero τ (rep a)
+      unit-shift a mv h =
+          let stay = sym (iter-mod orbits A (rep a) (rep-below a)) ∙ ap (λ k. iter τ k (rep a)) (mod-eq-zero-of-dvd p h) ∙ iter-zero τ (rep a) in
+          mv (fixed-back S F normed j ij jn a (sym (swap S F normed j ij jn a) ∙ ap (target j) stay))
 
       unfoldable pub c : ℕ → Residue m
       c r = cond (eqb (τ r) r) nil (neg (total 𝓔 (λ k. q̂ (iter τ (A * k) (leader orbits r))) (paces orbits A r)))
@@ -181,18 +170,12 @@ module _ {G G⁺ : Type 0} {𝓖 : Mul G} {𝓖⁺ : Mul G⁺} {conj : ℕ → G
       ν-moved r κ f = cond-ne (τ r) r _ _ f
 
       pub ν-below : (r κ : ℕ) → ν r κ < p
-      ν-below r κ = go (ℕ-discrete (τ r) r)
-        where
-          go : Dec (τ r ≡ r) → ν r κ < p
-          go (yes f) = subst (λ s. s < p) (sym (ν-fixed r κ f)) (mod-lt _ (omega (arith, S .two)))
-          go (no f) = subst (λ s. s < p) (sym (ν-moved r κ f)) (omega (arith, S .two))
+      ν-below r κ = by-cases (ℕ-discrete (τ r) r) (λ f. subst (λ s. s < p) (sym (ν-fixed r κ f)) (mod-lt _ (omega (arith, S .two))))
+          (λ f. omega (arith, ν-moved r κ f, S .two))
 
       pub number-stays : (a : Ω) (κ : ℕ) → ν (iter τ A (rep a)) κ ≡ ν (rep a) κ
-      number-stays a κ = go (ℕ-discrete (τ (rep a)) (rep a))
-        where
-          go : Dec (τ (rep a) ≡ rep a) → ν (iter τ A (rep a)) κ ≡ ν (rep a) κ
-          go (yes f) = ap (λ r. ν r κ) (iter-fix τ (rep a) f A)
-          go (no f) = ν-moved (iter τ A (rep a)) κ (iter-moved orbits A (rep a) (rep-below a) f) ∙ sym (ν-moved (rep a) κ f)
+      number-stays a κ = by-cases (ℕ-discrete (τ (rep a)) (rep a)) (λ f. ap (λ r. ν r κ) (iter-fix τ (rep a) f A))
+          (λ f. ν-moved (iter τ A (rep a)) κ (iter-moved orbits A (rep a) (rep-below a) f) ∙ sym (ν-moved (rep a) κ f))
 
       -- the scalars along steps of length A, once around, cancel
       cycle : (a : Ω) → total 𝓔 (λ k. q̂ (iter τ (A * k) (rep a))) p ≡ nil
@@ -219,53 +202,30 @@ module _ {G G⁺ : Type 0} {𝓖 : Mul G} {𝓖⁺ : Mul G⁺} {conj : ℕ → G
 
       pub closes-moved : (a : Ω) → ¬ (τ (rep a) ≡ rep a) → add (q S F normed j ij jn a) (c (iter τ A (rep a))) ≡ c (rep a)
       closes-moved a mv =
+          let r : ℕ = rep a in
+          let e : ℕ = paces orbits A r in
+          let g : ℕ → Residue m = λ k. q̂ (iter τ (A * k) (leader orbits r)) in
+          let q-here : Qj a ≡ g e = sym (q-first a) ∙ ap q̂ (sym (paces-back orbits A (unit-shift a mv) r (rep-below a))) in
+          let leader-cycle : total 𝓔 g p ≡ nil = subst (λ o. total 𝓔 (λ k. q̂ (iter τ (A * k) o)) p ≡ nil)
+          (first-rep (leader orbits r) (leader-below orbits r (rep-below a))) (cycle (first (leader orbits r))) in
+          -- one more than the last is the whole orbit, which cancels
+          let after : total 𝓔 g ((e + 1) % p) ≡ total 𝓔 g (suc e) = by-cases (decLt (e + 1) p)
+          (λ h. let w : (e + 1) % p ≡ suc e = mod-eq-of-lt h ∙ omega arith in ap (total 𝓔 g) w) (λ h.
+          let b : e < p = paces-below orbits A (unit-shift a mv) r (rep-below a) in
+          let w : p ≡ suc e = omega arith in
+          let z : e + 1 ≡ p = omega arith in
+          ap (total 𝓔 g) (ap (λ x. x % p) z ∙ mod-self p) ∙ total-zero 𝓔 g ∙ sym leader-cycle ∙ ap (total 𝓔 g) w) in
           ap (add (Qj a)) (c-moved (iter τ A r) (iter-moved orbits A r (rep-below a) mv)
           ∙ ap₂ (λ o s. neg (total 𝓔 (λ k. q̂ (iter τ (A * k) o)) s)) (leader-iter orbits A r (rep-below a))
           (paces-next orbits A (unit-shift a mv) r (rep-below a) mv))
-          ∙ go (decLt (e + 1) p) ∙ sym (c-moved r mv)
-        where
-          r : ℕ
-          r = rep a
-
-          e : ℕ
-          e = paces orbits A r
-
-          g : ℕ → Residue m
-          g k = q̂ (iter τ (A * k) (leader orbits r))
-
-          q-here : Qj a ≡ g e
-          q-here = sym (q-first a) ∙ ap q̂ (sym (paces-back orbits A (unit-shift a mv) r (rep-below a)))
-
-          leader-cycle : total 𝓔 g p ≡ nil
-          leader-cycle = subst (λ o. total 𝓔 (λ k. q̂ (iter τ (A * k) o)) p ≡ nil)
-              (first-rep (leader orbits r) (leader-below orbits r (rep-below a))) (cycle (first (leader orbits r)))
-
-          swap₃ : (s x y : Residue m) → add s (add x y) ≡ add (add x s) y
-          swap₃ s x y = simp (𝓔 .assoc, 𝓔 .comm, lcomm 𝓔)
-
-          step : add (g e) (neg (add (g e) (total 𝓔 g e))) ≡ neg (total 𝓔 g e)
-          step = neg-of 𝓔 _ _ (swap₃ _ _ _ ∙ 𝓔 .negr _)
-
-          go : Dec (e + 1 < p) → add (Qj a) (neg (total 𝓔 g ((e + 1) % p))) ≡ neg (total 𝓔 g e)
-          go (yes h) = let w : (e + 1) % p ≡ suc e = mod-eq-of-lt h ∙ omega arith in ap₂ (λ s k. add s (neg (total 𝓔 g k))) q-here w
-              ∙ ap (λ s. add (g e) (neg s)) (total-suc 𝓔 g e) ∙ step
-          go (no h) =
-              let b : e < p = paces-below orbits A (unit-shift a mv) r (rep-below a) in
-              let w : p ≡ suc e = omega arith in
-              let w₂ : e + 1 ≡ p = omega arith in
-              let z : (e + 1) % p ≡ 0 = ap (λ x. x % p) w₂ ∙ mod-self p in
-              ap₂ (λ s k. add s (neg (total 𝓔 g k))) q-here z
-              ∙ ap (λ s. add (g e) (neg s)) (total-zero 𝓔 g ∙ sym (ap (total 𝓔 g) (sym w) ∙ leader-cycle) ∙ total-suc 𝓔 g e) ∙ step
+          ∙ ap₂ (λ s t. add s (neg t)) q-here (after ∙ total-suc 𝓔 g e) ∙ neg-of 𝓔 _ _ (sym (𝓔 .assoc _ _ _) ∙ ap₂ add (𝓔 .comm _ _) refl ∙ 𝓔 .negr _)
+          ∙ sym (c-moved r mv)
 
       pub closes : (a : Ω) (κ : ℕ) → (¬ (τ (rep a) ≡ rep a) → κ ≡ 0)
           → add (q S F normed j ij jn a) (add (times 𝓔 A (times 𝓔 κ (unit m pos parts))) (c (iter τ A (rep a))))
           ≡ add (c (rep a)) (times 𝓔 (ν (rep a) κ) (unit m pos parts))
-      closes a κ plain = go (ℕ-discrete (τ (rep a)) (rep a))
-        where
-          go : Dec (τ (rep a) ≡ rep a) → add (Qj a) (add (times 𝓔 A (times 𝓔 κ ε)) (c (iter τ A (rep a)))) ≡ add (c (rep a)) (times 𝓔 (ν (rep a) κ) ε)
-          go (yes f) = closes-fixed a κ f
-          go (no f) =
-              ap (λ s. add (Qj a) (add s (c (iter τ A (rep a)))))
-              (ap (λ k. times 𝓔 A (times 𝓔 k ε)) (plain f) ∙ ap (times 𝓔 A) (total-zero 𝓔 (λ k. ε)) ∙ times-nil 𝓔 A)
-              ∙ ap (add (Qj a)) (𝓔 .idl _) ∙ closes-moved a f
-              ∙ sym (ap (add (c (rep a))) (ap (λ k. times 𝓔 k ε) (ν-moved (rep a) κ f) ∙ total-zero 𝓔 (λ k. ε)) ∙ idr 𝓔 _)
+      closes a κ plain = by-cases (ℕ-discrete (τ (rep a)) (rep a)) (closes-fixed a κ) (λ f.
+          ap (λ s. add (Qj a) (add s (c (iter τ A (rep a)))))
+          (ap (λ k. times 𝓔 A (times 𝓔 k ε)) (plain f) ∙ ap (times 𝓔 A) (total-zero 𝓔 (λ k. ε)) ∙ times-nil 𝓔 A)
+          ∙ ap (add (Qj a)) (𝓔 .idl _) ∙ closes-moved a f
+          ∙ sym (ap (add (c (rep a))) (ap (λ k. times 𝓔 k ε) (ν-moved (rep a) κ f) ∙ total-zero 𝓔 (λ k. ε)) ∙ idr 𝓔 _))

@@ -2,13 +2,14 @@
 --
 --   any-forms            some normal form passes a test, if a valid one does
 --   separates-from       what is reached and separated passes 25
-use mathlib.Core.Path.{_≡_, refl, sym, _∙_, ap, subst}
-use mathlib.Core.Bool.{Bool, true, false, _&&_, _||_, not, false≢true}
+use mathlib.Core.Path.{_≡_, sym, _∙_, ap, subst}
+use mathlib.Core.Logic.{by-cases}
+use mathlib.Core.Bool.{Bool, true, false, _&&_, not, false≢true, Bool-discrete}
 use mathlib.Core.List.{List, [], _∷_, _++_, map}
 use Prim.Native.Nat.{ℕ, zero, suc, _%_, _<_}
 use native.Mathlib.Nat.{mod-eq-of-lt}
 use native.Mathlib.Omega.{arith}
-use native.Mathlib.Decide.{decLt, ℕ-discrete}
+use native.Mathlib.Decide.{decLt}
 use lib.Dec.{eqb}
 use lib.ListN.{length}
 use borrow.Author.Tests.{eq-eqb, ne-eqb}
@@ -18,7 +19,7 @@ use Rattle.definitions.specs.Presentation.{NF, Presentation, Valid}
 use Rattle.definitions.specs.Monomial.{entry, col, Rep, Level, repOf, image}
 use Rattle.definitions.specs.Table.{levelAt}
 use Rattle.definitions.specs.Judgement
-use Rattle.numbers.proofs.Bools.{and-intro, or-left, or-right}
+use Rattle.numbers.proofs.Bools.{and-intro, first, second, or-cases, or-left, or-right}
 use Rattle.numbers.proofs.Lists.{allBelow-intro}
 use Rattle.group.specs.Context.{Context, Nf}
 use Rattle.monomial.specs.Exponents.{Residue}
@@ -33,11 +34,7 @@ use Rattle.clifford.specs.Stands.{frame}
 any-left : {A : Type 0} (q : A → Bool) (xs ys : List A) → any q xs ≡ true → any q (xs ++ ys) ≡ true
 unfolding any
 any-left q [] ys h = absurd (false≢true h)
-any-left q (x ∷ xs) ys h = go (q x) (λ k. any-left q xs ys k) h
-  where
-    go : (b : Bool) → (any q xs ≡ true → any q (xs ++ ys) ≡ true) → b || any q xs ≡ true → b || any q (xs ++ ys) ≡ true
-    go true r k = refl
-    go false r k = r k
+any-left q (x ∷ xs) ys h = elim (or-cases (q x) (any q xs) h) [ first a ↦ or-left (q x) _ a | second a ↦ or-right (q x) _ (any-left q xs ys a) ]
 
 any-right : {A : Type 0} (q : A → Bool) (xs ys : List A) → any q ys ≡ true → any q (xs ++ ys) ≡ true
 unfolding any
@@ -47,20 +44,13 @@ any-right q (x ∷ xs) ys h = or-right (q x) _ (any-right q xs ys h)
 any-map : {A B : Type 0} (f : A → B) (q : B → Bool) (xs : List A) → any (λ x. q (f x)) xs ≡ true → any q (map f xs) ≡ true
 unfolding any
 any-map f q [] h = h
-any-map f q (x ∷ xs) h = go (q (f x)) (any-map f q xs) h
-  where
-    go : (b : Bool) → (any (λ x. q (f x)) xs ≡ true → any q (map f xs) ≡ true) → b || any (λ x. q (f x)) xs ≡ true → b || any q (map f xs) ≡ true
-    go true r k = refl
-    go false r k = r k
+any-map f q (x ∷ xs) h = elim (or-cases (q (f x)) _ h) [ first a ↦ or-left (q (f x)) _ a | second a ↦ or-right (q (f x)) _ (any-map f q xs a) ]
 
 any-blocks : {A : Type 0} (q : A → Bool) (n : ℕ) (f : ℕ → List A) (k : ℕ) → k < n → any q (f k) ≡ true → any q (blocks n f) ≡ true
 unfolding blocks
 any-blocks q zero f k l h = absurd (omega arith)
-any-blocks q (suc n) f k l h = go (decLt k n) (λ a. any-blocks q n f k a h)
-  where
-    go : Dec (k < n) → (k < n → any q (blocks n f) ≡ true) → any q (blocks n f ++ f n) ≡ true
-    go (yes a) r = any-left q (blocks n f) (f n) (r a)
-    go (no a) r = let e : k ≡ n = omega arith in any-right q (blocks n f) (f n) (subst (λ s. any q (f s) ≡ true) e h)
+any-blocks q (suc n) f k l h = by-cases (decLt k n) (λ a. any-left q (blocks n f) (f n) (any-blocks q n f k a h))
+    (λ a. let e : k ≡ n = omega arith in any-right q (blocks n f) (f n) (subst (λ s. any q (f s) ≡ true) e h))
 
 pub any-forms : (P : Presentation) (i : ℕ) (q : NF i → Bool) (x : NF i) → Valid P i x → q x ≡ true → any q (Judgement.allForms P i) ≡ true
 unfolding Judgement.allForms any
@@ -76,8 +66,7 @@ module _ (C : Context) (m : ℕ) (pos : 0 < m) (table : List ℕ) (i : ℕ) {Ω 
     (K : Complete (frame (levelAt (C .P .n) table i) rep column below) (length (levelAt (C .P .n) table i))) (d : Nf C i → Map (residues m pos) Ω)
     (shows : (r : ℕ) → r < length (levelAt (C .P .n) table i) → (x : Nf C i)
     → Shows m (frame (levelAt (C .P .n) table i) rep column below) r r (image m (repOf (levelAt (C .P .n) table i) r) i (x .0)) (d x)) where
-  abbrev P : Presentation
-  P = C .P
+  open Context C using (P)
 
   abbrev L : Level
   L = levelAt (C .P .n) table i
@@ -117,18 +106,9 @@ module _ (C : Context) (m : ℕ) (pos : 0 < m) (table : List ℕ) (i : ℕ) {Ω 
       → ((x y : Ω) → ¬ (x ≡ y) → Separated (residues m pos) Ω d x y) → Judgement.separates (C .P) m table i r ≡ true
   unfolding Judgement.separates
   separates-from r h o reach sep =
-      allBelow-intro (Rp r .deg) _
-      (λ k a. and-intro _ _ (reach-holds r k h o a (reach k a))
-      (allBelow-intro (length L) _ (λ r′ h′. allBelow-intro (Rp r′ .deg) _ (λ k′ a′. same-or k a r′ k′ h′ a′ (ℕ-discrete r r′) (ℕ-discrete k k′)))))
-    where
-      other : (k : ℕ) (a : k < Rp r .deg) (r′ k′ : ℕ) (h′ : r′ < length L) (a′ : k′ < Rp r′ .deg) → ¬ ((r ≡ r′) × (k ≡ k′))
-          → ¬ (K .find r k h a ≡ K .find r′ k′ h′ a′)
-      other k a r′ k′ h′ a′ ne e =
-          ne (sym (K .find-rep r k h a) ∙ ap rep e ∙ K .find-rep r′ k′ h′ a′, sym (K .find-column r k h a) ∙ ap column e ∙ K .find-column r′ k′ h′ a′)
-
-      same-or : (k : ℕ) (a : k < Rp r .deg) (r′ k′ : ℕ) (h′ : r′ < length L) (a′ : k′ < Rp r′ .deg) → Dec (r ≡ r′) → Dec (k ≡ k′)
-          → (eqb r r′ && eqb k k′) || any (Judgement.tells P m table i (Rp r) k (Rp r′) k′) (Judgement.allForms P i) ≡ true
-      same-or k a r′ k′ h′ a′ (yes p) (yes q) = or-left (eqb r r′ && eqb k k′) _ (and-intro _ _ (eq-eqb r r′ p) (eq-eqb k k′ q))
-      same-or k a r′ k′ h′ a′ (yes p) (no q) =
-          or-right (eqb r r′ && eqb k k′) _ (pair-holds r k r′ k′ h a h′ a′ (sep _ _ (other k a r′ k′ h′ a′ (λ u. q (u .1)))))
-      same-or k a r′ k′ h′ a′ (no p) d = or-right (eqb r r′ && eqb k k′) _ (pair-holds r k r′ k′ h a h′ a′ (sep _ _ (other k a r′ k′ h′ a′ (λ u. p (u .0)))))
+      allBelow-intro (Rp r .deg) _ (λ k a. and-intro _ _ (reach-holds r k h o a (reach k a))
+      (allBelow-intro (length L) _ (λ r′ h′. allBelow-intro (Rp r′ .deg) _ (λ k′ a′.
+      let same : Bool = eqb r r′ && eqb k k′ in
+      by-cases (Bool-discrete same true) (or-left same _) (λ ne. or-right same _ (pair-holds r k r′ k′ h a h′ a′ (sep _ _ (λ e.
+      ne (and-intro _ _ (eq-eqb r r′ (sym (K .find-rep r k h a) ∙ ap rep e ∙ K .find-rep r′ k′ h′ a′))
+      (eq-eqb k k′ (sym (K .find-column r k h a) ∙ ap column e ∙ K .find-column r′ k′ h′ a′)))))))))))

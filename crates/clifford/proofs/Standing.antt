@@ -1,6 +1,6 @@
 -- From level 0 up: every level of the steps stands on a family, and is cut into blocks of the level below.
 --
---   zero-length, zero-degree, zero-ref     level 0 has one representation, of degree 1
+--   zero-length, zero-degree, zero-ref, at-zero     level 0 has one representation, of degree 1
 --   Setting              a tested presentation, a modulus, and what the steps need of both
 --   Standing             a level that stands, with the references of the level as targets
 --   standing             every level of the steps does
@@ -9,6 +9,7 @@
 --   order-split          the order of a level and its prime divide the order of the group
 --   setting              an accepted presentation, modulo its order
 use mathlib.Core.Path.{_≡_, refl, sym, _∙_, ap, subst}
+use mathlib.Core.Logic.{by-cases}
 use mathlib.Core.HLevel.{Unit-prop}
 use Prim.Native.Nat.{ℕ, zero, suc, _*_, _≤_, _<_}
 use native.Mathlib.Omega.{arith}
@@ -50,6 +51,10 @@ pub zero-ref : (g c : ℕ) → repOf levelZero 0 .ref g c ≡ 0
 unfolding repOf levelZero
 zero-ref g c = refl
 
+-- what holds of it holds of every representation of level 0
+pub at-zero : (Q : ℕ → Type 0) → Q 0 → (r : ℕ) → r < length levelZero → Q r
+at-zero Q q r l = let z : 0 ≡ r = omega (arith, zero-length) in subst Q z q
+
 pub record Setting : Type 0 where
   pub T : TestedContext
   pub m : ℕ
@@ -86,19 +91,11 @@ module _ (G : Setting) where
     separated = λ a b ne. absurd (ne (Unit-prop a b));
   }
 
-  -- level 0 has one representation
-  at-zero : (Q : ℕ → Type 0) → Q 0 → (r : ℕ) → r < length levelZero → Q r
-  at-zero Q q r l = let z : 0 ≡ r = omega (arith, zero-length) in subst Q z q
-
   zero-below : (a : Unit {0}) → 0 < repOf levelZero 0 .deg
   zero-below a = omega (arith, zero-degree)
 
   abbrev zero-frame : Layout (Unit {0})
   zero-frame = frame levelZero (λ a. 0) (λ a. 0) zero-below
-
-  zero-shows : (j : ℕ) → Shows m zero-frame 0 (repOf levelZero 0 .ref j 0) (repOf levelZero 0 .matrix j) (maps (residues m pos) (Unit {0}) .one)
-  unfolding repOf levelZero
-  zero-shows j = shows-one m pos zero-frame 0
 
   zero-stands : Stands (T .context) (T .n) m pos 0 levelZero zero-family
   unfolding repOf levelZero sum order
@@ -114,7 +111,8 @@ module _ (G : Setting) where
     };
     represents = λ k l. absurd (omega arith);
     intertwines = λ j a b. at-zero
-        (λ r. Shows m zero-frame r (repOf levelZero r .ref j 0) (repOf levelZero r .matrix j) (maps (residues m pos) (Unit {0}) .one)) (zero-shows j);
+        (λ r. Shows m zero-frame r (repOf levelZero r .ref j 0) (repOf levelZero r .matrix j) (maps (residues m pos) (Unit {0}) .one))
+        (shows-one m pos zero-frame 0);
     refers = λ j a b r h c l. at-zero (λ r. repOf levelZero r .ref j c ≡ repOf levelZero r .ref j 0) refl r h;
     nonempty = omega arith;
     degree-pos = at-zero (λ r. 0 < repOf levelZero r .deg) (omega arith);
@@ -168,11 +166,8 @@ module _ (G : Setting) where
 pub order-split : (P : Presentation) (n i : ℕ) → i < n → (r : ℕ) × (order P n ≡ P .p i * (order P i * r))
 unfolding order
 order-split P zero i l = absurd (omega arith)
-order-split P (suc n) i l = go (λ h. order-split P n i h) (decLt i n)
-  where
-    go : (i < n → (r : ℕ) × (order P n ≡ P .p i * (order P i * r))) → Dec (i < n) → (r : ℕ) × (P .p n * order P n ≡ P .p i * (order P i * r))
-    go rec (yes h) = let (r, q) = rec h in (P .p n * r, ap (λ x. P .p n * x) q ∙ omega arith)
-    go rec (no h) = let e : n ≡ i = omega arith in (1, ap (λ x. P .p x * order P x) e ∙ omega arith)
+order-split P (suc n) i l = by-cases (decLt i n) (λ h. let (r, q) = order-split P n i h in (P .p n * r, ap (λ x. P .p n * x) q ∙ omega arith))
+    (λ h. let e : n ≡ i = omega arith in (1, ap (λ x. P .p x * order P x) e ∙ omega arith))
 
 pub order-splits : (A : Accepted) (j : ℕ) → j < A .C .P .n
     → (share : ℕ) × (spare : ℕ) × (order (A .C .P) (A .C .P .n) ≡ A .C .P .p j * share) × (share ≡ order (A .C .P) j * spare)

@@ -8,6 +8,7 @@
 --   StepUp              what the next level is, over the level below
 --   next              a Step is a family of the next level
 use mathlib.Core.Path.{_≡_, refl, sym, _∙_, ap, ap₂, subst, fun-ext}
+use mathlib.Core.Logic.{by-cases}
 use Prim.Native.Nat.{ℕ, suc, _≤_, _<_}
 use native.Mathlib.Omega.{arith}
 use native.Mathlib.Decide.{ℕ-discrete}
@@ -55,12 +56,12 @@ module _ {G G⁺ : Type 0} {𝓖 : Mul G} {𝓖⁺ : Mul G⁺} {conj : ℕ → G
     -- ---- The extension of number κ
 
     unfoldable pub numbered : ℕ → Normed S F
-    numbered κ = record { σ = λ r. add (σ r) (ε^ κ); norm = closed }
-      where
-        closed : (a : Ω) → add (total 𝓔 (λ k. add (σ (iter τ k (rep a))) (ε^ κ)) p) (defect S F a) ≡ nil
-        closed a =
-            ap (λ s. add s (defect S F a)) (total-add 𝓔 (λ k. σ (iter τ k (rep a))) (λ k. ε^ κ) p
-            ∙ ap (add (total 𝓔 (λ k. σ (iter τ k (rep a))) p)) (times-swap 𝓔 p κ (R .ε) ∙ ap (times 𝓔 κ) (R .ε-p) ∙ times-nil 𝓔 κ) ∙ idr 𝓔 _) ∙ 𝓢 .norm a
+    numbered κ = record {
+      σ = λ r. add (σ r) (ε^ κ);
+      norm = λ a.
+          ap (λ s. add s (defect S F a)) (total-add 𝓔 (λ k. σ (iter τ k (rep a))) (λ k. ε^ κ) p
+          ∙ ap (add (total 𝓔 (λ k. σ (iter τ k (rep a))) p)) (times-swap 𝓔 p κ (R .ε) ∙ ap (times 𝓔 κ) (R .ε-p) ∙ times-nil 𝓔 κ) ∙ idr 𝓔 _) ∙ 𝓢 .norm a;
+    }
 
     pub Y-numbered-at : (κ : ℕ) (a : Ω) → Y S F (numbered κ) a ≡ ((X i a) .0, add ((X i a) .1) (add (σ (rep a)) (ε^ κ)))
     unfolding numbered
@@ -155,106 +156,68 @@ module _ {G G⁺ : Type 0} {𝓖 : Mul G} {𝓖⁺ : Mul G⁺} {conj : ℕ → G
         -- ---- Intertwiners
 
         module _ (j : ℕ) (ij : i < j) (jn : j < n) where
-          Past : G⁺ → Type 0
+          abbrev Past : G⁺ → Type 0
           Past x = X′ j *′ d′ (conj⁺ j x) ≡ d′ x *′ X′ j
 
           past-low : (h : G) → Past (low h)
-          unfolding Past
-          past-low h = ap (λ s. X′ j *′ d′ s) (S .conj-low j ij jn h) ∙ fun-ext (λ x. at-mul 𝓔 (X′ j) B′ x ∙ point x ∙ sym (at-mul 𝓔 (d′ (low h)) (X′ j) x))
-            where
-              B : Map 𝓔 Ω
-              B = d (conj j h)
-
-              B′ : Map 𝓔 Ω′
-              B′ = d′ (low (conj j h))
-
-              two : (a : Ω) → _≡_ {A = Ω × E} ((X j ((B a) .0)) .0, add ((X j ((B a) .0)) .1) ((B a) .1))
-                  ((d h ((X j a) .0)) .0, add ((d h ((X j a) .0)) .1) ((X j a) .1))
-              two a = sym (at-mul 𝓔 (X j) B a) ∙ at-column 𝓔 (F .past j (omega arith) jn h) a ∙ at-mul 𝓔 (d h) (X j) a
-
-              point : (x : Ω′) → _≡_ {A = Ω′ × E} ((X′ j ((B′ x) .0)) .0, add ((X′ j ((B′ x) .0)) .1) ((B′ x) .1))
-                  ((d′ (low h) ((X′ j x) .0)) .0, add ((d′ (low h) ((X′ j x) .0)) .1) ((X′ j x) .1))
-              point x =
-                  let a : Ω = base x in
-                  let b = over-low (conj j h) x in
-                  let y = N .up j ij jn ((B′ x) .0) in
-                  let z = N .up j ij jn x in
-                  let v = over-low h ((X′ j x) .0) in
-                  let rb : rep (base ((B′ x) .0)) ≡ rep a = ap rep (b .is-base) ∙ F .inside (conj j h) a in
-                  λ o. (
-                    N .injective ((X′ j ((B′ x) .0)) .0) ((d′ (low h) ((X′ j x) .0)) .0)
-                        (y .is-base ∙ ap (λ s. (X j s) .0) (b .is-base) ∙ ap (λ s. s .0) (two a) ∙ sym (v .is-base ∙ ap (λ s. (d h s) .0) (z .is-base)))
-                        (y .is-number ∙ ap₂ (ν j ij jn) rb (b .is-number) ∙ sym (v .is-number ∙ z .is-number)) o,
-                    (ap₂ add (y .is-exponent ∙ ap₂ add (ap (λ s. (X j s) .1) (b .is-base)) (ap₂ (c j ij jn) rb (b .is-number))) (b .is-exponent)
-                        ∙ rcomm 𝓔 _ _ _ ∙ ap (λ s. add s (c j ij jn (rep a) (number x))) (ap (λ s. s .1) (two a)) ∙ 𝓔 .assoc _ _ _
-                        ∙ sym (ap₂ add (v .is-exponent ∙ ap (λ s. (d h s) .1) (z .is-base)) (z .is-exponent))) o,
-                  )
+          past-low h = ap (λ s. X′ j *′ d′ s) (S .conj-low j ij jn h) ∙ fun-ext (λ x.
+              let a : Ω = base x in
+              let B′ : Map 𝓔 Ω′ = d′ (low (conj j h)) in
+              let two = sym (at-mul 𝓔 (X j) (d (conj j h)) a) ∙ at-column 𝓔 (F .past j (omega arith) jn h) a ∙ at-mul 𝓔 (d h) (X j) a in
+              let b = over-low (conj j h) x in
+              let y = N .up j ij jn ((B′ x) .0) in
+              let z = N .up j ij jn x in
+              let v = over-low h ((X′ j x) .0) in
+              let rb : rep (base ((B′ x) .0)) ≡ rep a = ap rep (b .is-base) ∙ F .inside (conj j h) a in
+              at-mul 𝓔 (X′ j) B′ x
+              ∙ pair 𝓔 (N .injective ((X′ j ((B′ x) .0)) .0) ((d′ (low h) ((X′ j x) .0)) .0)
+              (y .is-base ∙ ap (λ s. (X j s) .0) (b .is-base) ∙ ap (λ s. s .0) two ∙ sym (v .is-base ∙ ap (λ s. (d h s) .0) (z .is-base)))
+              (y .is-number ∙ ap₂ (ν j ij jn) rb (b .is-number) ∙ sym (v .is-number ∙ z .is-number)))
+              (ap₂ add (y .is-exponent ∙ ap₂ add (ap (λ s. (X j s) .1) (b .is-base)) (ap₂ (c j ij jn) rb (b .is-number))) (b .is-exponent)
+              ∙ rcomm 𝓔 _ _ _ ∙ ap (λ s. add s (c j ij jn (rep a) (number x))) (ap (λ s. s .1) two) ∙ 𝓔 .assoc _ _ _
+              ∙ sym (ap₂ add (v .is-exponent ∙ ap (λ s. (d h s) .1) (z .is-base)) (z .is-exponent)))
+              ∙ sym (at-mul 𝓔 (d′ (low h)) (X′ j) x))
 
           past-top : Past top
-          unfolding Past φ
-          past-top = fun-ext (λ x. at-mul 𝓔 (X′ j) B′ x ∙ point x ∙ sym (at-mul 𝓔 (d′ top) (X′ j) x))
-            where
-              B : Map 𝓔 Ω
-              B = φ S F 𝓢 j ij jn
-
-              B′ : Map 𝓔 Ω′
-              B′ = d′ (conj⁺ j top)
-
-              over-B : (x : Ω′) → at (B′ x) ((B (base x)) .0) (number x) (add (times 𝓔 (shift j) (ε^ (number x))) ((B (base x)) .1))
-              over-B x = subst (λ (z : Ω × E). at (B′ x) (z .0) (number x) (z .1)) (φ-numbered j ij jn (number x) (base x)) (N .over (conj⁺ j top) x)
-
-              two : (a : Ω) → _≡_ {A = Ω × E} ((X j ((B a) .0)) .0, add ((X j ((B a) .0)) .1) ((B a) .1))
-                  ((X i ((X j a) .0)) .0, add (q S F 𝓢 j ij jn a) (add (add ((X i ((X j a) .0)) .1) (σ (rep ((X j a) .0)))) ((X j a) .1)))
-              two a =
-                  sym (at-mul 𝓔 (X j) B a) ∙ q-eq S F 𝓢 j ij jn a
-                  ∙ ap (λ s. (s .0, add (q S F 𝓢 j ij jn a) (s .1)))
-                  (at-mul 𝓔 (Y S F 𝓢) (X j) a ∙ ap (λ s. (s .0, add (s .1) ((X j a) .1))) (Y-at S F 𝓢 ((X j a) .0)))
-
-              first : (x y z v : E) → add (add x y) (add z v) ≡ add (add x v) (add z y)
-              first x y z v = simp (𝓔 .assoc, 𝓔 .comm, lcomm 𝓔)
-
-              second : (k y s b r : E) → add (add k (add (add y s) b)) r ≡ add (add (add y s) b) (add k r)
-              second k y s b r = simp (𝓔 .assoc, 𝓔 .comm, lcomm 𝓔)
-
-              third : (y s b h v : E) → add (add (add y s) b) (add h v) ≡ add (add y (add s v)) (add b h)
-              third y s b h v = simp (𝓔 .assoc, 𝓔 .comm, lcomm 𝓔)
-
-              point : (x : Ω′) → _≡_ {A = Ω′ × E} ((X′ j ((B′ x) .0)) .0, add ((X′ j ((B′ x) .0)) .1) ((B′ x) .1))
-                  ((d′ top ((X′ j x) .0)) .0, add ((d′ top ((X′ j x) .0)) .1) ((X′ j x) .1))
-              point x =
-                  let a : Ω = base x in
-                  let b = over-B x in
-                  let y = N .up j ij jn ((B′ x) .0) in
-                  let z = N .up j ij jn x in
-                  let v = over-top ((X′ j x) .0) in
-                  let rb : rep (base ((B′ x) .0)) ≡ iter τ (shift j) (rep a) = ap rep (b .is-base) ∙ φ-maps S F 𝓢 j ij jn a in
-                  λ o. (
-                    N .injective ((X′ j ((B′ x) .0)) .0) ((d′ top ((X′ j x) .0)) .0)
-                        (y .is-base ∙ ap (λ s. (X j s) .0) (b .is-base) ∙ ap (λ s. s .0) (two a) ∙ sym (v .is-base ∙ ap (λ s. (X i s) .0) (z .is-base)))
-                        (y .is-number ∙ ap₂ (ν j ij jn) rb (b .is-number) ∙ N .number-stays j ij jn x ∙ sym (v .is-number ∙ z .is-number)) o,
-                    (ap₂ add (y .is-exponent ∙ ap₂ add (ap (λ s. (X j s) .1) (b .is-base)) (ap₂ (c j ij jn) rb (b .is-number))) (b .is-exponent) ∙ first _ _ _ _
-                        ∙ ap (λ s. add s (add (times 𝓔 (shift j) (ε^ (number x))) (c j ij jn (iter τ (shift j) (rep a)) (number x)))) (ap (λ s. s .1) (two a))
-                        ∙ second _ _ _ _ _ ∙ ap (add (add (add ((X i ((X j a) .0)) .1) (σ (rep ((X j a) .0)))) ((X j a) .1))) (N .closes j ij jn x)
-                        ∙ third _ _ _ _ _
-                        ∙ sym (ap₂ add (v .is-exponent
-                        ∙ ap₂ add (ap (λ s. (X i s) .1) (z .is-base)) (ap₂ add (ap (λ s. σ (rep s)) (z .is-base)) (ap ε^ (z .is-number)))) (z .is-exponent))) o,
-                  )
+          unfolding φ
+          past-top = fun-ext (λ x.
+              let a : Ω = base x in
+              let B′ : Map 𝓔 Ω′ = d′ (conj⁺ j top) in
+              let two = sym (at-mul 𝓔 (X j) (φ S F 𝓢 j ij jn) a) ∙ q-eq S F 𝓢 j ij jn a ∙ ap (λ s. (s .0, add (q S F 𝓢 j ij jn a) (s .1)))
+              (at-mul 𝓔 (Y S F 𝓢) (X j) a ∙ ap (λ s. (s .0, add (s .1) ((X j a) .1))) (Y-at S F 𝓢 ((X j a) .0))) in
+              let b = subst (λ (z : Ω × E). at (B′ x) (z .0) (number x) (z .1)) (φ-numbered j ij jn (number x) a) (N .over (conj⁺ j top) x) in
+              let y = N .up j ij jn ((B′ x) .0) in
+              let z = N .up j ij jn x in
+              let v = over-top ((X′ j x) .0) in
+              let rb : rep (base ((B′ x) .0)) ≡ iter τ (shift j) (rep a) = ap rep (b .is-base) ∙ φ-maps S F 𝓢 j ij jn a in
+              let first : (x y z v : E) → add (add x y) (add z v) ≡ add (add x v) (add z y) = λ x y z v. simp (𝓔 .assoc, 𝓔 .comm, lcomm 𝓔) in
+              let second : (k y r : E) → add (add k y) r ≡ add y (add k r) = λ k y r. simp (𝓔 .assoc, 𝓔 .comm, lcomm 𝓔) in
+              let third : (y s b h v : E) → add (add (add y s) b) (add h v) ≡ add (add y (add s v)) (add b h) = λ y s b h v.
+              simp (𝓔 .assoc, 𝓔 .comm, lcomm 𝓔) in
+              at-mul 𝓔 (X′ j) B′ x
+              ∙ pair 𝓔 (N .injective ((X′ j ((B′ x) .0)) .0) ((d′ top ((X′ j x) .0)) .0)
+              (y .is-base ∙ ap (λ s. (X j s) .0) (b .is-base) ∙ ap (λ s. s .0) two ∙ sym (v .is-base ∙ ap (λ s. (X i s) .0) (z .is-base)))
+              (y .is-number ∙ ap₂ (ν j ij jn) rb (b .is-number) ∙ N .number-stays j ij jn x ∙ sym (v .is-number ∙ z .is-number)))
+              (ap₂ add (y .is-exponent ∙ ap₂ add (ap (λ s. (X j s) .1) (b .is-base)) (ap₂ (c j ij jn) rb (b .is-number))) (b .is-exponent) ∙ first _ _ _ _
+              ∙ ap (λ s. add s (add (times 𝓔 (shift j) (ε^ (number x))) (c j ij jn (iter τ (shift j) (rep a)) (number x)))) (ap (λ s. s .1) two)
+              ∙ second _ _ _ ∙ ap (add (add (add ((X i ((X j a) .0)) .1) (σ (rep ((X j a) .0)))) ((X j a) .1))) (N .closes j ij jn x)
+              ∙ third _ _ _ _ _
+              ∙ sym (ap₂ add (v .is-exponent
+              ∙ ap₂ add (ap (λ s. (X i s) .1) (z .is-base)) (ap₂ add (ap (λ s. σ (rep s)) (z .is-base)) (ap ε^ (z .is-number)))) (z .is-exponent)))
+              ∙ sym (at-mul 𝓔 (d′ top) (X′ j) x))
 
           open Laws (maps-laws 𝓔 {Ω = Ω′}) using (assoc as assoc′, idl as idl′, idr as idr′)
 
           past-one : Past (𝓖⁺ .one)
-          unfolding Past
           past-one = ap (λ s. X′ j *′ s) (ap d′ (S .conj⁺-hom j ij jn .on-one) ∙ hom′ .on-one) ∙ idr′ _ ∙ sym (idl′ _)
               ∙ ap (λ s. s *′ X′ j) (sym (hom′ .on-one))
 
           past-mul : (x y : G⁺) → Past x → Past y → Past (𝓖⁺ .mul x y)
-          unfolding Past
           past-mul x y a b =
               ap (λ s. X′ j *′ s) (ap d′ (S .conj⁺-hom j ij jn .on-mul x y) ∙ hom′ .on-mul _ _) ∙ sym (assoc′ _ _ _) ∙ ap (λ s. s *′ d′ (conj⁺ j y)) a
               ∙ assoc′ _ _ _ ∙ ap (λ s. d′ x *′ s) b ∙ sym (assoc′ _ _ _) ∙ ap (λ s. s *′ X′ j) (sym (hom′ .on-mul x y))
 
           pub past′ : (x : G⁺) → X′ j *′ d′ (conj⁺ j x) ≡ d′ x *′ X′ j
-          unfolding Past
           past′ x = subst Past (sym (S .decompose x)) (past-mul _ _ (power-ind 𝓖⁺ Past past-one past-mul top past-top (exponent x)) (past-low (S .rest x)))
 
         -- ---- Reached and separated
@@ -295,31 +258,24 @@ module _ {G G⁺ : Type 0} {𝓖 : Mul G} {𝓖⁺ : Mul G⁺} {conj : ℕ → G
             let (w, e) = F .reached ((X i (base x)) .0) (base x) (X-maps S F (base x) ∙ fx) in
             let v : G⁺ = 𝓖⁺ .mul (low w) top in
             let s : E = add ((d w ((X i (base x)) .0)) .1) (add ((X i (base x)) .1) (σ (rep (base x)))) in
+            let line : (κ : ℕ) → raised S F (numbered κ) v (base x) ≡ (base x, add s (ε^ κ)) = λ κ.
+            at-column 𝓔 (raised-hom S F (numbered κ) .on-mul _ _ ∙ ap₂ (_*_) (raised-low S F (numbered κ) w) (raised-top S F (numbered κ))) (base x)
+            ∙ mul-at 𝓔 (d w) (Y S F (numbered κ)) (base x) _ _ (Y-numbered-at κ (base x))
+            ∙ pair 𝓔 e (ap (add _) (sym (𝓔 .assoc _ _ _)) ∙ sym (𝓔 .assoc _ _ _)) in
             record {
               by = v;
               x = add s (ε^ (number x));
               y = add s (ε^ (number y));
-              fixes = to v x x _ (line (number x) w (base x) e) refl;
-              fixes′ = to v y y _ (ap (λ b. raised S F (numbered (number y)) v b) (sym eb) ∙ line (number y) w (base x) e ∙ pair 𝓔 eb refl) refl;
+              fixes = to v x x _ (line (number x)) refl;
+              fixes′ = to v y y _ (ap (λ b. raised S F (numbered (number y)) v b) (sym eb) ∙ line (number y) ∙ pair 𝓔 eb refl) refl;
               differ = λ h. en (R .ε-injective (number x) (number y) (N .small x) (N .small y) (cancel 𝓔 s _ _ h));
             }
-          where
-            group₃ : (g m s o : E) → add g (add m (add s o)) ≡ add (add g (add m s)) o
-            group₃ g m s o = simp (𝓔 .assoc)
-
-            line : (κ : ℕ) (w : G) (a : Ω) → (d w ((X i a) .0)) .0 ≡ a
-                → raised S F (numbered κ) (𝓖⁺ .mul (low w) top) a ≡ (a, add (add ((d w ((X i a) .0)) .1) (add ((X i a) .1) (σ (rep a)))) (ε^ κ))
-            line κ w a e =
-                at-column 𝓔 (raised-hom S F (numbered κ) .on-mul _ _ ∙ ap₂ (_*_) (raised-low S F (numbered κ) w) (raised-top S F (numbered κ))) a
-                ∙ mul-at 𝓔 (d w) (Y S F (numbered κ)) a _ _ (Y-numbered-at κ a) ∙ pair 𝓔 e (group₃ _ _ _ _)
 
         pub separated′ : (x y : Ω′) → ¬ (x ≡ y) → Separated 𝓔 Ω′ d′ x y
-        separated′ x y h = go (F .decide (base x) (base y)) (ℕ-discrete (τ (rep (base x))) (rep (base x)))
-          where
-            go : Dec (base x ≡ base y) → Dec (τ (rep (base x)) ≡ rep (base x)) → Separated 𝓔 Ω′ d′ x y
-            go (no eb) f = separated-low x y (F .separated (base x) (base y) eb)
-            go (yes eb) (yes f) = separated-number x y eb (λ en. h (N .injective x y eb en)) f
-            go (yes eb) (no f) = absurd (h (N .injective x y eb (N .plain x f ∙ sym (N .plain y (λ g. f (ap (λ b. τ (rep b)) eb ∙ g ∙ ap rep (sym eb)))))))
+        separated′ x y h = by-cases (F .decide (base x) (base y))
+            (λ eb. by-cases (ℕ-discrete (τ (rep (base x))) (rep (base x))) (λ f. separated-number x y eb (λ en. h (N .injective x y eb en)) f)
+            (λ f. absurd (h (N .injective x y eb (N .plain x f ∙ sym (N .plain y (λ g. f (ap (λ b. τ (rep b)) eb ∙ g ∙ ap rep (sym eb)))))))))
+            (λ eb. separated-low x y (F .separated (base x) (base y) eb))
 
         abbrev pub next : Family 𝓔 Ω′ 𝓖⁺ conj⁺ (suc i) n
         next = record {

@@ -9,7 +9,7 @@ use mathlib.Core.List.{List, [], _∷_}
 use Prim.Native.Nat.{ℕ, zero, suc, _*_, _%_, _≤_, _<_}
 use native.Mathlib.Nat.{mul-mod-right}
 use native.Mathlib.Omega.{arith}
-use lib.Dec.{eqb, leb}
+use lib.Dec.{leb}
 use lib.ListN.{length}
 use borrow.Author.Tests.{eq-eqb, lt-ltb, leb-true, not-false}
 use Rattle.definitions.specs.Lists.{blocks, same}
@@ -23,13 +23,14 @@ use Rattle.numbers.proofs.Bools.{and-left, and-intro}
 use Rattle.numbers.proofs.Lists.{allBelow-elim, allBelow-intro}
 use Rattle.numbers.proofs.Prime.{Units, prime-units}
 use Rattle.numbers.proofs.Blocks.{blocks-below, length-table}
+use Rattle.group.specs.Context.{Context}
 use Rattle.group.proofs.Group.{Test}
 use Rattle.group.proofs.Tests.{test-holds}
 use Rattle.group.proofs.Order.{order-positive}
 use Rattle.group.proofs.Context.{context, accept}
 use Rattle.clifford.specs.Stands.{Restricts}
 use Rattle.clifford.specs.Accepted.{Accepted}
-use Rattle.clifford.proofs.Standing.{Setting, standing, restricts, setting}
+use Rattle.clifford.proofs.Standing.{at-zero, Setting, standing, restricts, setting}
 use Rattle.clifford.proofs.Lines.{LevelsListed, Agrees, table, table-length, read-back}
 use Rattle.clifford.proofs.Agreement.{agree-stands, agree-restricts, agree-words}
 use Rattle.clifford.proofs.Passing.{Founded, levels-pass}
@@ -41,31 +42,19 @@ same-self (x ∷ xs) = and-intro _ _ (eq-eqb x x refl) (same-self xs)
 
 -- level 0 agrees with itself
 zero-agrees : (n : ℕ) → Agrees n levelZero levelZero
+unfolding repOf levelZero identity
 zero-agrees n = record {
   same-length = refl;
   same-degree = λ r l. refl;
-  size = λ r g l a. one r g l;
+  size = λ r g l a. at-zero (λ r. length (repOf levelZero r .matrix g) ≡ repOf levelZero r .deg) (length-table _ 1) r l;
   same-column = λ r g c l a b. refl;
   same-ref = λ r g c l a b. refl;
 }
-  where
-    here : (g : ℕ) → length (repOf levelZero 0 .matrix g) ≡ repOf levelZero 0 .deg
-    here g = unfold repOf levelZero identity in (length-table _ 1)
-
-    count : length levelZero ≡ 1
-    count = unfold levelZero in refl
-
-    one : (r g : ℕ) → r < length levelZero → length (repOf levelZero r .matrix g) ≡ repOf levelZero r .deg
-    one r g l = let z : 0 ≡ r = omega (arith, count) in subst (λ r. length (repOf levelZero r .matrix g) ≡ repOf levelZero r .deg) z (here g)
 
 module _ (A : Accepted) where
   open Accepted A using (C, tests, positive)
-
-  abbrev P : Presentation
-  P = A .C .P
-
-  abbrev n : ℕ
-  n = A .C .P .n
+  open Context C using (P)
+  open Presentation P using (n)
 
   abbrev m : ℕ
   m = order P n
@@ -113,24 +102,18 @@ module _ (A : Accepted) where
 
   -- ---- Its lines
 
-  whole-lines : eqb (length T % lineWords) 0 ≡ true
-  whole-lines = eq-eqb _ _ (ap (λ z. z % lineWords) (table-length W) ∙ mul-mod-right lineWords _)
-
   complete-holds : complete n T ≡ true
-  unfolding complete
+  unfolding complete table
   complete-holds =
-      and-intro _ _ (allBelow-intro n _ (λ i l. lt-ltb _ _ (founded-at (suc i) l .stands .nonempty)))
-      (ap (same T) (sym lines) ∙ same-self T)
-    where
-      lines : T ≡ blocks n (λ i. levelWords n (suc i) (Lv (suc i)))
-      lines = unfold table in
-          (blocks-below n (λ k. levelWords n (suc k) (levels P m (suc k))) (λ i. levelWords n (suc i) (Lv (suc i)))
-          (λ i l. agree-words n (suc i) (levels P m (suc i)) (Lv (suc i)) (agrees-at (suc i) l)))
+      let lines : T ≡ blocks n (λ i. levelWords n (suc i) (Lv (suc i))) = blocks-below n _ (λ i. levelWords n (suc i) (Lv (suc i)))
+      (λ i l. agree-words n (suc i) (levels P m (suc i)) (Lv (suc i)) (agrees-at (suc i) l)) in
+      and-intro _ _ (allBelow-intro n _ (λ i l. lt-ltb _ _ (founded-at (suc i) l .stands .nonempty))) (ap (same T) (sym lines) ∙ same-self T)
 
   -- ---- The judgement
 
   pub table-passes : judgement (A .C .P) (order (A .C .P) (A .C .P .n)) (tableOf (A .C .P)) ≡ 0
-  table-passes = ap (judgement P m) table-is ∙ levels-pass C tests m pos T (λ i l. founded-at (suc i) l) restricts-at whole-lines complete-holds
+  table-passes = ap (judgement P m) table-is ∙ levels-pass C tests m pos T (λ i l. founded-at (suc i) l) restricts-at
+      (eq-eqb _ _ (ap (λ z. z % lineWords) (table-length W) ∙ mul-mod-right lineWords _)) complete-holds
 
 -- ---- For what a text says
 
@@ -145,13 +128,14 @@ module _ (R : Relations) (formed : wellFormed R ≡ true) (primes : someNotPrime
   unfolding someNotPrime presentation
   units j l = prime-units (presentation R .p j) (allBelow-elim (R .n) (λ j. isPrime (presentation R .p j)) (not-false _ primes) j l)
 
-  some-generator : 0 < presentation R .n
-  unfolding wellFormed presentation
-  some-generator = leb-true 1 (R .n) (and-left (leb 1 (R .n)) _ (and-left _ _ (and-left _ _ formed)))
-
   pub accepted : Accepted
-  unfolding context
-  accepted = record { C = context R formed primes used; tests = tests; units = units; positive = some-generator }
+  unfolding context wellFormed presentation
+  accepted = record {
+    C = context R formed primes used;
+    tests = tests;
+    units = units;
+    positive = leb-true 1 (R .n) (and-left (leb 1 (R .n)) _ (and-left _ _ (and-left _ _ formed)));
+  }
 
   pub accepted-is : accepted .C .P ≡ presentation R
   unfolding accepted context

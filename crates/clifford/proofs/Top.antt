@@ -67,13 +67,10 @@ module _ {G G⁺ : Type 0} {𝓖 : Mul G} {𝓖⁺ : Mul G⁺} {conj : ℕ → G
     pub Y-power : pow Y p ≡ d u
     unfolding Y
     Y-power = fun-ext (λ a. power-diagonal 𝓔 (X i) (λ a. σ (rep a)) p a
-        ∙ ap (λ s. (s .0, add (total 𝓔 (λ l. σ (rep ((pow (X i) l a) .0))) p) (s .1))) (defect-eq S F a) ∙ pair 𝓔 refl (undone a))
-      where
-        undone : (a : Ω) → add (total 𝓔 (λ l. σ (rep ((pow (X i) l a) .0))) p) (add (defect S F a) ((d u a) .1)) ≡ (d u a) .1
-        undone a =
-            sym (𝓔 .assoc _ _ _)
-            ∙ ap (λ s. add s ((d u a) .1)) (ap (λ s. add s (defect S F a)) (total-ext 𝓔 _ _ p (λ k h. ap σ (rep-power F τ (X i) (X-maps S F) k a)))
-            ∙ 𝓢 .norm a) ∙ 𝓔 .idl _
+        ∙ ap (λ s. (s .0, add (total 𝓔 (λ l. σ (rep ((pow (X i) l a) .0))) p) (s .1))) (defect-eq S F a)
+        ∙ pair 𝓔 refl (sym (𝓔 .assoc _ _ _)
+        ∙ ap (λ s. add s ((d u a) .1)) (ap (λ s. add s (defect S F a)) (total-ext 𝓔 _ _ p (λ k h. ap σ (rep-power F τ (X i) (X-maps S F) k a)))
+        ∙ 𝓢 .norm a) ∙ 𝓔 .idl _))
 
     pub Y-maps : (a : Ω) → rep ((Y a) .0) ≡ τ (rep a)
     Y-maps a = ap (λ s. rep (s .0)) (Y-at a) ∙ X-maps S F a
@@ -172,25 +169,19 @@ module _ {G G⁺ : Type 0} {𝓖 : Mul G} {𝓖⁺ : Mul G⁺} {conj : ℕ → G
       along (suc k) a =
           let b : Ω = (pow φ k a) .0 in
           let y : E = (pow φ k a) .1 in
+          let swap₄ : (x y z v : E) → add x (add y (add z v)) ≡ add (add x z) (add y v) = λ x y z v. simp (𝓔 .assoc, 𝓔 .comm, lcomm 𝓔) in
           at-column 𝓔 (ap (λ f. X j * f) (power-suc (maps 𝓔 Ω) φ k) ∙ sym (assoc _ _ _)) a ∙ at-mul 𝓔 (X j * φ) (pow φ k) a
           ∙ ap (λ s. (s .0, add (s .1) y)) (q-eq b ∙ ap (λ s. (s .0, add (q b) (s .1))) (at-mul 𝓔 Y (X j) b))
-          ∙ pair 𝓔 refl (first _ _ _ _)
+          ∙ pair 𝓔 refl (𝓔 .assoc _ _ _ ∙ ap (add (q b)) (𝓔 .assoc _ _ _))
           ∙ ap (λ s. ((Y (s .0)) .0, add (q b) (add ((Y (s .0)) .1) (s .1)))) (sym (at-mul 𝓔 (X j) (pow φ k) a) ∙ along k a)
-          ∙ pair 𝓔 refl (second _ _ _ _ ∙ ap₂ add (sym (total-suc 𝓔 _ k)) refl)
+          ∙ pair 𝓔 refl (swap₄ _ _ _ _ ∙ ap₂ add (sym (total-suc 𝓔 _ k)) refl)
           ∙ ap (λ s. (s .0, add (total 𝓔 (λ l. q ((pow φ l a) .0)) (suc k)) (s .1)))
           (sym (at-mul 𝓔 Y (pow Y k * X j) a) ∙ at-column 𝓔 (sym (assoc _ _ _) ∙ ap (λ f. f * X j) (sym (power-suc (maps 𝓔 Ω) Y k))) a)
-        where
-          first : (x y z v : E) → add (add x (add y z)) v ≡ add x (add y (add z v))
-          first x y z v = simp (𝓔 .assoc)
-
-          second : (x y z v : E) → add x (add y (add z v)) ≡ add (add x z) (add y v)
-          second x y z v = simp (𝓔 .assoc, 𝓔 .comm, lcomm 𝓔)
 
       pub around : (a : Ω) → total 𝓔 (λ l. q ((pow φ l a) .0)) p ≡ nil
-      around a = cancel 𝓔 (((pow Y p * X j) a) .1) _ _ (𝓔 .comm _ _ ∙ ap (λ s. s .1) (sym (along p a) ∙ at-column 𝓔 whole a) ∙ sym (idr 𝓔 _))
-        where
-          whole : X j * pow φ p ≡ pow Y p * X j
-          whole = ap (λ f. X j * f) φ-power ∙ Xj-past u ∙ ap (λ f. f * X j) (sym Y-power)
+      around a =
+          let whole : X j * pow φ p ≡ pow Y p * X j = ap (λ f. X j * f) φ-power ∙ Xj-past u ∙ ap (λ f. f * X j) (sym Y-power) in
+          cancel 𝓔 (((pow Y p * X j) a) .1) _ _ (𝓔 .comm _ _ ∙ ap (λ s. s .1) (sym (along p a) ∙ at-column 𝓔 whole a) ∙ sym (idr 𝓔 _))
 
       pub φ-power-maps : (k : ℕ) (a : Ω) → rep ((pow φ k a) .0) ≡ iter (iter τ (shift j)) k (rep a)
       φ-power-maps k a = rep-power F (iter τ (shift j)) φ φ-maps k a

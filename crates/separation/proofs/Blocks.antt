@@ -13,6 +13,7 @@
 --   fixed-together             equal exponents do not
 --   reaches, reached-power     a basis index is reached exactly if a power of the generator reaches its block
 use mathlib.Core.Path.{_≡_, refl, sym, _∙_, ap, ap₂, subst}
+use mathlib.Core.Logic.{by-cases}
 use Prim.Native.Nat.{ℕ, zero, suc, _+_, _*_ as _·_, _-_, _≤_, _<_, _∣_}
 use native.Mathlib.Nat.{mod-eq-of-lt, mod-eq-zero-of-dvd}
 use native.Mathlib.Omega.{arith}
@@ -20,14 +21,15 @@ use native.Mathlib.Decide.{ℕ-discrete}
 use Rattle.definitions.specs.Lists.{iter}
 use Rattle.definitions.specs.Presentation.{Mul, power}
 use Rattle.group.specs.Models.{Laws}
-use Rattle.group.proofs.Values.{power-zero, power-suc, power-one, power-add, power-hom, iter-past}
+use Rattle.group.proofs.Values.{power-zero, power-suc, power-one, power-add, power-hom}
 use Rattle.numbers.proofs.Iterates.{iter-out}
 use Rattle.monomial.specs.Exponents.{Exponents}
 use Rattle.monomial.specs.Maps.{Map, maps, Inverse}
 use Rattle.monomial.specs.Families.{Separated, Family}
-use Rattle.monomial.proofs.Exponents.{cancel, lcomm, rcomm}
+use Rattle.monomial.proofs.Exponents.{cancel, rcomm}
 use Rattle.monomial.proofs.Maps.{pair, at-column, at-mul, at-one, maps-laws, inverse-root, inverse-injective}
 use Rattle.clifford.specs.Extension.{Extension}
+use Rattle.clifford.proofs.Defect.{image-inverse}
 use Rattle.separation.specs.Blocked.{Blocked}
 
 module _ {G G⁺ : Type 0} {𝓖 : Mul G} {𝓖⁺ : Mul G⁺} {conj : ℕ → G → G} {conj⁺ : ℕ → G⁺ → G⁺} {i n k : ℕ} (S : Extension 𝓖 𝓖⁺ conj conj⁺ i n)
@@ -57,8 +59,11 @@ module _ {G G⁺ : Type 0} {𝓖 : Mul G} {𝓖⁺ : Mul G⁺} {conj : ℕ → G
   Z-past : (h : G) → Z * l (f h) ≡ l h * Z
   Z-past h = sym (B .hom .on-mul _ _) ∙ ap d⁺ (sym (S .low-top h)) ∙ B .hom .on-mul _ _
 
-  Zᵏ-past : (e : ℕ) (h : G) → Zᵏ e * l (iter f e h) ≡ l h * Zᵏ e
-  Zᵏ-past e h = iter-past (maps-laws 𝓔) l Z f Z-past e h
+  Zᵏ-zero : (x : Ω⁺) → Zᵏ zero x ≡ (x, nil)
+  Zᵏ-zero x = at-column 𝓔 (power-zero (maps 𝓔 Ω⁺) Z) x ∙ at-one 𝓔 x
+
+  Zᵏ-suc : (e : ℕ) (x : Ω⁺) → Zᵏ (suc e) x ≡ ((Z ((Zᵏ e x) .0)) .0, add ((Z ((Zᵏ e x) .0)) .1) ((Zᵏ e x) .1))
+  Zᵏ-suc e x = at-column 𝓔 (power-suc (maps 𝓔 Ω⁺) Z e) x ∙ at-mul 𝓔 Z (Zᵏ e) x
 
   element : (w : G⁺) → d⁺ w ≡ Zᵏ (exponent w) * l (rest w)
   element w = ap d⁺ (S .decompose w) ∙ B .hom .on-mul _ _ ∙ ap (λ z. z * l (rest w)) (power-hom (B .hom) top (exponent w))
@@ -87,14 +92,8 @@ module _ {G G⁺ : Type 0} {𝓖 : Mul G} {𝓖⁺ : Mul G⁺} {conj : ℕ → G
       ∙ ap (λ s. block ((Z s) .0)) e
 
   pub power-block : (e : ℕ) (x y : Ω⁺) → block x ≡ block y → block ((Zᵏ e x) .0) ≡ block ((Zᵏ e y) .0)
-  power-block zero x y q = ap (λ z. block (z .0)) (at-zero x) ∙ q ∙ sym (ap (λ z. block (z .0)) (at-zero y))
-    where
-      at-zero : (x : Ω⁺) → Zᵏ zero x ≡ (x, nil)
-      at-zero x = at-column 𝓔 (power-zero (maps 𝓔 Ω⁺) Z) x ∙ at-one 𝓔 x
-  power-block (suc e) x y q = ap block (at-suc x) ∙ step-block _ _ (power-block e x y q) ∙ sym (ap block (at-suc y))
-    where
-      at-suc : (x : Ω⁺) → (Zᵏ (suc e) x) .0 ≡ (Z ((Zᵏ e x) .0)) .0
-      at-suc x = ap (λ z. z .0) (at-column 𝓔 (power-suc (maps 𝓔 Ω⁺) Z e) x ∙ at-mul 𝓔 Z (Zᵏ e) x)
+  power-block zero x y q = rw (Zᵏ-zero x, Zᵏ-zero y) q
+  power-block (suc e) x y q = rw (Zᵏ-suc e x, Zᵏ-suc e y) (step-block _ _ (power-block e x y q))
 
   pub power-home : (x : Ω⁺) → block ((Zᵏ p x) .0) ≡ block x
   power-home x = ap (λ z. block (z .0)) (at-column 𝓔 (sym (power-hom (B .hom) top p) ∙ ap d⁺ (S .top-power)) x) ∙ over-block u x
@@ -104,11 +103,15 @@ module _ {G G⁺ : Type 0} {𝓖 : Mul G} {𝓖⁺ : Mul G⁺} {conj : ℕ → G
 
   -- a power that fixes a block fixes it again and again
   again : (e s : ℕ) (x : Ω⁺) → block ((Zᵏ e x) .0) ≡ block x → block ((Zᵏ (e · s) x) .0) ≡ block x
-  again e zero x q = let z : e · 0 ≡ 0 = omega arith in ap (λ k. block ((Zᵏ k x) .0)) z
-      ∙ ap (λ z. block (z .0)) (at-column 𝓔 (power-zero (maps 𝓔 Ω⁺) Z) x ∙ at-one 𝓔 x)
+  again e zero x q = let z : e · 0 ≡ 0 = omega arith in ap (λ k. block ((Zᵏ k x) .0)) z ∙ ap (λ z. block (z .0)) (Zᵏ-zero x)
   again e (suc s) x q =
       let z : e · suc s ≡ e + e · s = omega arith in
       ap (λ k. block ((Zᵏ k x) .0)) z ∙ ap block (power-more e (e · s) x) ∙ power-block e _ x (again e s x q) ∙ q
+
+  -- a block that stays, stays under every power
+  pub fixed-power : (x : Ω⁺) → block ((Z x) .0) ≡ block x → (e : ℕ) → block ((Zᵏ e x) .0) ≡ block x
+  fixed-power x q zero = ap (λ z. block (z .0)) (Zᵏ-zero x)
+  fixed-power x q (suc e) = ap (λ z. block (z .0)) (Zᵏ-suc e x) ∙ step-block _ x (fixed-power x q e) ∙ q
 
   pub short-fixed : (e : ℕ) → 0 < e → e < p → (x : Ω⁺) → block ((Zᵏ e x) .0) ≡ block x → block ((Z x) .0) ≡ block x
   short-fixed e a b x q =
@@ -123,10 +126,8 @@ module _ {G G⁺ : Type 0} {𝓖 : Mul G} {𝓖⁺ : Mul G⁺} {conj : ℕ → G
   fixed-back e a x q =
       let y : Ω⁺ = (Zᵏ e x) .0 in
       let z : p - e + e ≡ p = omega arith in
-      let o : 1 · (p - e) ≡ p - e = omega arith in
-      let once : block ((Zᵏ 1 y) .0) ≡ block y = ap (λ (M : Map 𝓔 Ω⁺). block ((M y) .0)) (power-one (maps-laws 𝓔) Z) ∙ q in
-      let stays : block ((Zᵏ (p - e) y) .0) ≡ block y = ap (λ k. block ((Zᵏ k y) .0)) (sym o) ∙ again 1 (p - e) y once in
-      let same : block x ≡ block y = sym (power-home x) ∙ ap (λ k. block ((Zᵏ k x) .0)) (sym z) ∙ ap block (power-more (p - e) e x) ∙ stays in
+      let same : block x ≡ block y = sym (power-home x) ∙ ap (λ k. block ((Zᵏ k x) .0)) (sym z) ∙ ap block (power-more (p - e) e x)
+      ∙ fixed-power y q (p - e) in
       step-block x y same ∙ q ∙ sym same
 
   -- the powers below the p-th take a block that moves to different blocks
@@ -136,81 +137,67 @@ module _ {G G⁺ : Type 0} {𝓖 : Mul G} {𝓖⁺ : Mul G⁺} {conj : ℕ → G
       mv (fixed-back e (omega arith) x
       (short-fixed (e′ - e) (omega arith) (omega arith) ((Zᵏ e x) .0) (ap block (sym (power-more (e′ - e) e x)) ∙ ap (λ k. block ((Zᵏ k x) .0)) z ∙ sym q)))
 
-  -- a block that stays, stays under every power
-  pub fixed-power : (x : Ω⁺) → block ((Z x) .0) ≡ block x → (e : ℕ) → block ((Zᵏ e x) .0) ≡ block x
-  fixed-power x q e =
-      let o : 1 · e ≡ e = omega arith in
-      ap (λ k. block ((Zᵏ k x) .0)) (sym o) ∙ again 1 e x (ap (λ (M : Map 𝓔 Ω⁺). block ((M x) .0)) (power-one (maps-laws 𝓔) Z) ∙ q)
+  -- a basis index is mapped to the block to which the power of the generator maps it
+  pub reached-power : (w : G⁺) (x : Ω⁺) → block ((Zᵏ (exponent w) x) .0) ≡ block ((d⁺ w x) .0)
+  reached-power w x = sym (power-block (exponent w) _ x (over-block (rest w) x))
+      ∙ ap (λ z. block (z .0)) (sym (at-mul 𝓔 (Zᵏ (exponent w)) (l (rest w)) x) ∙ at-column 𝓔 (sym (element w)) x)
 
   -- ---- A block that moves
 
   -- what fixes a basis index of a block that moves lies in the group below
-  pub moved-low : (w : G⁺) (x : Ω⁺) → ¬ (block ((Z x) .0) ≡ block x) → (d⁺ w x) .0 ≡ x → d⁺ w ≡ d⁺ (low (rest w))
-  moved-low w x mv q = element w ∙ ap (λ e. Zᵏ e * l (rest w)) (none (ℕ-discrete (exponent w) 0)) ∙ ap (λ z. z * l (rest w)) (power-zero (maps 𝓔 Ω⁺) Z) ∙ idl _
-    where
-      fixed : block ((Zᵏ (exponent w) x) .0) ≡ block x
-      fixed = sym (power-block (exponent w) _ x (over-block (rest w) x))
-          ∙ ap (λ z. block (z .0)) (sym (at-mul 𝓔 (Zᵏ (exponent w)) (l (rest w)) x) ∙ at-column 𝓔 (sym (element w)) x) ∙ ap block q
-
-      none : Dec (exponent w ≡ 0) → exponent w ≡ 0
-      none (yes e) = e
-      none (no e) = absurd (mv (short-fixed (exponent w) (omega arith) (B .exponent-below w) x fixed))
+  moved-low : (w : G⁺) (x : Ω⁺) → ¬ (block ((Z x) .0) ≡ block x) → (d⁺ w x) .0 ≡ x → d⁺ w ≡ d⁺ (low (rest w))
+  moved-low w x mv q =
+      let none : exponent w ≡ 0 = by-cases (ℕ-discrete (exponent w) 0) (λ e. e)
+      (λ e. absurd (mv (short-fixed (exponent w) (omega arith) (B .exponent-below w) x (reached-power w x ∙ ap block q)))) in
+      element w ∙ ap (λ e. Zᵏ e * l (rest w)) none ∙ ap (λ z. z * l (rest w)) (power-zero (maps 𝓔 Ω⁺) Z) ∙ idl _
 
   pub moved-together : (x y : Ω⁺) → base x ≡ base y → ¬ (block ((Z x) .0) ≡ block x) → ¬ Separated 𝓔 Ω⁺ d⁺ x y
-  moved-together x y q mv s = s .differ (sym (ap (λ z. z .1) (s .fixes)) ∙ same ∙ ap (λ z. z .1) (s .fixes′))
-    where
-      below : d⁺ (s .by) ≡ l (rest (s .by))
-      below = moved-low (s .by) x mv (ap (λ z. z .0) (s .fixes))
+  moved-together x y q mv s =
+      let below : d⁺ (s .by) ≡ l (rest (s .by)) = moved-low (s .by) x mv (ap (λ z. z .0) (s .fixes)) in
+      let low-exponent = over-exponent (rest (s .by)) x ∙ ap (λ a. (F .d (rest (s .by)) a) .1) q ∙ sym (over-exponent (rest (s .by)) y) in
+      s .differ (sym (ap (λ z. z .1) (s .fixes)) ∙ ap (λ (M : Map 𝓔 Ω⁺). (M x) .1) below ∙ low-exponent ∙ ap (λ (M : Map 𝓔 Ω⁺). (M y) .1) (sym below)
+      ∙ ap (λ z. z .1) (s .fixes′))
 
-      same : (d⁺ (s .by) x) .1 ≡ (d⁺ (s .by) y) .1
-      same = ap (λ (M : Map 𝓔 Ω⁺). (M x) .1) below ∙ over-exponent (rest (s .by)) x ∙ ap (λ a. (F .d (rest (s .by)) a) .1) q
-          ∙ sym (over-exponent (rest (s .by)) y) ∙ ap (λ (M : Map 𝓔 Ω⁺). (M y) .1) (sym below)
+  -- what fixes a base fixes what lies over it
+  fixes-over : (x : Ω⁺) (h : G) (t : E) → F .d h (base x) ≡ (base x, t) → l h x ≡ (x, t)
+  fixes-over x h t q = pair 𝓔 (known _ x (over-base h x ∙ ap (λ z. z .0) q) (over-block h x)) (over-exponent h x ∙ ap (λ z. z .1) q)
 
   -- what has different bases is separated by the group below
   pub base-separates : (x y : Ω⁺) → ¬ (base x ≡ base y) → Separated 𝓔 Ω⁺ d⁺ x y
   base-separates x y ne =
       let s = F .separated (base x) (base y) ne in
-      record { by = low (s .by); x = s .x; y = s .y; fixes = at x (s .by) (s .x) (s .fixes); fixes′ = at y (s .by) (s .y) (s .fixes′); differ = s .differ }
-    where
-      at : (x : Ω⁺) (h : G) (t : E) → F .d h (base x) ≡ (base x, t) → l h x ≡ (x, t)
-      at x h t q = pair 𝓔 (known _ x (over-base h x ∙ ap (λ z. z .0) q) (over-block h x)) (over-exponent h x ∙ ap (λ z. z .1) q)
+      record {
+        by = low (s .by);
+        x = s .x;
+        y = s .y;
+        fixes = fixes-over x (s .by) (s .x) (s .fixes);
+        fixes′ = fixes-over y (s .by) (s .y) (s .fixes′);
+        differ = s .differ;
+      }
 
   -- ---- Two basis indices with one base
 
   Z-inverse : Inverse (maps 𝓔 Ω⁺) Z
   Z-inverse = inverse-root (maps-laws 𝓔) Z p (omega (arith, S .two))
-      (subst (Inverse (maps 𝓔 Ω⁺)) (sym (sym (power-hom (B .hom) top p) ∙ ap d⁺ (S .top-power))) (record {
-        to = l (S .inv u);
-        right = sym (B .hom .on-mul _ _) ∙ ap d⁺ (low-mul u (S .inv u) ∙ ap low (S .inv-right u) ∙ low-one) ∙ B .hom .on-one;
-        left = sym (B .hom .on-mul _ _) ∙ ap d⁺ (low-mul (S .inv u) u ∙ ap low (S .inv-left u) ∙ low-one) ∙ B .hom .on-one;
-      }))
-    where
-      low-mul : (g h : G) → 𝓖⁺ .mul (low g) (low h) ≡ low (𝓖 .mul g h)
-      low-mul g h = sym (S .low-hom .on-mul g h)
-
-      low-one : low (𝓖 .one) ≡ 𝓖⁺ .one
-      low-one = S .low-hom .on-one
+      (subst (Inverse (maps 𝓔 Ω⁺)) (sym (sym (power-hom (B .hom) top p) ∙ ap d⁺ (S .top-power))) (image-inverse (B .hom) (low u) (low (S .inv u))
+      (sym (S .low-hom .on-mul _ _) ∙ ap low (S .inv-right u) ∙ S .low-hom .on-one)
+      (sym (S .low-hom .on-mul _ _) ∙ ap low (S .inv-left u) ∙ S .low-hom .on-one)))
 
   -- the images of two with one base have one base
   pub base-step : (x y : Ω⁺) → base x ≡ base y → base ((Z x) .0) ≡ base ((Z y) .0)
-  base-step x y q = go (F .decide (base ((Z x) .0)) (base ((Z y) .0)))
+  base-step x y q = by-cases (F .decide (base ((Z x) .0)) (base ((Z y) .0))) (λ e. e) (λ e.
+      let s = F .separated _ _ e in
+      absurd (s .differ (ap (λ z. z .1) (sym (pull x (s .by) (s .x) (s .fixes)) ∙ ap (F .d (f (s .by))) q ∙ pull y (s .by) (s .y) (s .fixes′)))))
     where
       -- what fixes the image of x, conjugated, fixes x
       pull : (x : Ω⁺) (h : G) (t : E) → F .d h (base ((Z x) .0)) ≡ (base ((Z x) .0), t) → F .d (f h) (base x) ≡ (base x, t)
       pull x h t e =
           let x₁ : Ω⁺ = (Z x) .0 in
-          let fixes : l h x₁ ≡ (x₁, t) = pair 𝓔 (known _ x₁ (over-base h x₁ ∙ ap (λ z. z .0) e) (over-block h x₁)) (over-exponent h x₁ ∙ ap (λ z. z .1) e) in
           let line : _≡_ {A = Ω⁺ × E} ((Z ((l (f h) x) .0)) .0, add ((Z ((l (f h) x) .0)) .1) ((l (f h) x) .1)) (x₁, add t ((Z x) .1))
-          = sym (at-mul 𝓔 Z (l (f h)) x) ∙ at-column 𝓔 (Z-past h) x ∙ at-mul 𝓔 (l h) Z x ∙ ap (λ z. (z .0, add (z .1) ((Z x) .1))) fixes in
+          = sym (at-mul 𝓔 Z (l (f h)) x) ∙ at-column 𝓔 (Z-past h) x ∙ at-mul 𝓔 (l h) Z x ∙ ap (λ z. (z .0, add (z .1) ((Z x) .1))) (fixes-over x₁ h t e) in
           let stays : (l (f h) x) .0 ≡ x = inverse-injective 𝓔 Z Z-inverse _ x (ap (λ z. z .0) line) in
           let exps : (l (f h) x) .1 ≡ t = cancel 𝓔 ((Z x) .1) _ _ (ap (λ z. add ((Z z) .1) ((l (f h) x) .1)) (sym stays) ∙ ap (λ z. z .1) line ∙ 𝓔 .comm _ _) in
           pair 𝓔 (sym (over-base (f h) x) ∙ ap base stays) (sym (over-exponent (f h) x) ∙ exps)
-
-      go : Dec (base ((Z x) .0) ≡ base ((Z y) .0)) → base ((Z x) .0) ≡ base ((Z y) .0)
-      go (yes e) = e
-      go (no e) =
-          let s = F .separated _ _ e in
-          absurd (s .differ (ap (λ z. z .1) (sym (pull x (s .by) (s .x) (s .fixes)) ∙ ap (F .d (f (s .by))) q ∙ pull y (s .by) (s .y) (s .fixes′))))
 
   -- the difference of the exponents is the same all over two blocks
   pub ratio-step : (x y x′ y′ : Ω⁺) → base x ≡ base y → base x′ ≡ base y′ → block x ≡ block x′ → block y ≡ block y′
@@ -228,7 +215,7 @@ module _ {G G⁺ : Type 0} {𝓖 : Mul G} {𝓖⁺ : Mul G⁺} {conj : ℕ → G
       ∙ ap (λ z. add z ((Z x) .1)) (sym line-y) ∙ sym (move t ((Z y′) .1) ((Z x) .1)))
     where
       move : (t a b : E) → add t (add a b) ≡ add (add a t) b
-      move t a b = simp (𝓔 .assoc, 𝓔 .comm, lcomm 𝓔)
+      move t a b = simp (𝓔 .assoc, 𝓔 .comm)
 
       at-image : (x x′ : Ω⁺) (h g : G) → f g ≡ h → (l h x) .0 ≡ x′ → add ((Z x′) .1) ((F .d h (base x)) .1) ≡ add ((F .d g (base ((Z x) .0))) .1) ((Z x) .1)
       at-image x x′ h g fg e =
@@ -273,56 +260,25 @@ module _ {G G⁺ : Type 0} {𝓖 : Mul G} {𝓖⁺ : Mul G⁺} {conj : ℕ → G
     )
 
     pair-power : (e : ℕ) (x′ y′ : Ω⁺) → Pair x y x′ y′ → Pair x y ((Zᵏ e x′) .0) ((Zᵏ e y′) .0) × ((Zᵏ e x′) .1 ≡ (Zᵏ e y′) .1)
-    pair-power zero x′ y′ P = (
-      record {
-        one-base = ap base (at-zero x′) ∙ P .one-base ∙ sym (ap base (at-zero y′));
-        in-x = ap block (at-zero x′) ∙ P .in-x;
-        in-y = ap block (at-zero y′) ∙ P .in-y;
-      },
-      exp-zero x′ ∙ sym (exp-zero y′),
-    )
-      where
-        line : (x : Ω⁺) → Zᵏ zero x ≡ (x, nil)
-        line x = at-column 𝓔 (power-zero (maps 𝓔 Ω⁺) Z) x ∙ at-one 𝓔 x
-
-        at-zero : (x : Ω⁺) → (Zᵏ zero x) .0 ≡ x
-        at-zero x = ap (λ z. z .0) (line x)
-
-        exp-zero : (x : Ω⁺) → (Zᵏ zero x) .1 ≡ nil
-        exp-zero x = ap (λ z. z .1) (line x)
+    pair-power zero x′ y′ P = rw (Zᵏ-zero x′, Zᵏ-zero y′) (P, refl)
     pair-power (suc e) x′ y′ P =
         let (P₁, s₁) = pair-power e x′ y′ P in
-        let (P₂, s₂) = pair-step _ _ P₁ in (
-          record {
-            one-base = ap (λ z. base (z .0)) (line x′) ∙ P₂ .one-base ∙ sym (ap (λ z. base (z .0)) (line y′));
-            in-x = ap (λ z. block (z .0)) (line x′) ∙ P₂ .in-x;
-            in-y = ap (λ z. block (z .0)) (line y′) ∙ P₂ .in-y;
-          },
-          ap (λ z. z .1) (line x′) ∙ ap₂ add s₂ s₁ ∙ sym (ap (λ z. z .1) (line y′)),
-        )
-      where
-        line : (x : Ω⁺) → Zᵏ (suc e) x ≡ ((Z ((Zᵏ e x) .0)) .0, add ((Z ((Zᵏ e x) .0)) .1) ((Zᵏ e x) .1))
-        line x = at-column 𝓔 (power-suc (maps 𝓔 Ω⁺) Z e) x ∙ at-mul 𝓔 Z (Zᵏ e) x
+        let (P₂, s₂) = pair-step _ _ P₁ in
+        rw (Zᵏ-suc e x′, Zᵏ-suc e y′) (P₂, ap₂ add s₂ s₁)
 
     pub fixed-together : ¬ Separated 𝓔 Ω⁺ d⁺ x y
-    fixed-together s = s .differ (sym (ap (λ z. z .1) (s .fixes)) ∙ alike ∙ ap (λ z. z .1) (s .fixes′))
-      where
-        w : G⁺
-        w = s .by
-
-        P : Pair x y ((l (rest w) x) .0) ((l (rest w) y) .0)
-        P = record {
+    fixed-together s =
+        let w : G⁺ = s .by in
+        let P : Pair x y ((l (rest w) x) .0) ((l (rest w) y) .0) = record {
           one-base = over-base (rest w) x ∙ ap (λ a. (F .d (rest w) a) .0) q ∙ sym (over-base (rest w) y);
           in-x = over-block (rest w) x;
           in-y = over-block (rest w) y;
-        }
-
-        line : (x : Ω⁺) → (d⁺ w x) .1 ≡ add ((Zᵏ (exponent w) ((l (rest w) x) .0)) .1) ((l (rest w) x) .1)
-        line x = ap (λ z. z .1) (at-column 𝓔 (element w) x ∙ at-mul 𝓔 (Zᵏ (exponent w)) (l (rest w)) x)
-
-        alike : (d⁺ w x) .1 ≡ (d⁺ w y) .1
-        alike = line x ∙ ap₂ add (pair-power (exponent w) _ _ P .1)
-            (over-exponent (rest w) x ∙ ap (λ a. (F .d (rest w) a) .1) q ∙ sym (over-exponent (rest w) y)) ∙ sym (line y)
+        } in
+        let line : (x : Ω⁺) → (d⁺ w x) .1 ≡ add ((Zᵏ (exponent w) ((l (rest w) x) .0)) .1) ((l (rest w) x) .1)
+        = λ x. ap (λ z. z .1) (at-column 𝓔 (element w) x ∙ at-mul 𝓔 (Zᵏ (exponent w)) (l (rest w)) x) in
+        s .differ (sym (ap (λ z. z .1) (s .fixes)) ∙ line x
+        ∙ ap₂ add (pair-power (exponent w) _ _ P .1) (over-exponent (rest w) x ∙ ap (λ a. (F .d (rest w) a) .1) q ∙ sym (over-exponent (rest w) y))
+        ∙ sym (line y) ∙ ap (λ z. z .1) (s .fixes′))
 
   -- ---- Reached
 
@@ -332,7 +288,3 @@ module _ {G G⁺ : Type 0} {𝓖 : Mul G} {𝓖⁺ : Mul G⁺} {conj : ℕ → G
         𝓖⁺ .mul (low h) (power 𝓖⁺ top e),
         ap (λ z. z .0) (at-column 𝓔 (B .hom .on-mul _ _ ∙ ap (λ z. l h * z) (power-hom (B .hom) top e)) x ∙ at-mul 𝓔 (l h) (Zᵏ e) x) ∙ r,
       )
-
-  pub reached-power : (w : G⁺) (x : Ω⁺) → block ((Zᵏ (exponent w) x) .0) ≡ block ((d⁺ w x) .0)
-  reached-power w x = sym (power-block (exponent w) _ x (over-block (rest w) x))
-      ∙ ap (λ z. block (z .0)) (sym (at-mul 𝓔 (Zᵏ (exponent w)) (l (rest w)) x) ∙ at-column 𝓔 (sym (element w)) x)

@@ -5,13 +5,14 @@
 --   cut-sum                  the blocks lie one behind the other
 --   Cut, cut-at              the block of a column, and what every cut passes
 --   cuts-end                 the last block ends with the columns; how many blocks there are
---   cut-below, cuts-each, cuts-all      blocks by their number
+--   cut-below, cuts-each, cuts-also, cuts-all      blocks by their number
 use mathlib.Core.Path.{_≡_, refl, sym, _∙_, ap, subst}
+use mathlib.Core.Logic.{by-cases}
 use mathlib.Core.Bool.{Bool, true, _&&_}
 use mathlib.Core.List.{List, [], _∷_}
 use Prim.Native.Nat.{ℕ, zero, suc, _+_, _-_, _≤_, _<_}
 use native.Mathlib.Omega.{arith}
-use native.Mathlib.Decide.{decLt}
+use native.Mathlib.Decide.{decLt, ℕ-discrete}
 use lib.ListN.{length}
 use Rattle.definitions.specs.Lists.{sum, all}
 use Rattle.definitions.specs.Monomial.{Rep, Level, repOf}
@@ -52,6 +53,9 @@ module _ (low : Level) (D : Rep) where
   pub cut-le : (b b′ : ℕ) → b < b′ → cut b + width b ≤ cut b′
   cut-le b b′ l = subst (λ z. z + width b ≤ cut b′) (sym (cut-sum b)) (subst (λ z. sum b width + width b ≤ z) (sym (cut-sum b′)) (first-le width b b′ l))
 
+  cut-mono : (b b′ : ℕ) → b ≤ b′ → cut b ≤ cut b′
+  cut-mono b b′ a = by-cases (ℕ-discrete b b′) (λ e. omega (arith, ap cut e)) (λ e. omega (arith, cut-le b b′ (omega arith)))
+
   -- ---- Walking the cuts
 
   from : (f b : ℕ) → cut b < D .deg → Judgement.cutsFrom low D (suc f) (cut b) ≡ cut b ∷ Judgement.cutsFrom low D f (cut (suc b))
@@ -79,12 +83,8 @@ module _ (low : Level) (D : Rep) where
     walk zero b h c a l e = absurd (omega arith)
     walk (suc f) b h c a l e =
         let (here, rest) = all-cons q (cut b) (Judgement.cutsFrom low D f (cut (suc b))) (ap (all q) (sym (from f b (omega arith))) ∙ h) in
-        go here rest (decLt c (cut (suc b))) (walk f (suc b))
-      where
-        go : q (cut b) ≡ true → all q (Judgement.cutsFrom low D f (cut (suc b))) ≡ true → Dec (c < cut (suc b))
-            → (all q (Judgement.cutsFrom low D f (cut (suc b))) ≡ true → (c : ℕ) → cut (suc b) ≤ c → c < D .deg → D .deg ≤ cut (suc b) + f → Cut q c) → Cut q c
-        go here rest (yes s) rec = record { b = b; κ = c - cut b; is = omega arith; inside = omega (arith, cut-suc b); passes = here }
-        go here rest (no s) rec = rec rest c (omega arith) l (omega (arith, cut-suc b, positive (cut b) here))
+        by-cases (decLt c (cut (suc b))) (λ s. record { b = b; κ = c - cut b; is = omega arith; inside = omega (arith, cut-suc b); passes = here })
+        (λ s. walk f (suc b) rest c (omega arith) l (omega (arith, cut-suc b, positive (cut b) here)))
 
     pub cut-at : all q (Judgement.cuts low D) ≡ true → (c : ℕ) → c < D .deg → Cut q c
     unfolding Judgement.cuts
@@ -97,20 +97,12 @@ module _ (low : Level) (D : Rep) where
       ends zero b h a e =
           let z : b + 0 ≡ b = omega arith in
           ap (λ xs. cut (b + length xs)) (from-end zero b (omega arith)) ∙ ap cut z ∙ omega arith
-      ends (suc f) b h a e = go (decLt (cut b) (D .deg)) (ends f (suc b))
-        where
-          go : Dec (cut b < D .deg)
-              → (all q (Judgement.cutsFrom low D f (cut (suc b))) ≡ true → cut (suc b) ≤ D .deg → D .deg ≤ cut (suc b) + f
-              → cut (suc b + length (Judgement.cutsFrom low D f (cut (suc b)))) ≡ D .deg)
-              → cut (b + length (Judgement.cutsFrom low D (suc f) (cut b))) ≡ D .deg
-          go (yes s) rec =
-              let (here, rest) = all-cons q (cut b) (Judgement.cutsFrom low D f (cut (suc b))) (ap (all q) (sym (from f b s)) ∙ h) in
-              let z : b + suc (length (Judgement.cutsFrom low D f (cut (suc b)))) ≡ suc b + length (Judgement.cutsFrom low D f (cut (suc b))) = omega arith in
-              ap (λ xs. cut (b + length xs)) (from f b s) ∙ ap cut z
-              ∙ rec rest (omega (arith, cut-suc b, fits (cut b) here)) (omega (arith, cut-suc b, positive (cut b) here))
-          go (no s) rec =
-              let z : b + 0 ≡ b = omega arith in
-              ap (λ xs. cut (b + length xs)) (from-end (suc f) b (omega arith)) ∙ ap cut z ∙ omega arith
+      ends (suc f) b h a e = by-cases (decLt (cut b) (D .deg)) (λ s.
+          let (here, rest) = all-cons q (cut b) (Judgement.cutsFrom low D f (cut (suc b))) (ap (all q) (sym (from f b s)) ∙ h) in
+          let z : b + suc (length (Judgement.cutsFrom low D f (cut (suc b)))) ≡ suc b + length (Judgement.cutsFrom low D f (cut (suc b))) = omega arith in
+          ap (λ xs. cut (b + length xs)) (from f b s) ∙ ap cut z
+          ∙ ends f (suc b) rest (omega (arith, cut-suc b, fits (cut b) here)) (omega (arith, cut-suc b, positive (cut b) here)))
+          (λ s. let z : b + 0 ≡ b = omega arith in ap (λ xs. cut (b + length xs)) (from-end (suc f) b (omega arith)) ∙ ap cut z ∙ omega arith)
 
       pub cuts-end : all q (Judgement.cuts low D) ≡ true → cut (length (Judgement.cuts low D)) ≡ D .deg
       unfolding Judgement.cuts
@@ -122,20 +114,12 @@ module _ (low : Level) (D : Rep) where
   -- ---- Blocks by their number
 
   counted : (f b k : ℕ) → k < length (Judgement.cutsFrom low D f (cut b)) → cut (b + k) < D .deg
-  counted zero b k l = absurd (none l)
-    where
-      none : k < length (Judgement.cutsFrom low D 0 (cut b)) → ⊥
-      none l = unfold Judgement.cutsFrom in (omega arith)
-  counted (suc f) b k l = go (decLt (cut b) (D .deg)) k l (counted f (suc b))
-    where
-      go : Dec (cut b < D .deg) → (k : ℕ) → k < length (Judgement.cutsFrom low D (suc f) (cut b))
-          → ((k : ℕ) → k < length (Judgement.cutsFrom low D f (cut (suc b))) → cut (suc b + k) < D .deg) → cut (b + k) < D .deg
-      go (yes s) zero l rec = let z : b + 0 ≡ b = omega arith in subst (λ k. cut k < D .deg) (sym z) s
-      go (yes s) (suc k) l rec =
-          let z : b + suc k ≡ suc b + k = omega arith in
-          let m : suc k < suc (length (Judgement.cutsFrom low D f (cut (suc b)))) = subst (λ xs. suc k < length xs) (from f b s) l in
-          subst (λ k. cut k < D .deg) (sym z) (rec k (omega arith))
-      go (no s) k l rec = let m : k < 0 = subst (λ xs. k < length xs) (from-end (suc f) b (omega arith)) l in absurd (omega arith)
+  counted zero b k l = let m : k < 0 = unfold Judgement.cutsFrom in l in absurd (omega arith)
+  counted (suc f) b k l = by-cases (decLt (cut b) (D .deg)) (λ s.
+      let m : k < suc (length (Judgement.cutsFrom low D f (cut (suc b)))) = subst (λ xs. k < length xs) (from f b s) l in
+      by-cases (ℕ-discrete k 0) (λ e. let z : b ≡ b + k = omega arith in subst (λ k. cut k < D .deg) z s)
+      (λ e. let z : suc b + (k - 1) ≡ b + k = omega arith in subst (λ k. cut k < D .deg) z (counted f (suc b) (k - 1) (omega arith))))
+      (λ s. let m : k < 0 = subst (λ xs. k < length xs) (from-end (suc f) b (omega arith)) l in absurd (omega arith))
 
   -- a block begins within the columns
   pub cut-below : (b : ℕ) → b < length (Judgement.cuts low D) → cut b < D .deg
@@ -146,26 +130,11 @@ module _ (low : Level) (D : Rep) where
 
   each : (q : ℕ → Bool) → ((o : ℕ) → q o ≡ true → 0 < repOf low (D .ref 0 o) .deg) → (f b : ℕ) → all q (Judgement.cutsFrom low D f (cut b)) ≡ true
       → D .deg ≤ cut b + f → (b′ : ℕ) → b ≤ b′ → cut b′ < D .deg → q (cut b′) ≡ true
-  each q pos zero b h e b′ a l = absurd (omega (arith, mono b b′ a))
-    where
-      mono : (b b′ : ℕ) → b ≤ b′ → cut b ≤ cut b′
-      mono b b′ a = go (decLt b b′)
-        where
-          go : Dec (b < b′) → cut b ≤ cut b′
-          go (yes s) = omega (arith, cut-le b b′ s)
-          go (no s) = let z : b ≡ b′ = omega arith in subst (λ k. cut b ≤ cut k) z (omega arith)
-  each q pos (suc f) b h e b′ a l = go (decLt b b′) (each q pos f (suc b))
-    where
-      mono : (b b′ : ℕ) → b < b′ → cut b ≤ cut b′
-      mono b b′ s = omega (arith, cut-le b b′ s)
-
-      here : cut b < D .deg → (q (cut b) ≡ true) × (all q (Judgement.cutsFrom low D f (cut (suc b))) ≡ true)
-      here s = all-cons q (cut b) (Judgement.cutsFrom low D f (cut (suc b))) (ap (all q) (sym (from f b s)) ∙ h)
-
-      go : Dec (b < b′) → (all q (Judgement.cutsFrom low D f (cut (suc b))) ≡ true → D .deg ≤ cut (suc b) + f → (b′ : ℕ) → suc b ≤ b′
-          → cut b′ < D .deg → q (cut b′) ≡ true) → q (cut b′) ≡ true
-      go (yes s) rec = let (x, y) = here (omega (arith, mono b b′ s)) in rec y (omega (arith, cut-suc b, pos (cut b) x)) b′ s l
-      go (no s) rec = let z : b ≡ b′ = omega arith in subst (λ k. q (cut k) ≡ true) z (here (subst (λ k. cut k < D .deg) (sym z) l) .0)
+  each q pos zero b h e b′ a l = absurd (omega (arith, cut-mono b b′ a))
+  each q pos (suc f) b h e b′ a l =
+      let (x, y) = all-cons q (cut b) (Judgement.cutsFrom low D f (cut (suc b))) (ap (all q) (sym (from f b (omega (arith, cut-mono b b′ a)))) ∙ h) in
+      by-cases (decLt b b′) (λ s. each q pos f (suc b) y (omega (arith, cut-suc b, pos (cut b) x)) b′ s l)
+      (λ s. let z : b ≡ b′ = omega arith in subst (λ k. q (cut k) ≡ true) z x)
 
   -- what every cut passes, block b passes
   pub cuts-each : (q : ℕ → Bool) → ((o : ℕ) → q o ≡ true → 0 < repOf low (D .ref 0 o) .deg) → all q (Judgement.cuts low D) ≡ true → (b : ℕ)
@@ -173,13 +142,17 @@ module _ (low : Level) (D : Rep) where
   unfolding Judgement.cuts
   cuts-each q pos h b l = each q pos (D .deg) 0 (ap (λ o. all q (Judgement.cutsFrom low D (D .deg) o)) cut-zero ∙ h) (omega (arith, cut-zero)) b (omega arith) l
 
+  pub cuts-also : (p q : ℕ → Bool) → ((o : ℕ) → p o ≡ true → 0 < repOf low (D .ref 0 o) .deg) → all p (Judgement.cuts low D) ≡ true
+      → all q (Judgement.cuts low D) ≡ true → (b : ℕ) → cut b < D .deg → q (cut b) ≡ true
+  cuts-also p q pos h k b l = and-right (p (cut b)) (q (cut b))
+      (cuts-each (λ o. p o && q o) (λ o t. pos o (and-left (p o) (q o) t)) (all-both p q (Judgement.cuts low D) h k) b l)
+
   every : (q : ℕ → Bool) → ((b : ℕ) → cut b < D .deg → q (cut b) ≡ true) → (f b : ℕ) → all q (Judgement.cutsFrom low D f (cut b)) ≡ true
-  every q h zero b = unfold Judgement.cutsFrom all in refl
-  every q h (suc f) b = go (decLt (cut b) (D .deg)) (every q h f (suc b))
-    where
-      go : Dec (cut b < D .deg) → all q (Judgement.cutsFrom low D f (cut (suc b))) ≡ true → all q (Judgement.cutsFrom low D (suc f) (cut b)) ≡ true
-      go (yes s) rec = ap (all q) (from f b s) ∙ unfold all in (and-intro (q (cut b)) (all q (Judgement.cutsFrom low D f (cut (suc b)))) (h b s) rec)
-      go (no s) rec = ap (all q) (from-end (suc f) b (omega arith)) ∙ unfold all in refl
+  unfolding Judgement.cutsFrom all
+  every q h zero b = refl
+  every q h (suc f) b = by-cases (decLt (cut b) (D .deg))
+      (λ s. ap (all q) (from f b s) ∙ and-intro (q (cut b)) (all q (Judgement.cutsFrom low D f (cut (suc b)))) (h b s) (every q h f (suc b)))
+      (λ s. ap (all q) (from-end (suc f) b (omega arith)))
 
   -- what every block passes, every cut passes
   pub cuts-all : (q : ℕ → Bool) → ((b : ℕ) → cut b < D .deg → q (cut b) ≡ true) → all q (Judgement.cuts low D) ≡ true

@@ -7,10 +7,12 @@
 --   form-shows                the image of a normal form shows its map
 --   foreign-family            a family, where separation holds
 use mathlib.Core.Path.{_≡_, refl, sym, _∙_, ap, fun-ext}
-use mathlib.Core.Bool.{Bool, true, false, _&&_, _||_, not, false≢true}
+use mathlib.Core.Logic.{dite, dif-pos}
+use mathlib.Core.Bool.{Bool, true, false, _&&_, false≢true}
 use mathlib.Core.List.{List, [], _∷_, _++_, map}
 use Prim.Native.Nat.{ℕ, zero, suc, _%_, _≤_, _<_}
 use native.Mathlib.Omega.{arith}
+use native.Mathlib.Bridge.{le-prop}
 use native.Mathlib.Decide.{decLt}
 use lib.Dec.{eqb}
 use lib.ListN.{length}
@@ -21,7 +23,7 @@ use Rattle.definitions.specs.Presentation.{NF, Presentation, Valid, value}
 use Rattle.definitions.specs.Monomial.{col, product, Level, repOf, image, conjugate}
 use Rattle.definitions.specs.Table.{levelAt}
 use Rattle.definitions.specs.Judgement
-use Rattle.numbers.proofs.Bools.{and-left, and-right, OneOf, first, second, or-cases}
+use Rattle.numbers.proofs.Bools.{and-left, and-right, OneOf, first, second, or-cases, or-left, or-right}
 use Rattle.numbers.proofs.Lists.{allBelow-elim}
 use Rattle.group.specs.Context.{Context, Nf}
 use Rattle.group.specs.Models.{Hom, Satisfies, Model}
@@ -44,42 +46,30 @@ use Rattle.separation.specs.Fair.{Fair}
 any-append : {A : Type 0} (q : A → Bool) (xs ys : List A) → any q (xs ++ ys) ≡ true → OneOf (any q xs) (any q ys)
 unfolding any
 any-append q [] ys h = second h
-any-append q (x ∷ xs) ys h = go (q x) refl h (any-append q xs ys)
-  where
-    go : (b : Bool) → q x ≡ b → b || any q (xs ++ ys) ≡ true → (any q (xs ++ ys) ≡ true → OneOf (any q xs) (any q ys)) → OneOf (q x || any q xs) (any q ys)
-    go true e k r = first (ap (λ t. t || any q xs) e)
-    go false e k r = again (r k)
-      where
-        again : OneOf (any q xs) (any q ys) → OneOf (q x || any q xs) (any q ys)
-        again (first a) = first (ap (λ t. t || any q xs) e ∙ a)
-        again (second a) = second a
+any-append q (x ∷ xs) ys h = elim (or-cases (q x) (any q (xs ++ ys)) h) [
+  | first a ↦ first (or-left (q x) _ a)
+  | second a ↦ elim (any-append q xs ys a) [ first b ↦ first (or-right (q x) _ b) | second b ↦ second b ]
+]
 
 any-blocks : {A : Type 0} (q : A → Bool) (n : ℕ) (f : ℕ → List A) → any q (blocks n f) ≡ true → (k : ℕ) × (k < n) × (any q (f k) ≡ true)
 unfolding blocks any
 any-blocks q zero f h = absurd (false≢true h)
-any-blocks q (suc n) f h = go (any-append q (blocks n f) (f n) h) (any-blocks q n f)
-  where
-    go : OneOf (any q (blocks n f)) (any q (f n)) → (any q (blocks n f) ≡ true → (k : ℕ) × (k < n) × (any q (f k) ≡ true))
-        → (k : ℕ) × (k < suc n) × (any q (f k) ≡ true)
-    go (first a) r = let (k, l, e) = r a in (k, omega arith, e)
-    go (second a) r = (n, omega arith, a)
+any-blocks q (suc n) f h = elim (any-append q (blocks n f) (f n) h) [
+  | first a ↦ let (k, l, e) = any-blocks q n f a in (k, omega arith, e)
+  | second a ↦ (n, omega arith, a)
+]
 
 any-mapped : {A B : Type 0} (f : A → B) (q : B → Bool) (xs : List A) → any q (map f xs) ≡ true → any (λ x. q (f x)) xs ≡ true
 unfolding any
 any-mapped f q [] h = h
-any-mapped f q (x ∷ xs) h = go (q (f x)) (any-mapped f q xs) h
-  where
-    go : (b : Bool) → (any q (map f xs) ≡ true → any (λ x. q (f x)) xs ≡ true) → b || any q (map f xs) ≡ true → b || any (λ x. q (f x)) xs ≡ true
-    go true r k = refl
-    go false r k = r k
+any-mapped f q (x ∷ xs) h = elim (or-cases (q (f x)) (any q (map f xs)) h) [
+  | first a ↦ or-left (q (f x)) _ a
+  | second a ↦ or-right (q (f x)) _ (any-mapped f q xs a)
+]
 
 pub forms-any : (P : Presentation) (i : ℕ) (q : NF i → Bool) → any q (Judgement.allForms P i) ≡ true → (x : NF i) × Valid P i x × (q x ≡ true)
 unfolding Judgement.allForms any
-forms-any P zero q h = (tt, tt, one (or-cases (q tt) false h))
-  where
-    one : OneOf (q tt) false → q tt ≡ true
-    one (first a) = a
-    one (second a) = absurd (false≢true a)
+forms-any P zero q h = (tt, tt, elim (or-cases (q tt) false h) [ first a ↦ a | second a ↦ absurd (false≢true a) ])
 forms-any P (suc i) q h =
     let (e, l, a) = any-blocks q (P .p i) (λ e. map (λ (x : NF i). (e, x)) (Judgement.allForms P i)) h in
     let (x, v, t) = forms-any P i (λ x. q (e, x)) (any-mapped (λ (x : NF i). (e, x)) q (Judgement.allForms P i) a) in
@@ -89,24 +79,17 @@ forms-any P (suc i) q h =
 
 module _ (P : Presentation) (m : ℕ) (pos : 0 < m) (i : ℕ) (L : Level) (A : Fair P m i L) where
   -- the map of generator k, and the identity beyond the level
-  step : (k : ℕ) → Dec (k < i) → Map (residues m pos) (Basis L)
-  step k (yes l) x =
+  pub D : ℕ → Map (residues m pos) (Basis L)
+  D k = dite (decLt k i) (λ l x.
       let y = col (repOf L (x .0 .0) .matrix k) (x .0 .1) in (
         ((x .0 .0, y .row), (x .1 .0, A .row-below (x .0 .0) k (x .0 .1) (x .1 .0) l (x .1 .1))),
         (y .exp, A .exp-below (x .0 .0) k (x .0 .1) (x .1 .0) l (x .1 .1)),
-      )
-  step k (no l) x = maps (residues m pos) (Basis L) .one x
-
-  pub D : ℕ → Map (residues m pos) (Basis L)
-  D k = step k (decLt k i)
+      )) (λ l. maps (residues m pos) (Basis L) .one)
 
   pub D-shows : (r k : ℕ) → r < length L → k < i → Shows m (basis-frame L) r r (repOf L r .matrix k) (D k)
-  unfolding D step
-  D-shows r k h l = go (decLt k i)
-    where
-      go : (d : Dec (k < i)) → Shows m (basis-frame L) r r (repOf L r .matrix k) (step k d)
-      go (yes a) = record { size = A .size r k h l; maps-to = λ x e. e; shown = λ x e. ap (λ s. col (repOf L s .matrix k) (x .0 .1)) (sym e) }
-      go (no a) = absurd (a l)
+  unfolding D
+  D-shows r k h l = rw (dif-pos (decLt k i) le-prop l)
+      (record { size = A .size r k h l; maps-to = λ x e. e; shown = λ x e. ap (λ s. col (repOf L s .matrix k) (x .0 .1)) (sym e) })
 
   abbrev pub word : (k : ℕ) → NF k → Map (residues m pos) (Basis L)
   word k x = value (maps (residues m pos) (Basis L)) D k x
@@ -186,19 +169,13 @@ module _ (C : Context) (tests : (k : ℕ) → k < C .P .n → Test C k) (m : ℕ
       let sh = form-shows C m pos i L A r h (w, v) in
       ((w, v), basis-path L _ x (sh .maps-to (start x) refl) (ap (λ (y : Entry). y .row) (sym (sh .shown (start x) refl)) ∙ eqb-true _ _ e))
 
-  to-start : (x : X) → (w : Nf C i) × ((act w x) .0 ≡ start x)
-  to-start x =
-      let (w, e) = from-start x in (
-        inverse C i w,
-        ap (λ z. (act (inverse C i w) z) .0) (sym e)
-            ∙ ap (λ z. z .0) (sym (at-mul (residues m pos) (act (inverse C i w)) (act w) (start x))
-            ∙ at-column (residues m pos) (sym (hom .on-mul _ _) ∙ ap act (inverse-left T i l w) ∙ hom .on-one) (start x) ∙ at-one (residues m pos) (start x)),
-      )
-
   pub reached : (x y : Basis (levelAt (C .P .n) table i)) → x .0 .0 ≡ y .0 .0 → (w : Nf C i) × ((d C m pos i (levelAt (C .P .n) table i) A w x) .0 ≡ y)
   unfolding start
   reached x y q =
-      let (a, e) = to-start x in
+      let (w, e₀) = from-start x in
+      let a : Nf C i = inverse C i w in
+      let e : (act a x) .0 ≡ start x = ap (λ z. (act a z) .0) (sym e₀) ∙ ap (λ z. z .0) (sym (at-mul (residues m pos) (act a) (act w) (start x))
+      ∙ at-column (residues m pos) (sym (hom .on-mul _ _) ∙ ap act (inverse-left T i l w) ∙ hom .on-one) (start x) ∙ at-one (residues m pos) (start x)) in
       let (b, e′) = from-start y in (
         level C i .mul b a,
         ap (λ z. z .0) (at-column (residues m pos) (hom .on-mul b a) x ∙ at-mul (residues m pos) (act b) (act a) x)
@@ -212,8 +189,23 @@ module _ (C : Context) (tests : (k : ℕ) → k < C .P .n → Test C k) (m : ℕ
       let r : ℕ = x .0 .0 in
       let h : r < length L = x .1 .0 in
       let all = and-right (Judgement.reaches (C .P) m table i (repOf L r) (x .0 .1)) _ (allBelow-elim (repOf L r .deg) _ (separates r h) (x .0 .1) (x .1 .1)) in
-      go (or-cases (eqb r (y .0 .0) && eqb (x .0 .1) (y .0 .1)) _
-      (allBelow-elim (repOf L (y .0 .0) .deg) _ (allBelow-elim (length L) _ all (y .0 .0) (y .1 .0)) (y .0 .1) (y .1 .1)))
+      elim (or-cases (eqb r (y .0 .0) && eqb (x .0 .1) (y .0 .1)) _
+      (allBelow-elim (repOf L (y .0 .0) .deg) _ (allBelow-elim (length L) _ all (y .0 .0) (y .1 .0)) (y .0 .1) (y .1 .1))) [
+        | first e ↦ absurd (ne (basis-path L x y (eqb-true _ _ (and-left (eqb r (y .0 .0)) _ e)) (eqb-true _ _ (and-right (eqb r (y .0 .0)) _ e))))
+        | second e ↦
+            let (w, v, t) = forms-any (C .P) i _ e in
+            let stays : X → Bool = λ x. eqb (col (image m (repOf L (x .0 .0)) i w) (x .0 .1) .row) (x .0 .1) in
+            let both = and-left (stays x && stays y) _ t in
+            let other = not-true _ (and-right (stays x && stays y) _ t) in
+            record {
+              by = (w, v);
+              x = (act (w, v) x) .1;
+              y = (act (w, v) y) .1;
+              fixes = fixes x (w, v) (and-left (stays x) _ both);
+              fixes′ = fixes y (w, v) (and-right (stays x) _ both);
+              differ = λ e. eqb-false _ _ other (ap (λ z. z % m) (value-is x (w, v) ∙ ap (λ z. z .0) e ∙ sym (value-is y (w, v))));
+            }
+      ]
     where
       fixes : (x : X) (w : Nf C i) → eqb (col (image m (repOf L (x .0 .0)) i (w .0)) (x .0 .1) .row) (x .0 .1) ≡ true → act w x ≡ (x, (act w x) .1)
       fixes x w e =
@@ -222,31 +214,6 @@ module _ (C : Context) (tests : (k : ℕ) → k < C .P .n → Test C k) (m : ℕ
 
       value-is : (x : X) (w : Nf C i) → col (image m (repOf L (x .0 .0)) i (w .0)) (x .0 .1) .exp ≡ (act w x) .1 .0
       value-is x w = ap (λ (y : Entry). y .exp) (form-shows C m pos i L A (x .0 .0) (x .1 .0) w .shown x refl)
-
-      by-form : (w : NF i) (v : Valid (C .P) i w)
-          → eqb (col (image m (repOf L (x .0 .0)) i w) (x .0 .1) .row) (x .0 .1) && eqb (col (image m (repOf L (y .0 .0)) i w) (y .0 .1) .row) (y .0 .1)
-          && not (eqb (col (image m (repOf L (x .0 .0)) i w) (x .0 .1) .exp % m) (col (image m (repOf L (y .0 .0)) i w) (y .0 .1) .exp % m)) ≡ true
-          → Separated (residues m pos) X act x y
-      by-form w v t =
-          let ab = and-left (eqb (col (image m (repOf L (x .0 .0)) i w) (x .0 .1) .row) (x .0 .1)
-          && eqb (col (image m (repOf L (y .0 .0)) i w) (y .0 .1) .row) (y .0 .1)) _ t in
-          let c = and-right (eqb (col (image m (repOf L (x .0 .0)) i w) (x .0 .1) .row) (x .0 .1)
-          && eqb (col (image m (repOf L (y .0 .0)) i w) (y .0 .1) .row) (y .0 .1)) _ t in
-          record {
-            by = (w, v);
-            x = (act (w, v) x) .1;
-            y = (act (w, v) y) .1;
-            fixes = fixes x (w, v) (and-left (eqb (col (image m (repOf L (x .0 .0)) i w) (x .0 .1) .row) (x .0 .1)) _ ab);
-            fixes′ = fixes y (w, v) (and-right (eqb (col (image m (repOf L (x .0 .0)) i w) (x .0 .1) .row) (x .0 .1)) _ ab);
-            differ = λ e. eqb-false _ _ (not-true _ c) (ap (λ z. z % m) (value-is x (w, v) ∙ ap (λ z. z .0) e ∙ sym (value-is y (w, v))));
-          }
-
-      go : OneOf (eqb (x .0 .0) (y .0 .0) && eqb (x .0 .1) (y .0 .1))
-          (any (Judgement.tells (C .P) m table i (repOf L (x .0 .0)) (x .0 .1) (repOf L (y .0 .0)) (y .0 .1)) (Judgement.allForms (C .P) i))
-          → Separated (residues m pos) X act x y
-      go (first e) = absurd
-          (ne (basis-path L x y (eqb-true _ _ (and-left (eqb (x .0 .0) (y .0 .0)) _ e)) (eqb-true _ _ (and-right (eqb (x .0 .0) (y .0 .0)) _ e))))
-      go (second e) = let (w, v, t) = forms-any (C .P) i _ e in by-form w v t
 
   abbrev pub foreign-family : Family (residues m pos) (Basis (levelAt (C .P .n) table i)) (level C i) (conjNf C i) i i
   foreign-family = record {

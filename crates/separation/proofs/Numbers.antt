@@ -3,15 +3,15 @@
 --   count-end, starts, passes-at, block-below, count-pos      the blocks of a representation
 --   at-block, first-index                                     the first basis index of a block; of a representation
 --   Stays                                                     the generator takes a basis index into its own block
---   Z-rep, Z-row, Z-exp                                       the generator at the first column
+--   G-rep, G-row, G-exp                                       the generator at the first column
 --   outside-moves, moves-outside                              column 0 leaves its block exactly if the block moves
 --   powers-inject                                             the powers of the generator on a block that moves
 use mathlib.Core.Path.{_≡_, refl, sym, _∙_, ap, ap₂, subst}
+use mathlib.Core.Logic.{by-cases}
 use mathlib.Core.Bool.{true}
 use Prim.Native.Nat.{ℕ, suc, _≤_, _<_}
 use native.Mathlib.Omega.{arith}
 use native.Mathlib.Decide.{decLt, ℕ-discrete}
-use lib.Dec.{leb}
 use lib.ListN.{length}
 use borrow.Author.Tests.{le-leb, leb-true}
 use Rattle.definitions.specs.declared.Entry.{Entry}
@@ -50,12 +50,8 @@ module _ (W : Two) where
   passes-at r b h l = cuts-each (Low W) (Rp W r) (passing W r) (wide W r) (all-pass W r h) b (starts r b l)
 
   pub begins-below : (r b : ℕ) → r < length (High W) → cut (Low W) (Rp W r) b < Rp W r .deg → b < count r
-  begins-below r b h l = go (decLt b (count r)) (decLt (count r) b)
-    where
-      go : Dec (b < count r) → Dec (count r < b) → b < count r
-      go (yes a) e = a
-      go (no a) (yes e) = absurd (omega (arith, count-end r h, cut-le (Low W) (Rp W r) (count r) b e))
-      go (no a) (no e) = let z : b ≡ count r = omega arith in absurd (omega (arith, count-end r h, ap (cut (Low W) (Rp W r)) z))
+  begins-below r b h l = by-cases (decLt (count r) b) (λ a. omega (arith, count-end r h, cut-le (Low W) (Rp W r) (count r) b a))
+      (λ a. by-cases (ℕ-discrete b (count r)) (λ e. omega (arith, count-end r h, ap (cut (Low W) (Rp W r)) e)) (λ e. omega arith))
 
   pub block-below : (x : Ω⁺ W) → locate W x .b < count (x .0 .0)
   block-below x = begins-below (x .0 .0) (locate W x .b) (x .1 .0) (omega (arith, locate W x .is, x .1 .1))
@@ -85,13 +81,6 @@ module _ (W : Two) where
   abbrev pub Gᵏ : ℕ → Map (residues m pos) (Ω⁺ W)
   Gᵏ = Zᵏ (S W) (F W) (blocked W)
 
-  top-is : G ≡ D (P W) m pos (suc i) (High W) fair i
-  unfolding d top
-  top-is =
-      value-suc (maps (residues m pos) (Ω⁺ W)) (D (P W) m pos (suc i) (High W) fair) i _
-      ∙ ap₂ (maps (residues m pos) (Ω⁺ W) .mul) (power-one (maps-laws (residues m pos)) _)
-      (value-trivial (maps-laws (residues m pos)) (D (P W) m pos (suc i) (High W) fair) i) ∙ maps-laws (residues m pos) .idr _
-
   pub form-rep : (w : Nf C (suc i)) (x : Ω⁺ W) → (d C m pos (suc i) (High W) fair w x) .0 .0 .0 ≡ x .0 .0
   form-rep w x = form-shows C m pos (suc i) (High W) fair (x .0 .0) (x .1 .0) w .maps-to x refl
 
@@ -103,7 +92,11 @@ module _ (W : Two) where
       ∙ form-rep (power (level C (suc i)) (top C i) e) x
 
   first-shown : (r : ℕ) (h : r < length (High W)) → col (Rp W r .matrix i) 0 ≡ entry ((G (first-index r h)) .0 .0 .1) ((G (first-index r h)) .1 .0)
+  unfolding d top
   first-shown r h =
+      let top-is : G ≡ D (P W) m pos (suc i) (High W) fair i = value-suc (maps (residues m pos) (Ω⁺ W)) (D (P W) m pos (suc i) (High W) fair) i _
+      ∙ ap₂ (maps (residues m pos) (Ω⁺ W) .mul) (power-one (maps-laws (residues m pos)) _)
+      (value-trivial (maps-laws (residues m pos)) (D (P W) m pos (suc i) (High W) fair) i) ∙ maps-laws (residues m pos) .idr _ in
       D-shows (P W) m pos (suc i) (High W) fair r i h (omega arith) .shown (first-index r h) refl
       ∙ ap (λ (M : Map (residues m pos) (Ω⁺ W)). entry ((M (first-index r h)) .0 .0 .1) ((M (first-index r h)) .1 .0)) (sym top-is)
 
@@ -125,11 +118,8 @@ module _ (W : Two) where
   Stays x = block ((G x) .0) ≡ block x
 
   pub stays? : (x : Ω⁺ W) → Dec (Stays x)
-  stays? x = go (ℕ-discrete (locate W ((G x) .0) .b) (locate W x .b))
-    where
-      go : Dec (locate W ((G x) .0) .b ≡ locate W x .b) → Dec (Stays x)
-      go (yes e) = yes (same-block ((G x) .0) x (G-rep x) e)
-      go (no e) = no (λ q. e (ap (λ z. z .1) q))
+  stays? x = by-cases (ℕ-discrete (locate W ((G x) .0) .b) (locate W x .b)) (λ e. yes (same-block ((G x) .0) x (G-rep x) e))
+      (λ e. no (λ q. e (ap (λ z. z .1) q)))
 
   width-zero : (r : ℕ) → width (Low W) (Rp W r) 0 ≡ repOf (Low W) (Rp W r .ref 0 0) .deg
   width-zero r = ap (λ o. repOf (Low W) (Rp W r .ref 0 o) .deg) (cut-zero (Low W) (Rp W r))
@@ -148,40 +138,25 @@ module _ (W : Two) where
 
   pub moves-outside : (r : ℕ) (h : r < length (High W)) → ¬ Stays (first-index r h) → outside (P W) table i r ≡ true
   unfolding outside
-  moves-outside r h mv = go (decLt (col (Rp W r .matrix i) 0 .row) (repOf (Low W) (Rp W r .ref 0 0) .deg))
-    where
-      y : Ω⁺ W
-      y = (G (first-index r h)) .0
-
-      ry : y .0 .0 ≡ r
-      ry = G-rep (first-index r h)
-
-      go : Dec (col (Rp W r .matrix i) 0 .row < repOf (Low W) (Rp W r .ref 0 0) .deg)
-          → leb (repOf (Low W) (Rp W r .ref 0 0) .deg) (col (Rp W r .matrix i) 0 .row) ≡ true
-      go (yes l) =
-          let inside : y .0 .1 < width (Low W) (Rp W (y .0 .0)) 0 = subst (λ s. y .0 .1 < width (Low W) (Rp W s) 0) (sym ry)
-          (omega (arith, width-zero r, G-row r h)) in
-          let zero-b : locate W y .b ≡ 0 = locate-is W y 0 (y .0 .1) inside (omega (arith, cut-zero (Low W) (Rp W (y .0 .0)))) .0 in
-          absurd (mv (same-block y (first-index r h) ry (zero-b ∙ sym (first-located r h .0))))
-      go (no l) = le-leb (repOf (Low W) (Rp W r .ref 0 0) .deg) (col (Rp W r .matrix i) 0 .row) (omega arith)
+  moves-outside r h mv = by-cases (decLt (col (Rp W r .matrix i) 0 .row) (repOf (Low W) (Rp W r .ref 0 0) .deg)) (λ l.
+      let y : Ω⁺ W = (G (first-index r h)) .0 in
+      let ry : y .0 .0 ≡ r = G-rep (first-index r h) in
+      let inside : y .0 .1 < width (Low W) (Rp W (y .0 .0)) 0 = subst (λ s. y .0 .1 < width (Low W) (Rp W s) 0) (sym ry)
+      (omega (arith, width-zero r, G-row r h)) in
+      let zero-b : locate W y .b ≡ 0 = locate-is W y 0 (y .0 .1) inside (omega (arith, cut-zero (Low W) (Rp W (y .0 .0)))) .0 in
+      absurd (mv (same-block y (first-index r h) ry (zero-b ∙ sym (first-located r h .0)))))
+      (λ l. le-leb (repOf (Low W) (Rp W r .ref 0 0) .deg) (col (Rp W r .matrix i) 0 .row) (omega arith))
 
   -- ---- The powers on a block that moves
 
   pub powers-inject : (r : ℕ) (h : r < length (High W)) → ¬ Stays (first-index r h)
       → Injects (P W .p i) (count r) (λ e. locate W ((Gᵏ e (first-index r h)) .0) .b)
   powers-inject r h mv =
+      let x : Ω⁺ W = first-index r h in
+      let differ : (e e′ : ℕ) → e < e′ → e′ < P W .p i → locate W ((Gᵏ e x) .0) .b ≡ locate W ((Gᵏ e′ x) .0) .b → ⊥ = λ e e′ a l q.
+      powers-differ (S W) (F W) (blocked W) x mv e e′ a l (same-block ((Gᵏ e x) .0) ((Gᵏ e′ x) .0) (Gᵏ-rep e x ∙ sym (Gᵏ-rep e′ x)) q) in
       record {
         below = λ e l. subst (λ s. locate W ((Gᵏ e x) .0) .b < count s) (Gᵏ-rep e x) (block-below ((Gᵏ e x) .0));
-        injective = λ e e′ l l′ q. go e e′ l l′ q (decLt e e′) (decLt e′ e);
+        injective = λ e e′ l l′ q. by-cases (decLt e e′) (λ a. absurd (differ e e′ a l′ q))
+            (λ a. by-cases (decLt e′ e) (λ b. absurd (differ e′ e b l (sym q))) (λ b. omega arith));
       }
-    where
-      x : Ω⁺ W
-      x = first-index r h
-
-      same : (e e′ : ℕ) → locate W ((Gᵏ e x) .0) .b ≡ locate W ((Gᵏ e′ x) .0) .b → block ((Gᵏ e x) .0) ≡ block ((Gᵏ e′ x) .0)
-      same e e′ q = same-block ((Gᵏ e x) .0) ((Gᵏ e′ x) .0) (Gᵏ-rep e x ∙ sym (Gᵏ-rep e′ x)) q
-
-      go : (e e′ : ℕ) → e < P W .p i → e′ < P W .p i → locate W ((Gᵏ e x) .0) .b ≡ locate W ((Gᵏ e′ x) .0) .b → Dec (e < e′) → Dec (e′ < e) → e ≡ e′
-      go e e′ l l′ q (yes a) d = absurd (powers-differ (S W) (F W) (blocked W) x mv e e′ a l′ (same e e′ q))
-      go e e′ l l′ q (no a) (yes b) = absurd (powers-differ (S W) (F W) (blocked W) x mv e′ e b l (same e′ e (sym q)))
-      go e e′ l l′ q (no a) (no b) = omega arith

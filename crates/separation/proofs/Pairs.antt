@@ -1,20 +1,23 @@
 -- The quick test by pairs of representations, the later one outside.
 --
 --   unshared-sym, differs-sym     what is asked of two representations is asked of both alike
+--   parted-one, one-parted        what the quick test asks of a representation of one block
+--   Many, parted-many, many-parted      and of one of more
 --   quick-pairs                   the quick test is the test of pairs
 use mathlib.Core.Path.{_≡_, refl, sym, _∙_, ap, ap₂, subst}
-use mathlib.Core.Bool.{Bool, true, false, _&&_, _||_, not}
+use mathlib.Core.Logic.{by-cases}
+use mathlib.Core.Bool.{Bool, true, false, _&&_, _||_, not, true≢false}
 use mathlib.Core.List.{List, [], _∷_}
 use Prim.Native.Nat.{ℕ, _<_}
 use native.Mathlib.Omega.{arith}
 use native.Mathlib.Decide.{decLt, ℕ-discrete}
 use lib.Dec.{eqb}
 use lib.ListN.{length}
-use borrow.Author.Tests.{eqb-true, eqb-false, eq-eqb, ne-eqb}
+use borrow.Author.Tests.{eqb-true, eq-eqb, ne-eqb}
 use Rattle.definitions.specs.Lists.{allBelow, all}
 use Rattle.definitions.specs.Presentation.{Presentation}
 use Rattle.definitions.specs.Monomial.{col, repOf}
-use Rattle.numbers.proofs.Bools.{and-left, and-right, and-intro, and-last, OneOf, first, second, or-cases, or-left, or-right, cond-true, cond-false, same-test}
+use Rattle.numbers.proofs.Bools.{and-left, and-right, and-intro, and-last, first, second, or-cases, or-left, or-right, cond-true, cond-false, same-test}
 use Rattle.numbers.proofs.Lists.{allBelow-elim, allBelow-intro}
 use Rattle.separation.specs.Decision.{upper, reference, blockStarts, blockCount, outside, unshared, differs, parted, quick, own, apart, pairwise}
 
@@ -34,11 +37,7 @@ all-swap f xs (y ∷ ys) h =
     (all-swap f xs ys (all-map _ _ xs (λ x a. and-right (f x y) (all (f x) ys) a) h))
 
 pub eqb-sym : (a b : ℕ) → eqb a b ≡ eqb b a
-eqb-sym a b = go (ℕ-discrete a b)
-  where
-    go : Dec (a ≡ b) → eqb a b ≡ eqb b a
-    go (yes e) = eq-eqb a b e ∙ sym (eq-eqb b a (sym e))
-    go (no e) = ne-eqb a b e ∙ sym (ne-eqb b a (λ q. e (sym q)))
+eqb-sym a b = same-test _ _ (λ h. eq-eqb b a (sym (eqb-true a b h))) (λ h. eq-eqb a b (sym (eqb-true b a h)))
 
 module _ (P : Presentation) (table : List ℕ) (i : ℕ) where
   abbrev N : ℕ
@@ -65,19 +64,19 @@ module _ (P : Presentation) (table : List ℕ) (i : ℕ) where
 
   -- ---- From one to the other
 
-  parted-one : (r : ℕ) → parted P table i r ≡ true → one r ≡ true → (r′ : ℕ) → r′ < N → ¬ (r ≡ r′) → one r′ ≡ true → differs P table i r r′ ≡ true
+  pub parted-one : (r : ℕ) → parted P table i r ≡ true → one r ≡ true → (r′ : ℕ) → r′ < N → ¬ (r ≡ r′) → one r′ ≡ true → differs P table i r r′ ≡ true
   unfolding parted
   parted-one r h e r′ l ne e′ =
       let a = sym (cond-true (one r) _ _ e) ∙ h in
       let b : eqb r r′ || not (one r′) || differs P table i r r′ ≡ true = allBelow-elim N _ a r′ l in
       sym (ap₂ (λ x y. x || not y || differs P table i r r′) (ne-eqb r r′ ne) e′) ∙ b
 
-  record Many (r : ℕ) : Type 0 where
-    count : eqb (blockCount P table i r) (P .p i) ≡ true
-    moved : outside P table i r ≡ true
-    alone : (r′ : ℕ) → r′ < N → unshared P table i r r′ ≡ true
+  pub record Many (r : ℕ) : Type 0 where
+    pub count : eqb (blockCount P table i r) (P .p i) ≡ true
+    pub moved : outside P table i r ≡ true
+    pub alone : (r′ : ℕ) → r′ < N → unshared P table i r r′ ≡ true
 
-  parted-many : (r : ℕ) → parted P table i r ≡ true → one r ≡ false → Many r
+  pub parted-many : (r : ℕ) → parted P table i r ≡ true → one r ≡ false → Many r
   unfolding parted
   parted-many r h e =
       let a = sym (cond-false (one r) _ _ e) ∙ h in
@@ -85,16 +84,14 @@ module _ (P : Presentation) (table : List ℕ) (i : ℕ) where
       let b = and-left (c && outside P table i r) _ a in
       record { count = and-left c _ b; moved = and-right c _ b; alone = allBelow-elim N _ (and-right (c && outside P table i r) _ a) }
 
-  one-parted : (r : ℕ) → one r ≡ true → ((r′ : ℕ) → r′ < N → ¬ (r ≡ r′) → one r′ ≡ true → differs P table i r r′ ≡ true) → parted P table i r ≡ true
+  pub one-parted : (r : ℕ) → one r ≡ true → ((r′ : ℕ) → r′ < N → ¬ (r ≡ r′) → one r′ ≡ true → differs P table i r r′ ≡ true) → parted P table i r ≡ true
   unfolding parted
-  one-parted r e h = cond-true (one r) _ _ e ∙ allBelow-intro N _ (λ r′ l. go r′ l (ℕ-discrete r r′) (one r′) refl)
-    where
-      go : (r′ : ℕ) → r′ < N → Dec (r ≡ r′) → (b : Bool) → one r′ ≡ b → eqb r r′ || not (one r′) || differs P table i r r′ ≡ true
-      go r′ l (yes q) b e′ = or-left (eqb r r′ || not (one r′)) _ (or-left (eqb r r′) _ (eq-eqb r r′ q))
-      go r′ l (no q) true e′ = or-right (eqb r r′ || not (one r′)) _ (h r′ l q e′)
-      go r′ l (no q) false e′ = or-left (eqb r r′ || not (one r′)) _ (or-right (eqb r r′) _ (ap not e′))
+  one-parted r e h = cond-true (one r) _ _ e ∙ allBelow-intro N _ (λ r′ l.
+      by-cases (ℕ-discrete r r′) (λ q. or-left (eqb r r′ || not (one r′)) _ (or-left (eqb r r′) _ (eq-eqb r r′ q))) (λ q.
+      by-cases (ℕ-discrete (blockCount P table i r′) 1) (λ e′. or-right (eqb r r′ || not (one r′)) _ (h r′ l q (eq-eqb _ 1 e′)))
+      (λ e′. or-left (eqb r r′ || not (one r′)) _ (or-right (eqb r r′) _ (ap not (ne-eqb _ 1 e′))))))
 
-  many-parted : (r : ℕ) → one r ≡ false → Many r → parted P table i r ≡ true
+  pub many-parted : (r : ℕ) → one r ≡ false → Many r → parted P table i r ≡ true
   unfolding parted
   many-parted r e M = cond-false (one r) _ _ e ∙ and-intro _ _ (and-intro _ _ (M .count) (M .moved)) (allBelow-intro N _ (M .alone))
 
@@ -109,23 +106,19 @@ module _ (P : Presentation) (table : List ℕ) (i : ℕ) where
   abbrev several : ℕ → Bool
   several r = eqb (blockCount P table i r) (P .p i) && outside P table i r && unshared P table i r r
 
-  own-cases : (r : ℕ) → own P table i r ≡ true → OneOf (one r) (several r)
-  unfolding own
-  own-cases r h = or-cases (one r) (several r) h
-
-  quick-all : quick P table i ≡ true → (r : ℕ) → r < N → parted P table i r ≡ true
+  pub quick-all : quick P table i ≡ true → (r : ℕ) → r < N → parted P table i r ≡ true
   unfolding quick
   quick-all h = allBelow-elim N _ h
 
   there : quick P table i ≡ true → pairwise P table i ≡ true
-  unfolding pairwise
+  unfolding pairwise own
   there h = allBelow-intro N _ (λ r′ l. and-intro _ _ (its-own r′ l (one r′) refl) (allBelow-intro r′ _ (λ r a. pair r r′ a l (one r) (one r′) refl refl)))
     where
       its-own : (r : ℕ) → r < N → (b : Bool) → one r ≡ b → own P table i r ≡ true
-      its-own r l true e = unfold own in (or-left (one r) _ e)
+      its-own r l true e = or-left (one r) _ e
       its-own r l false e =
           let M = parted-many r (quick-all h r l) e in
-          unfold own in (or-right (one r) _ (and-intro _ _ (and-intro _ _ (M .count) (M .moved)) (M .alone r l)))
+          or-right (one r) _ (and-intro _ _ (and-intro _ _ (M .count) (M .moved)) (M .alone r l))
 
       pair : (r r′ : ℕ) → r < r′ → r′ < N → (b b′ : Bool) → one r ≡ b → one r′ ≡ b′ → apart P table i r r′ ≡ true
       pair r r′ a l true true e e′ = apart-one r r′ e e′ ∙ parted-one r (quick-all h r (omega arith)) e r′ l (λ q. omega (arith, q)) e′
@@ -134,7 +127,7 @@ module _ (P : Presentation) (table : List ℕ) (i : ℕ) where
       pair r r′ a l false b′ e e′ = apart-many r r′ (ap (λ x. x && one r′) e) ∙ parted-many r (quick-all h r (omega arith)) e .alone r′ l
 
   back : pairwise P table i ≡ true → quick P table i ≡ true
-  unfolding pairwise quick
+  unfolding pairwise quick own
   back h = allBelow-intro N _ (λ r l. go r l (one r) refl)
     where
       each : (r : ℕ) → r < N → own P table i r && allBelow r (λ q. apart P table i q r) ≡ true
@@ -144,11 +137,10 @@ module _ (P : Presentation) (table : List ℕ) (i : ℕ) where
       pair r r′ a l = allBelow-elim r′ _ (and-right (own P table i r′) _ (each r′ l)) r a
 
       itself : (r : ℕ) → r < N → one r ≡ false → several r ≡ true
-      itself r l e = go (own-cases r (and-left (own P table i r) (allBelow r (λ q. apart P table i q r)) (each r l)))
-        where
-          go : OneOf (one r) (several r) → several r ≡ true
-          go (first x) = absurd (eqb-false (blockCount P table i r) 1 e (eqb-true (blockCount P table i r) 1 x))
-          go (second x) = x
+      itself r l e = elim (or-cases (one r) (several r) (and-left (own P table i r) (allBelow r (λ q. apart P table i q r)) (each r l))) [
+        | first x ↦ absurd (true≢false (sym x ∙ e))
+        | second x ↦ x
+      ]
 
       differ : (r r′ : ℕ) → r < N → r′ < N → ¬ (r ≡ r′) → one r ≡ true → one r′ ≡ true → Dec (r < r′) → differs P table i r r′ ≡ true
       differ r r′ a b ne e e′ (yes l) = sym (apart-one r r′ e e′) ∙ pair r r′ l b

@@ -24,7 +24,7 @@ use Rattle.monomial.proofs.Frames.{entry-path}
 use Rattle.separation.specs.Relations.{topRelations}
 use Rattle.separation.proofs.Cutting.{all-both, cut, cut-at}
 use Rattle.separation.proofs.Within.{WithinMatrix, within-mul, within-power, within-value, within-same}
-use Rattle.separation.proofs.Walk.{valid-parts, valid-columns, whole-at, acts-at}
+use Rattle.separation.proofs.Walk.{relations-part, valid-parts, valid-columns, whole-at, acts-at}
 
 pub on-top : (P : Presentation) (m : ℕ) (table : List ℕ) (i : ℕ) (D : Rep) → Judgement.relationsHold P m table (suc i) D ≡ true
     → topRelations P m table (suc i) D ≡ true
@@ -33,11 +33,8 @@ on-top P m table i D t = and-right (allBelow i (λ j. Judgement.powerHolds P m t
 
 module _ (C : Context) (m : ℕ) (table : List ℕ) (formed : Judgement.malformed (C .P) m table ≡ false)
     (restrictions : Judgement.restrictionFails (C .P) m table ≡ false) where
-  abbrev P : Presentation
-  P = C .P
-
-  abbrev n : ℕ
-  n = C .P .n
+  open Context C using (P)
+  open Presentation P using (n)
 
   abbrev Lv : ℕ → Level
   Lv = levelAt n table
@@ -117,18 +114,11 @@ module _ (C : Context) (m : ℕ) (table : List ℕ) (formed : Judgement.malforme
         (q .κ) (q .inside))))
 
     module _ (relations : (r : ℕ) → r < length (Lv (suc i)) → Judgement.relationsHold P m table (suc i) (repOf (Lv (suc i)) r) ≡ true) where
-      holds-below : (o : ℕ) → passing o ≡ true → (j : ℕ) → j < suc i → (Judgement.powerHolds P m table (below o) j ≡ true)
-          × ((k : ℕ) → k < j → Judgement.commutatorHolds P m table (below o) k j ≡ true)
-      unfolding Judgement.relationsHold
-      holds-below o t j a =
-          let s = allBelow-elim (suc i) _ (relations (D .ref 0 o) (listed o t)) j a in
-          (and-left (Judgement.powerHolds P m table (below o) j) _ s, λ k b. allBelow-elim j _ (and-right (Judgement.powerHolds P m table (below o) j) _ s) k b)
-
       pub lower-power : (j : ℕ) → j < suc i → Judgement.powerHolds (C .P) m table (repOf (levelAt (C .P .n) table (suc (suc i))) r) j ≡ true
       unfolding Judgement.powerHolds
       lower-power j a = blocks-same _ _ (λ o. power (matrices m (below o .deg)) (below o .matrix j) (P .p j)) (λ o. image m (below o) j (P .u j))
           (λ o t. within-power m o (below o .deg) (D .deg) (fits o t) (D .matrix j) (below o .matrix j) (generator-within o t j a) (P .p j))
-          (λ o t. word-within o t j (omega arith) (P .u j)) (λ o t. holds-below o t j a .0)
+          (λ o t. word-within o t j (omega arith) (P .u j)) (λ o t. relations-part P m table (suc i) (below o) (relations (D .ref 0 o) (listed o t)) j a .0)
 
       pub lower-commutator : (k j : ℕ) → k < j → j < suc i
           → Judgement.commutatorHolds (C .P) m table (repOf (levelAt (C .P .n) table (suc (suc i))) r) k j ≡ true
@@ -138,7 +128,7 @@ module _ (C : Context) (m : ℕ) (table : List ℕ) (formed : Judgement.malforme
           (λ o t. within-mul m o (below o .deg) (D .deg) (fits o t) _ _ _ _ (generator-within o t k (omega arith)) (generator-within o t j a))
           (λ o t. within-mul m o (below o .deg) (D .deg) (fits o t) _ _ _ _ (generator-within o t j a)
           (within-mul m o (below o .deg) (D .deg) (fits o t) _ _ _ _ (generator-within o t k (omega arith)) (word-within o t (suc k) (omega arith) (P .w k j))))
-          (λ o t. holds-below o t j a .1 k b)
+          (λ o t. relations-part P m table (suc i) (below o) (relations (D .ref 0 o) (listed o t)) j a .1 k b)
 
   -- ---- All levels
 

@@ -118,14 +118,8 @@ module _ (W : Two) where
 
   -- ---- Generators below act as below
 
-  acts : (r o k c : ℕ) → passing r o ≡ true → k < i → c < repOf Low (Rp r .ref 0 o) .deg
-      → sameEntry m (col (Rp r .matrix k) (o + c))
-      (entry (o + col (repOf Low (Rp r .ref 0 o) .matrix k) c .row) (col (repOf Low (Rp r .ref 0 o) .matrix k) c .exp)) ≡ true
-  unfolding passing Judgement.blockRestricts
-  acts r o k c h l a = allBelow-elim _ _ (allBelow-elim i _ (and-right (Judgement.wholeBlock Low (Rp r) o) _ h) k l) c a
-
   over-generator : (k : ℕ) → k < i → Over (residues m pos) base (λ x. locate x .b) (λ κ. D P m pos i Low low-fair k) (D P m pos (suc i) High fair k)
-  unfolding base sameEntry
+  unfolding base sameEntry passing Judgement.blockRestricts
   over-generator k l x =
       let r : ℕ = x .0 .0 in
       let q = locate x in
@@ -135,7 +129,7 @@ module _ (W : Two) where
       let deep = D-shows P m pos i Low low-fair (a .0 .0) k (a .1 .0) l in
       let y : Ω⁺ = (D P m pos (suc i) High fair k x) .0 in
       let b : Ω = (D P m pos i Low low-fair k a) .0 in
-      let t = acts r o k (q .κ) (q .passes) l (q .inside) in
+      let t = allBelow-elim _ _ (allBelow-elim i _ (and-right (Judgement.wholeBlock Low (Rp r) o) _ (q .passes)) k l) (q .κ) (q .inside) in
       let rows : col (Rp r .matrix k) (o + q .κ) .row ≡ o + b .0 .1
       = eqb-true _ _ (and-left (eqb (col (Rp r .matrix k) (o + q .κ) .row) _) _ t) ∙ ap (λ (z : Entry). o + z .row) (deep .shown a refl) in
       let exps : col (Rp r .matrix k) (o + q .κ) .exp % m ≡ col (repOf Low (a .0 .0) .matrix k) (q .κ) .exp % m =

@@ -10,12 +10,13 @@ use Prim.Native.Nat.{ℕ, suc, _≤_, _<_}
 use lib.Dec.{eqb}
 use lib.ListN.{length}
 use Rattle.definitions.specs.Lists.{allBelow}
-use Rattle.definitions.specs.Presentation.{Presentation, order}
+use Rattle.definitions.specs.Presentation.{order}
 use Rattle.definitions.specs.Table.{levelAt}
 use Rattle.definitions.specs.Judgement
 use Rattle.definitions.specs.Answers.{firstOf, judgement}
 use Rattle.numbers.proofs.Bools.{cond-true, cond-false}
 use Rattle.numbers.proofs.Lists.{allBelow-below}
+use Rattle.group.specs.Context.{Context}
 use Rattle.clifford.specs.Accepted.{Accepted}
 use Rattle.separation.specs.Decision.{quick, pairwise}
 use Rattle.separation.specs.Relations.{topRelations}
@@ -24,8 +25,8 @@ use Rattle.separation.proofs.Pairs.{quick-pairs}
 use Rattle.separation.proofs.Relations.{relations-decide}
 
 module _ (A : Accepted) (m : ℕ) (pos : 0 < m) (T : List ℕ) where
-  abbrev P : Presentation
-  P = A .C .P
+  open Accepted A using (C)
+  open Context C using (P)
 
   abbrev relations : Bool
   relations = Judgement.relationFails P m T

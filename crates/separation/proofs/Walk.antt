@@ -1,11 +1,12 @@
 -- For any table that 21, 22 and 23 let pass, 25 is decided level by level by the quick test.
 --
+--   relations-part               what 22 says of one generator
 --   valid-columns, whole-at, acts-at      what 21 and 23 say of a representation
 --   fair-at, restricting-at      its levels are well formed, satisfy the relations and restrict to those below
 --   zero-separates               level 0 is separated
 --   separated-quick              levels that are separated pass the quick test
 --   separation-decides           25 applies exactly if the quick test fails on some level
-use mathlib.Core.Path.{_≡_, refl, ap, subst}
+use mathlib.Core.Path.{_≡_, refl, ap}
 use mathlib.Core.Bool.{true, false, _&&_, not}
 use mathlib.Core.List.{List}
 use Prim.Native.Nat.{ℕ, zero, suc, _*_, _%_, _≤_, _<_}
@@ -25,11 +26,20 @@ use Rattle.numbers.proofs.Prime.{Units}
 use Rattle.group.specs.Context.{Context}
 use Rattle.group.proofs.Group.{Test}
 use Rattle.clifford.proofs.Everywhere.{everywhere-elim}
+use Rattle.clifford.proofs.Standing.{zero-degree, at-zero}
 use Rattle.separation.specs.Fair.{Fair}
 use Rattle.separation.specs.Restricting.{Restricting}
 use Rattle.separation.specs.Decision.{quick}
 use Rattle.separation.proofs.Restricted.{Two}
 use Rattle.separation.proofs.Decision.{quick-separates, separates-quick}
+
+-- the relations of one generator
+pub relations-part : (P : Presentation) (m : ℕ) (table : List ℕ) (i : ℕ) (D : Rep) → Judgement.relationsHold P m table i D ≡ true → (j : ℕ) → j < i
+    → (Judgement.powerHolds P m table D j ≡ true) × ((k : ℕ) → k < j → Judgement.commutatorHolds P m table D k j ≡ true)
+unfolding Judgement.relationsHold
+relations-part P m table i D h j a =
+    let t = allBelow-elim i _ h j a in
+    (and-left (Judgement.powerHolds P m table D j) _ t, λ k b. allBelow-elim j _ (and-right (Judgement.powerHolds P m table D j) _ t) k b)
 
 module _ (C : Context) (m : ℕ) (table : List ℕ) where
   abbrev pub P : Presentation
@@ -43,31 +53,20 @@ module _ (C : Context) (m : ℕ) (table : List ℕ) where
 
   -- ---- Level 0
 
-  pub zero-length : length (Lv 0) ≡ 1
-  unfolding levelAt levelZero
-  zero-length = refl
-
-  at-zero : (Q : ℕ → Type 0) → Q 0 → (r : ℕ) → r < length (Lv 0) → Q r
-  at-zero Q q r l = let z : 0 ≡ r = omega (arith, zero-length) in subst Q z q
-
   fair-zero : Fair P m 0 (Lv 0)
+  unfolding levelAt
   fair-zero = record {
-    degree-pos = at-zero (λ r. 0 < repOf (Lv 0) r .deg) one;
+    degree-pos = at-zero (λ r. 0 < repOf (Lv 0) r .deg) (omega (arith, zero-degree));
     size = λ r k h l. absurd (omega arith);
     row-below = λ r k c h l. absurd (omega arith);
     exp-below = λ r k c h l. absurd (omega arith);
     powers = λ r j h l. absurd (omega arith);
     commutators = λ r k j h a b. absurd (omega arith);
   }
-    where
-      one : 0 < repOf (Lv 0) 0 .deg
-      one = unfold levelAt levelZero repOf in (omega arith)
 
   zero-separates : (r : ℕ) → r < length (Lv 0) → Judgement.separates P m table 0 r ≡ true
-  zero-separates = at-zero (λ r. Judgement.separates P m table 0 r ≡ true) first
-    where
-      first : Judgement.separates P m table 0 0 ≡ true
-      first = unfold levelAt levelZero repOf Judgement.separates Judgement.reaches Judgement.allForms allBelow any image value identity upto col in refl
+  unfolding levelAt levelZero repOf Judgement.separates Judgement.reaches Judgement.allForms allBelow any image value identity upto col
+  zero-separates = at-zero (λ r. Judgement.separates P m table 0 r ≡ true) refl
 
   -- ---- What 21, 22 and 23 say
 
@@ -107,13 +106,6 @@ module _ (C : Context) (m : ℕ) (table : List ℕ) where
                 ),
           )
 
-      relations-at : Judgement.relationFails P m table ≡ false → (j : ℕ) → j < suc i
-          → (Judgement.powerHolds P m table Rp j ≡ true) × ((k : ℕ) → k < j → Judgement.commutatorHolds P m table Rp k j ≡ true)
-      unfolding Judgement.relationFails Judgement.relationsHold
-      relations-at relations j a =
-          let t = allBelow-elim (suc i) _ (everywhere-elim P m table (Judgement.relationsHold P m table) (not-false _ relations) i l r h) j a in
-          (and-left (Judgement.powerHolds P m table Rp j) _ t, λ k b. allBelow-elim j _ (and-right (Judgement.powerHolds P m table Rp j) _ t) k b)
-
       pub whole-at : all (Judgement.wholeBlock (Lv i) Rp) (Judgement.cuts (Lv i) Rp) ≡ true
       unfolding Judgement.blocksWhole
       whole-at = and-left (all (Judgement.wholeBlock (Lv i) Rp) (Judgement.cuts (Lv i) Rp)) _
@@ -125,15 +117,17 @@ module _ (C : Context) (m : ℕ) (table : List ℕ) where
       acts-at = everywhere-elim P m table (Judgement.restricts P m table) (not-false _ restrictions) i l r h
 
     pub fair-at : Judgement.relationFails (C .P) m table ≡ false → (i : ℕ) → i < C .P .n → Fair (C .P) m (suc i) (levelAt (C .P .n) table (suc i))
-    unfolding Judgement.powerHolds Judgement.commutatorHolds
-    fair-at relations i l = record {
-      degree-pos = λ r h. ltb-true _ _ (and-left (ltb 0 (repOf (Lv (suc i)) r .deg)) _ (valid-parts i l r h .0));
-      size = λ r k h a. valid-columns i l r h k (omega arith) .0;
-      row-below = λ r k c h a b. valid-columns i l r h k (omega arith) .1 c b .0;
-      exp-below = λ r k c h a b. valid-columns i l r h k (omega arith) .1 c b .1;
-      powers = λ r j h a. relations-at i l r h relations j a .0;
-      commutators = λ r k j h a b. relations-at i l r h relations j b .1 k a;
-    }
+    unfolding Judgement.powerHolds Judgement.commutatorHolds Judgement.relationFails
+    fair-at relations i l =
+        let hold = everywhere-elim P m table (Judgement.relationsHold P m table) (not-false _ relations) i l in
+        record {
+          degree-pos = λ r h. ltb-true _ _ (and-left (ltb 0 (repOf (Lv (suc i)) r .deg)) _ (valid-parts i l r h .0));
+          size = λ r k h a. valid-columns i l r h k (omega arith) .0;
+          row-below = λ r k c h a b. valid-columns i l r h k (omega arith) .1 c b .0;
+          exp-below = λ r k c h a b. valid-columns i l r h k (omega arith) .1 c b .1;
+          powers = λ r j h a. relations-part P m table (suc i) _ (hold r h) j a .0;
+          commutators = λ r k j h a b. relations-part P m table (suc i) _ (hold r h) j b .1 k a;
+        }
 
     pub restricting-at : (i : ℕ) → i < C .P .n → Restricting (C .P) m table i
     restricting-at i l = record { whole = whole-at i l; acts = acts-at i l }

@@ -2,7 +2,7 @@
 --
 --   WithinMatrix m o M N            columns o, o + 1, .. of M act as those of N
 --   within-one, within-mul, within-power, within-value      products act as products
---   same-within               what is equal in every block is equal
+--   within-same               what is equal in every block is equal
 use mathlib.Core.Path.{_≡_, sym, _∙_, ap, subst}
 use mathlib.Core.Bool.{true}
 use Prim.Native.Nat.{ℕ, zero, suc, _+_, _%_, _≤_, _<_}
