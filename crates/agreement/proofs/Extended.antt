@@ -26,9 +26,9 @@ use Rattle.clifford.specs.Stands.{Stands, Rung}
 use Rattle.clifford.proofs.Numbering.{P, p, N, rep, τ, S, ready, made}
 use Rattle.clifford.proofs.Top.{Y, Y-at, Y-maps, φ, φ-is, q, q-eq}
 use Rattle.clifford.proofs.Scalars.{parts, σ, σ-fixed, q̂}
-use Rattle.clifford.proofs.Extensions.{E, Φ, 𝓢, first, first-rep, l-is, fixed-shows}
+use Rattle.clifford.proofs.Extensions.{E, Φ, 𝓢, first, first-rep, l-is, fixed-shows, share-is}
 use Rattle.clifford.proofs.Next.{target-below, target-fixed}
-use Rattle.clifford.proofs.Formulas.{less-back, share-is}
+use Rattle.clifford.proofs.Formulas.{less-back}
 use Rattle.agreement.proofs.Entries.{Sc, Z, stand, move, move-mul, act-shows, iter-shows, walk-shows, origin, origin-rep, origin-stands, origin-moves}
 use Rattle.agreement.proofs.Entries.{move-pair, stand-exp, shift-is}
 

@@ -6,6 +6,7 @@
 --   raised-value               the representation of the extension is its value at the generators
 --   word-shows, conjugate-shows      words and conjugates over matrices that show the generators
 --   s-is                       s is the negative of the defect
+--   share-is                   the share of the modulus, by a division
 --   extended-shows             the matrix of generator i in extension κ
 --   base-shows                 the matrices of extension κ
 --   l-is                       l is the number of the scalar q
@@ -123,7 +124,7 @@ module _ (R : Rung) where
       (first-shown h (shows-power m pos Φ refl (fixed-shows r h f) (p R)) ∙ ap (λ z. z .1 .0) (defect-eq (S R) F (first r)))
       ∙ less-value m pos _ _ ∙ ap (λ z. z .0) (neg-of E (defect (S R) F (first r)) _ (sym (E .assoc _ _ _) ∙ E .negr _))
 
-  share-is : m / p R ≡ R .share
+  pub share-is : m / p R ≡ R .share
   share-is = div-eq-of-eq-mul-right (omega (arith, T .context .two i)) (R .split)
 
   pub extended-shows : (r κ : ℕ) → r < N R → τ R r ≡ r → Shows m Φ r r (Steps.extended (P R) m i L r κ) (Y (S R) F (numbered (S R) F 𝓢 ρ κ))

@@ -3,8 +3,7 @@
 --   less-back, less-over      differences modulo m
 --   last-formula       the last block of an induction is an intertwiner times one scalar
 use mathlib.Core.Path.{_≡_, sym, _∙_, ap, ap₂, subst}
-use Prim.Native.Nat.{ℕ, _+_, _-_, _/_, _%_, _<_}
-use native.Mathlib.Nat.{div-eq-of-eq-mul-right}
+use Prim.Native.Nat.{ℕ, _+_, _-_, _%_, _<_}
 use native.Mathlib.Omega.{arith}
 use Rattle.definitions.specs.Lists.{iter}
 use Rattle.definitions.specs.Monomial.{col, less, scale, repOf, image}
@@ -36,9 +35,6 @@ module _ (R : Rung) where
   -- x less y + x is the negative of y
   pub less-over : (x y : Residue m) → less m (x .0) ((add y x) .0) ≡ (neg y) .0
   less-over x y = less-value m pos x (add y x) ∙ ap (λ z. z .0) (neg-of (E R) y _ (sym (E R .assoc y x _) ∙ E R .negr (add y x)))
-
-  pub share-is : m / p R ≡ R .share
-  share-is = div-eq-of-eq-mul-right (omega (arith, T .context .two i)) (R .split)
 
   -- ---- The last block
 

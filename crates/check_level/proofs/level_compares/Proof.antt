@@ -7,7 +7,6 @@ use mathlib.Core.Bool.{false≢true}
 use Prim.Native.Nat.{ℕ, suc, _-_, _<_}
 use native.Mathlib.Omega.{arith}
 use lib.ListN.{length}
-use denote.Ref.{now}
 use Rattle.definitions.specs.Table.{levelAt}
 use Rattle.seek.proofs.Seek.{found-fits}
 use Rattle.claims.proofs.Claims.{Claims, claims-none, claims-found, claims-all}
