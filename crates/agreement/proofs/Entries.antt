@@ -1,6 +1,7 @@
 -- Entries moved through matrices that show maps: the walks of the formulas at single columns.
 --
 --   move A z, stand z             an entry of a basis index and an exponent, moved by a map; as an entry of a column
+--   move-pair                     moved by two maps, it is moved by their product
 --   Lands x z r                   x is the entry z, of representation r
 --   act-shows, iter-shows         one matrix, and its iterates
 --   walk-shows                    the value of a normal form

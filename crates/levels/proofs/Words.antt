@@ -4,7 +4,7 @@
 --   word-of                   a word of a line
 --   size-of, column-below     matrices have as many columns as their degree, and their columns are in range
 --   reads                     all of it
---   source-told               the level and the words of the presentation, as the formulas ask for them
+--   sourceBy, source-told     the level and the words of the presentation, as the formulas ask for them
 use mathlib.Core.Path.{_≡_, refl, sym, _∙_, ap, ap₂, subst}
 use mathlib.Core.Logic.{by-cases}
 use mathlib.Core.List.{List, []}

@@ -1,7 +1,7 @@
 -- Sums of counted terms; numbers laid out in stretches; sums over a permutation.
 --
 --   sum-zero, sum-suc, sum-below, sum-plus, sum-mul, sum-const, sum-swap, sum-single, sum-split, sum-le, term-le
---   stretch-one, stretch-below, owner, owner-found, owner-is, sum-stretches
+--   stretch-one, stretch-below, Owner, owner, sum-stretches
 --                     stretches of lengths w 0, w 1, ..: number sum s w + κ is κ of stretch s
 --   chosen            1 where two numbers are equal, else 0
 --   sum-permuted      a sum does not change under a permutation

@@ -3,7 +3,7 @@
 --   unshared-sym, differs-sym     what is asked of two representations is asked of both alike
 --   parted-one, one-parted        what the quick test asks of a representation of one block
 --   Many, parted-many, many-parted      and of one of more
---   quick-pairs                   the quick test is the test of pairs
+--   quick-all, quick-pairs        the quick test asks it of all; it is the test of pairs
 use mathlib.Core.Path.{_≡_, refl, sym, _∙_, ap, ap₂, subst}
 use mathlib.Core.Logic.{by-cases}
 use mathlib.Core.Bool.{Bool, true, false, _&&_, _||_, not, true≢false}
