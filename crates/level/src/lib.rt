@@ -7,7 +7,7 @@
 //   add_rounds, add_times        a product added to an exponent
 //   Lap, lap_from, steps         turns until a basis index comes again; so many turns
 //   gain, after_laps             what a lap adds; whole laps, and the turns behind them
-//   power_of, power_entry        the power of a matrix with a signed exponent, on a column
+//   power_of, power_entry        the power of a matrix on a column, and that with a signed exponent
 //   Listed, representation       a representation: its first line and its degree
 //   matrix_line, target          the line of a generator's matrix, and where its intertwiner leads
 //   moved, moved_times, walked   a column moved through a generator, through it several times, through a word
@@ -174,24 +174,32 @@ fn after_laps(words: &[u32], at: usize, d: u32, k: Signed, x: Entry, w: Lap, m: 
     steps(words, at, d, s.rest, y, m)
 }
 
-// The k-th power of the matrix of degree d at line `at`, on an entry.
-fn power_of(words: &[u32], at: usize, d: u32, k: Signed, x: Entry, m: u32) -> Entry
+// The matrix of degree d at line `at`, k times on an entry: turn by turn, by laps where the basis index comes again before, and
+// by one product where it stays.
+fn power_of(words: &[u32], at: usize, d: u32, k: u32, x: Entry, m: u32) -> Entry
     requires { ⌜ Holds m (now words) at d ⌝ }
     requires { ⌜ Below m d x ⌝ }
-    ensures { λ r. ⌜ (r ≡ act m (signedPower m d (matrixIn (now (words .entry)) at d) (number k)) x) × Below m d r ⌝ }
+    ensures { λ r. ⌜ (r ≡ iter (act m (matrixIn (now (words .entry)) at d)) k x) × Below m d r ⌝ }
 {
-    if k.back {
-        let w = lap_from(words, at, d, d, x, m);
-        return after_laps(words, at, d, k, x, w, m);
-    }
-    if k.size == 0 {
+    if k == 0 {
         return x;
     }
-    let w = lap_from(words, at, d, k.size, x, m);
-    if w.turns == k.size {
+    let z = column(words, at, d, x.row, m);
+    if z.row == x.row {
+        return Entry {
+            row: x.row,
+            exp: add_rounds(x.exp, up(k), z.exp, m),
+        };
+    }
+    let w = lap_from(words, at, d, k, x, m);
+    if w.turns == k {
         return w.to;
     }
-    after_laps(words, at, d, k, x, w, m)
+    let e = Signed {
+        back: false,
+        size: k,
+    };
+    after_laps(words, at, d, e, x, w, m)
 }
 
 // The power with any signed word as its exponent: 0 is the identity, and below zero are the powers of the inverse.
@@ -200,7 +208,12 @@ pub fn power_entry(words: &[u32], at: usize, d: u32, k: i32, x: Entry, m: u32) -
     requires { ⌜ Below m d x ⌝ }
     ensures { λ r. ⌜ (r ≡ act m (signedPower m d (matrixIn (now (words .entry)) at d) k) x) × Below m d r ⌝ }
 {
-    power_of(words, at, d, signed::signed_of(k), x, m)
+    let e = signed::signed_of(k);
+    if e.back {
+        let w = lap_from(words, at, d, d, x, m);
+        return after_laps(words, at, d, e, x, w, m);
+    }
+    power_of(words, at, d, e.size, x, m)
 }
 
 // A matrix k times on an entry: the power, for an exponent of a word. What the call hands back is made anew of its fields, so
@@ -213,11 +226,7 @@ fn apply_times(words: &[u32], at: usize, d: u32, k: u32, x: Entry, m: u32) -> En
     if k == 1 {
         return apply(words, at, d, x, m);
     }
-    let e = Signed {
-        back: false,
-        size: k,
-    };
-    let y = power_of(words, at, d, e, x, m);
+    let y = power_of(words, at, d, k, x, m);
     Entry {
         row: y.row,
         exp: y.exp,
@@ -315,11 +324,7 @@ pub fn moved_times(words: &[u32], d: Listed, g: u32, k: u32, x: Entry, m: u32) -
     requires { ⌜ Stored m (suc g) (now words) d × Below m (d .deg) x ⌝ }
     ensures { λ r. ⌜ (r ≡ iter (act m (generatorIn (now (words .entry)) d g)) k x) × Below m (d .deg) r ⌝ }
 {
-    let e = Signed {
-        back: false,
-        size: k,
-    };
-    power_of(words, matrix_line(d, g), d.deg, e, x, m)
+    power_of(words, matrix_line(d, g), d.deg, k, x, m)
 }
 
 // The word w on its first n generators on an entry, by exponents alone where the degree is 1.

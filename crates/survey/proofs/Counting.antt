@@ -2,7 +2,7 @@
 --
 --   made-fixed, made-leader, made-none    what a representation gives
 --   number-zero, number-next, number-small      numbers
---   around-zero, around-next   an entry along an orbit
+--   around-zero, around-next, around-fixed      an entry along an orbit
 --   leading-least, leading-other, leading-below     the constants that are kept
 --   closing-walked, closing-empty      a constant by as much of the power word as there is
 use mathlib.Core.Path.{_≡_, refl, ap, ap₂, sym, _∙_}
@@ -18,6 +18,8 @@ use Rattle.definitions.specs.declared.Entry.{Entry}
 use Rattle.definitions.specs.Monomial.{entry, less, act}
 use Rattle.definitions.specs.Presentation.{toNF}
 use Rattle.numbers.proofs.Bools.{cond-eq, cond-ne}
+use Rattle.numbers.proofs.Lists.{iter-zero, iter-fix}
+use Rattle.numbers.proofs.Iterates.{iter-out}
 use Rattle.formulas.specs.Formulas.{made, start, around, walk}
 use Rattle.rows.specs.Rows.{Top}
 use Rattle.level.specs.declared.Listed.{Listed}
@@ -113,3 +115,10 @@ module _ (f : Frame) (W : List ℕ) where
   pub around-next : (r k : ℕ) → aroundIn f W r (k + 1) ≡ act (f .m) (sourceIn f W [] .matrix (iter τ k r) (f .top)) (aroundIn f W r k)
   unfolding around
   around-next r k = ap (aroundIn f W r) (add-one k)
+
+  -- around an orbit that does not move, the turns of one intertwiner
+  pub around-fixed : (r : ℕ) → τ r ≡ r → (k : ℕ) → aroundIn f W r k ≡ iter (act (f .m) (sourceIn f W [] .matrix r (f .top))) k (entry 0 0)
+  around-fixed r e zero = sym (around-zero r) ∙ sym (iter-zero _ _)
+  around-fixed r e (suc k) =
+      let step : ℕ → Entry → Entry = λ q x. act (f .m) (sourceIn f W [] .matrix q (f .top)) x in
+      sym (ap (aroundIn f W r) (add-one k)) ∙ around-next r k ∙ ap₂ step (iter-fix τ r e k) (around-fixed r e k) ∙ sym (iter-out _ k _)

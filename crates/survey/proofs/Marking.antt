@@ -3,10 +3,11 @@
 --   marking-none               nothing is marked
 --   marking-next               where the orbit of r is marked, all orbits up to it are
 --   marking-step               one more member of the orbit of r
+--   marking-alone              the one member of an orbit that does not move
 --   marking-done               all members of the orbit of r, and so all orbits up to it
 --   marking-skip               r is marked already, so it begins no orbit
 --   marking-all                every orbit
-use mathlib.Core.Path.{_≡_, ap, sym, _∙_, subst}
+use mathlib.Core.Path.{_≡_, refl, ap, sym, _∙_, subst}
 use mathlib.Core.Logic.{by-cases}
 use mathlib.Core.List.{List}
 use Prim.Native.Nat.{ℕ, _+_, _<_, _≤_}
@@ -17,7 +18,7 @@ use lib.Seq.{getD-set-same, getD-set-other}
 use Rattle.definitions.specs.Lists.{iter}
 use lib.Dec.{eqb}
 use borrow.Author.Tests.{eq-eqb}
-use Rattle.numbers.proofs.Lists.{iter-zero}
+use Rattle.numbers.proofs.Lists.{iter-zero, iter-fix}
 use Rattle.numbers.proofs.Searches.{least-least}
 use Rattle.numbers.proofs.Orbits.{leader, position, leader-least, leader-iter, leader-leader, leader-fixed, position-below, position-back, iter-below}
 use Rattle.survey.specs.declared.Frame.{Frame}
@@ -186,6 +187,25 @@ module _ (f : Frame) (W : List ℕ) (S : LevelStands f W) where
             other q l e z =
                 let w : pos q₀ ≡ k = ap pos (sym (at-position q k l e z)) ∙ z in
                 u (M .later q₀ l₀ (member k) (omega (arith, w)))
+
+    -- an orbit of one member is marked with that
+    pub marking-alone : τ r ≡ r → (n n′ : List ℕ) → MarkedTo f W (leaders n) (positions n) r 0 → Marked (f .reps) r r 0 n n′
+        → MarkedTo f W (leaders n′) (positions n′) r (f .p)
+    marking-alone e n n′ M N = record {
+      long = one .long;
+      earlier = one .earlier;
+      these = λ q l h _. one .these q l h (first q l h);
+      later = λ q l h k. absurd (omega (arith, pos-below q l));
+      others = one .others;
+    }
+      where
+        one : MarkedTo f W (leaders n′) (positions n′) r 1
+        one = marking-step 0 n n′ (omega (arith, S .prime .0)) M (subst (λ q. Marked (f .reps) r q 0 n n′) (sym (iter-zero τ r)) N)
+
+        first : (q : ℕ) → q < f .reps → lead q ≡ r → pos q < 1
+        first q l h =
+            let w : q ≡ r = at-position q (pos q) l h refl ∙ iter-fix τ r e (pos q) in
+            omega (arith, pos-least q 0 (iter-zero τ (lead q) ∙ h ∙ sym w))
 
     pub marking-done : (a b : List ℕ) → MarkedTo f W a b r (f .p) → MarkedTo f W a b (r + 1) 0
     marking-done a b M = marking-next r a b (f .p) M (λ q l e. let t = M .these q l e (pos-below q l) in (t .0 ∙ sym e, t .1))

@@ -8,9 +8,9 @@
 //   listed, member               a representation by its first line
 //   top_target                   where the generator on top leads it
 //   NextFirst, note_run, find_lines      note the first lines
-//   mark, mark_orbit, mark_from, clear, mark_orbits      note leaders and positions
+//   mark, mark_along, mark_orbit, mark_from, clear, mark_orbits      note leaders and positions
 //   made, count_numbers          note the numbers
-//   carry, around                an entry along an orbit
+//   carry, carry_around, around  an entry along an orbit
 //   closing, leading, find_shifts      note the constants
 ghost use mathlib.Core.Path.{_≡_};
 ghost use Prim.Native.Nat.{_+_, _*_, _≤_, _<_};
@@ -153,8 +153,8 @@ fn mark(notes: &mut [u32], reps: u32, r: u32, q: u32, k: u32)
     }
 }
 
-// Marks the orbit of r, none of which is marked.
-fn mark_orbit(low: &[u32], notes: &mut [u32], f: Frame, r: u32)
+// Marks the orbit of r, none of which is marked, member after member.
+fn mark_along(low: &[u32], notes: &mut [u32], f: Frame, r: u32)
     requires { ⌜ LevelStands f (now low) × Lines f (now low) (firsts (now notes)) × (r < f .reps) × (leaderIn f (now low) r ≡ r) ⌝ }
     requires { ⌜ MarkedTo f (now low) (leaders (now notes)) (positions (now notes)) r 0 ⌝ }
     ensures { λ _. ⌜ Marking f (now (low .entry)) (now (notes .entry)) (now (notes .exit)) r (f .p) ⌝ }
@@ -167,6 +167,19 @@ fn mark_orbit(low: &[u32], notes: &mut [u32], f: Frame, r: u32)
         let e = member(low, notes, f, d.deg, q);
         q = level::target(low, e, f.top);
     }
+}
+
+// The same; an orbit that does not move has one member.
+fn mark_orbit(low: &[u32], notes: &mut [u32], f: Frame, r: u32)
+    requires { ⌜ LevelStands f (now low) × Lines f (now low) (firsts (now notes)) × (r < f .reps) × (leaderIn f (now low) r ≡ r) ⌝ }
+    requires { ⌜ MarkedTo f (now low) (leaders (now notes)) (positions (now notes)) r 0 ⌝ }
+    ensures { λ _. ⌜ Marking f (now (low .entry)) (now (notes .entry)) (now (notes .exit)) r (f .p) ⌝ }
+{
+    if top_target(low, notes, f, r) == r {
+        mark(notes, f.reps, r, r, 0);
+        return;
+    }
+    mark_along(low, notes, f, r);
 }
 
 // Marks the orbit of r if r begins one.
@@ -249,8 +262,8 @@ fn carry(low: &[u32], notes: &[u32], f: Frame, d: u32, s: Carried) -> Carried
     }
 }
 
-// Column 0 of representation r taken around its orbit.
-fn around(low: &[u32], notes: &[u32], f: Frame, d: Listed, r: u32) -> Entry
+// Column 0 of representation r carried around its orbit.
+fn carry_around(low: &[u32], notes: &[u32], f: Frame, d: Listed, r: u32) -> Entry
     requires { ⌜ Located f (now low) r d × Lines f (now low) (firsts (now notes)) ⌝ }
     ensures { λ x. ⌜ (x ≡ aroundIn f (now (low .entry)) r (f .p)) × Below (f .m) (degOf f (now (low .entry)) r) x ⌝ }
 {
@@ -263,6 +276,17 @@ fn around(low: &[u32], notes: &[u32], f: Frame, d: Listed, r: u32) -> Entry
         s = carry(low, notes, f, d.deg, s);
     }
     s.x
+}
+
+// The same, by a power of the intertwiner where that leads r to itself. A square is two steps, which are quicker.
+fn around(low: &[u32], notes: &[u32], f: Frame, d: Listed, r: u32) -> Entry
+    requires { ⌜ Located f (now low) r d × Lines f (now low) (firsts (now notes)) ⌝ }
+    ensures { λ x. ⌜ (x ≡ aroundIn f (now (low .entry)) r (f .p)) × Below (f .m) (degOf f (now (low .entry)) r) x ⌝ }
+{
+    if f.p > 2 && level::target(low, d, f.top) == r {
+        return level::moved_times(low, d, f.top, f.p, Entry { row: 0, exp: 0 }, f.m);
+    }
+    carry_around(low, notes, f, d, r)
 }
 
 // The constant that closes the orbit of r: an exponent of the power word u, which ends before generator n, less that of the
