@@ -169,7 +169,7 @@ fn mark_along(low: &[u32], notes: &mut [u32], f: Frame, r: u32)
     }
 }
 
-// The same; an orbit that does not move has one member.
+// Marks the orbit of r, none of which is marked: where it does not move, r alone.
 fn mark_orbit(low: &[u32], notes: &mut [u32], f: Frame, r: u32)
     requires { ⌜ LevelStands f (now low) × Lines f (now low) (firsts (now notes)) × (r < f .reps) × (leaderIn f (now low) r ≡ r) ⌝ }
     requires { ⌜ MarkedTo f (now low) (leaders (now notes)) (positions (now notes)) r 0 ⌝ }
@@ -262,7 +262,7 @@ fn carry(low: &[u32], notes: &[u32], f: Frame, d: u32, s: Carried) -> Carried
     }
 }
 
-// Column 0 of representation r carried around its orbit.
+// Column 0 of representation r taken around its orbit, step by step.
 fn carry_around(low: &[u32], notes: &[u32], f: Frame, d: Listed, r: u32) -> Entry
     requires { ⌜ Located f (now low) r d × Lines f (now low) (firsts (now notes)) ⌝ }
     ensures { λ x. ⌜ (x ≡ aroundIn f (now (low .entry)) r (f .p)) × Below (f .m) (degOf f (now (low .entry)) r) x ⌝ }
@@ -278,7 +278,8 @@ fn carry_around(low: &[u32], notes: &[u32], f: Frame, d: Listed, r: u32) -> Entr
     s.x
 }
 
-// The same, by a power of the intertwiner where that leads r to itself. A square is two steps, which are quicker.
+// Column 0 of representation r taken around its orbit: where that does not move, by a power of one intertwiner. A square is two
+// steps, which are quicker.
 fn around(low: &[u32], notes: &[u32], f: Frame, d: Listed, r: u32) -> Entry
     requires { ⌜ Located f (now low) r d × Lines f (now low) (firsts (now notes)) ⌝ }
     ensures { λ x. ⌜ (x ≡ aroundIn f (now (low .entry)) r (f .p)) × Below (f .m) (degOf f (now (low .entry)) r) x ⌝ }
