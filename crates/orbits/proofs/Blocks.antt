@@ -2,8 +2,8 @@
 --
 --   orbit-degree               the members of an orbit have one degree
 --   block-inside               there is a row for each of n blocks
---   listing-stands, member-inside, block-member, member-degree, block-degree      a block of a listed orbit: its row, what stands
---                              there, its degree
+--   listing-stands, member-inside, block-member, block-degree      a block of a listed orbit: its row, what stands there,
+--                              its degree
 --   scalar-inside, scalar-stored     a scalar can be stored, and the orbit stays
 use mathlib.Core.Path.{_≡_, refl, ap, sym, _∙_, subst}
 use mathlib.Core.List.{List}
@@ -49,9 +49,6 @@ module _ {f : Frame} {W notes blocks : List ℕ} {r : ℕ} (L : Listing f W note
   block-member b q h e =
       let o : q ≡ memberOf f W r b = e ∙ L .known .orbit-is .at b h in
       (o, subst (λ x. x < f .reps) (sym o) (orbit-inside f W listing-stands r b (L .known .leads .listed)))
-
-  pub member-degree : (b q : ℕ) → b < f .p → q ≡ getD (members blocks) b 0 → degOf f W q ≡ degOf f W r
-  member-degree b q l e = ap (degOf f W) (block-member b q l e .0) ∙ orbit-degree f W listing-stands r b (L .known .leads .listed)
 
   pub block-degree : (b : ℕ) {D : Listed} → Located f W (memberOf f W r b) D → D .deg ≡ degOf f W r
   block-degree b D = located-degree D ∙ orbit-degree f W listing-stands r b (L .known .leads .listed)

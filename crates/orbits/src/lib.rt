@@ -65,14 +65,13 @@ pub fn list_orbit(low: &[u32], notes: &[u32], blocks: &mut [u32], f: Frame, r: u
     }
 }
 
-// The representation of block b of the orbit of r. Its degree is that of r, which no block has to be asked for.
+// The representation of block b of the orbit of r.
 fn of_block(low: &[u32], notes: &[u32], blocks: &[u32], f: Frame, r: u32, b: u32) -> Listed
     requires { ⌜ Listing f (now low) (now notes) (now blocks) r × (b < f .p) ⌝ }
     ensures { λ d. ⌜ Located f (now (low .entry)) (memberOf f (now (low .entry)) r b) d ⌝ }
 {
     let q = block(blocks, MEMBER, b);
-    let d = survey::listed(low, notes, f, r);
-    survey::member(low, notes, f, d.deg, q)
+    survey::listed(low, notes, f, q)
 }
 
 // An entry in a block of an orbit.

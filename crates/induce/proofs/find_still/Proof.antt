@@ -5,19 +5,21 @@ use native.Mathlib.Omega.{arith}
 use denote.Ref.{now}
 use Rattle.level.specs.declared.Listed.{Listed}
 use Rattle.level.specs.Stored.{lineIn}
-use Rattle.survey.specs.Below.{Located}
+use Rattle.survey.specs.Below.{degOf, Located}
 use Rattle.survey.proofs.Level.{located-line}
 use Rattle.orbits.specs.Blocks.{memberOf}
-use Rattle.orbits.proofs.Blocks.{listing-stands, member-inside, block-member, member-degree, block-degree}
+use Rattle.orbits.proofs.Blocks.{orbit-degree, listing-stands, member-inside, block-member, block-degree}
 use Rattle.induce.proofs.Cells.{cell-held}
 use Rattle.induce.proofs.find_still.Statement.{statement}
 use Rattle.induce.proofs.find_still.Tie as tie
 
 member-requires : tie.Need-member-requires
-member-requires c κs = let z = c .before .before .before .before in let R = z .pre .0 in
+member-requires c κs = let z = c .before .before .before .before in let W = now (z .args .low) in let R = z .pre .0 in
     let L = R .listing in
-    let degree = R .degree ∙ sym (member-degree L _ _ (z .pre .1) (c .block .ensures)) in
-    (listing-stands L, L .known .surveyed .orbited .lines, block-member L _ _ (z .pre .1) (c .block .ensures) .1, degree)
+    let o = block-member L _ _ (z .pre .1) (c .block .ensures) in
+    let same = orbit-degree _ _ (listing-stands L) _ _ (L .known .leads .listed) in
+    let degree = R .degree ∙ sym (ap (degOf (z .args .f) W) (o .0) ∙ same) in
+    (listing-stands L, L .known .surveyed .orbited .lines, o .1, degree)
 
 matrix-line-requires : tie.Need-matrix-line-requires
 matrix-line-requires c κs = located-line (c .member .ensures) _ (omega (arith, c .before .before .before .before .before .pre .0 .inside))
