@@ -1,6 +1,8 @@
 // The presentation that an accepted text says: the reader's answer, and behind it that of the consistency test.
 //
 //   accepted      the first of 11 to 15, or 0 and the presentation
+#![tactic(auto)]
+
 ghost use Rattle.std.specs.Prelude.{◌≡◌, length};
 ghost use Rattle.definitions.specs.Presentation.{pair_count};
 ghost use Rattle.acceptance.specs.Accepted.{AcceptedText};

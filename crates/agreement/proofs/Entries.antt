@@ -32,7 +32,7 @@ use Rattle.monomial.proofs.Exponents.{idr}
 use Rattle.monomial.proofs.Maps.{pair, at_mul, at_one}
 use Rattle.monomial.proofs.Residues.{residues, add-value, nil-value}
 use Rattle.clifford.specs.Stands.{Rung}
-use Rattle.clifford.proofs.Numbering.{P, p, N, deg, rep, τ, S, O, first_of-column, target_same}
+use Rattle.clifford.proofs.Numbering.{P, p, N, rep, τ, S, O, first_of-column, target_same}
 use Rattle.clifford.proofs.Defect.{defect, defect-eq}
 use Rattle.clifford.proofs.Extensions.{E, Φ, first, first_rep}
 use Rattle.clifford.proofs.Formulas.{less-over}

@@ -23,7 +23,7 @@ use Rattle.monomial.proofs.Exponents.{rcomm}
 use Rattle.monomial.proofs.Residues.{residues, add-value, part-value, log-value}
 use Rattle.monomial.proofs.Frames.{shows-scale, shown-unique}
 use Rattle.clifford.specs.Stands.{Rung}
-use Rattle.clifford.proofs.Numbering.{P, p, N, rep, τ, S, ready, made}
+use Rattle.clifford.proofs.Numbering.{P, p, N, rep, τ, S, ready}
 use Rattle.clifford.proofs.Top.{Y, Y-at, Y-maps, φ, φ-is, q, q-eq}
 use Rattle.clifford.proofs.Scalars.{parts, σ, σ-fixed, q̂}
 use Rattle.clifford.proofs.Extensions.{E, Φ, 𝓢, first, first_rep, l-is, fixed-shows, share-is}

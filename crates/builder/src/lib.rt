@@ -6,6 +6,8 @@
 //   append_all       those above all
 //   Written          what append_level returns
 //   append_level     surveys a level and appends the next
+#![tactic(auto)]
+
 ghost use Rattle.std.specs.Prelude.{◌≡◌, ◌*◌, ◌≤◌, ◌<◌, length};
 ghost use Rattle.text.specs.Writing.{Wrote};
 ghost use Rattle.lines.specs.Lines.{Space};
@@ -74,7 +76,7 @@ fn append_all(words: &mut [u32], rows: &Rows, notes: &[u32], blocks: &mut [u32],
 }
 
 // A written level: the line behind it, and how many representations it has.
-#[derive(Drop)]
+#[derive(Clone, Copy)]
 pub struct Written {
     pub end: usize,
     pub reps: u32,

@@ -6,6 +6,8 @@
 //   Comparison       a summary, and whether the bytes are those of a text
 //   write_sevens     words written into bytes that are sevens
 //   check_parsed     words that stand in bytes, checked
+#![tactic(auto)]
+
 ghost use Rattle.std.specs.Prelude.{◌≡◌, ◌↔◌, true, length, take, replicate};
 ghost use Rattle.definitions.specs.Answers.{Build, Check, ReadTable, WriteTable};
 ghost use Rattle.text.specs.Reading.{StartsAt};
@@ -18,7 +20,7 @@ use chieftables::counted::Counted;
 const BUILD: usize = 786240;
 
 // What a call answers and counts, and a sum over the whole buffer.
-#[derive(Drop)]
+#[derive(Clone, Copy)]
 pub struct Summary {
     pub answer: u32,
     pub count: usize,
@@ -74,7 +76,7 @@ fn is_text(bytes: &[u8], count: usize, text: &[u8]) -> bool
 }
 
 // A summary, and whether the counted bytes are those of a text.
-#[derive(Drop)]
+#[derive(Clone, Copy)]
 pub struct Comparison {
     pub answer: u32,
     pub count: usize,

@@ -5,6 +5,8 @@
 //   words_lent, bytes_lent     how much of a buffer is lent
 //   mix_words, mix_bytes       a sum over a whole buffer
 //   parse                      words in bytes
+#![tactic(auto)]
+
 ghost use Rattle.std.specs.Prelude.{◌≡◌, cond, suc, ◌<◌, ◌≤◌, length};
 ghost use Rattle.case_input.specs.Cases.{found, after, CaseAt};
 ghost use Rattle.case_input.specs.Mixed.{mixed, mixed_to};
@@ -40,7 +42,7 @@ pub fn behind(s: &[u8], at: usize) -> usize
 }
 
 // Where the text of a case begins and ends, and where the next case begins.
-#[derive(Drop)]
+#[derive(Clone, Copy)]
 pub struct Case {
     pub text: usize,
     pub end: usize,

@@ -20,6 +20,8 @@
 //   accept_case, measure_case, commutative_case, build_case, read_case, write_case, check_case     a case of each kind
 //   lent_call, call                 a case of any kind, first of those with a buffer
 //   answer, answer_at               a case, and that at a position
+#![tactic(auto)]
+
 ghost use Rattle.std.specs.Prelude.{◌≡◌, ◌<◌, ◌≤◌, length};
 ghost use Rattle.case_input.specs.Cases.{case_next};
 

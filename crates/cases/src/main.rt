@@ -1,4 +1,5 @@
 // Runs the cases of the standard input through the public calls, a line for each (`case_lines`).
+#![tactic(auto)]
 
 // Bytes of the standard input, at most.
 const INPUT: usize = 1048576;

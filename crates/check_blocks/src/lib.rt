@@ -8,6 +8,8 @@
 //   restricted, restrictions_hold                refusal 23
 //   square, level_adds_up                        the squares of the degrees of a level
 //   squares_hold                                 refusal 26
+#![tactic(auto)]
+
 ghost use Rattle.std.specs.Prelude.{◌≡◌, ◌⊎◌, true, suc, ◌*◌, ◌≤◌, ◌<◌, eqb};
 ghost use Rattle.definitions.specs.Lists.{all_below};
 ghost use Rattle.definitions.specs.Presentation.{Presentation};

@@ -4,6 +4,8 @@
 //
 //   commutes_at, commutes        the intertwiner of a generator that commutes with the one on top
 //   carries, carries_all         the intertwiner of any generator above the top, and those of all
+#![tactic(auto)]
+
 ghost use Rattle.std.specs.Prelude.{◌≡◌, true, [], ◌≤◌, ◌<◌};
 ghost use Rattle.definitions.specs.Presentation.{Presentation};
 ghost use Rattle.commuting.specs.Commuting.{Quiet};

@@ -9,6 +9,8 @@
 //   images_ok                    all of them
 //   character, all_characters, small_characters, characters     a representation, and all of level 1
 //   level_one                    the heads of the table, and level 1
+#![tactic(auto)]
+
 ghost use Rattle.std.specs.Prelude.{◌≡◌, true, suc, ◌+◌, ◌*◌, ◌≤◌, ◌<◌, length};
 ghost use Rattle.definitions.specs.Presentation.{max_generators, max_order};
 ghost use Rattle.check_heads.specs.Places.{Scoped};

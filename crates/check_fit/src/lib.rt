@@ -6,6 +6,8 @@
 //   character_lines                      the first lines of level 1, in a list
 //   levels_fit, lent_levels              all levels, with a list and marks that are lent
 //   levels_of_16 .. levels_of_any        with room for orders up to so many; fitting_levels chooses among them
+#![tactic(auto)]
+
 ghost use Rattle.std.specs.Prelude.{◌≡◌, ◌*◌, ◌≤◌, ◌<◌, length};
 ghost use Rattle.definitions.specs.Presentation.{max_generators, max_modulus};
 ghost use Rattle.compare.specs.Staged.{max_lines};

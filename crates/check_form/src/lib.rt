@@ -4,6 +4,8 @@
 //   block, blocks_ok       the blocks of a representation, each as long as the degree of what it refers to
 //   rep_ok, level_ok, levels_ok      what is asked of a representation beside its degree, of a level's, of all
 //   heads_ok, well_formed  the heads, and the whole of 21
+#![tactic(auto)]
+
 ghost use Rattle.std.specs.Prelude.{◌≡◌, suc, ◌+◌, ◌*◌, ◌≤◌, ◌<◌, length};
 ghost use Rattle.definitions.specs.Lists.{all_below};
 ghost use Rattle.definitions.specs.Table.{level_at};

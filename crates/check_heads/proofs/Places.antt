@@ -372,9 +372,9 @@ module _ {s : Scope} {ord : ℕ → ℕ} {T : List ℕ} {k : ℕ} (some : 0 < s.
     lines-there-all : all_below n (λ g. matrix_heads T (r * n) 1 r 1 g) ≡ true
     lines-there-all = all_below-intro n _ (λ g h. sym (single-is T (r * n) 1 r g) ∙ O.heads r g l h)
 
-    place_ok : place_ok n T ord (at r) ≡ true
+    place-passes : place_ok n T ord (at r) ≡ true
     unfolding rep_heads
-    place_ok =
+    place-passes =
         let a = ltb 0 (word_at T (r * n) DEG) in
         subst (λ d. (leb 1 n && (ltb 0 d && leb (d * d) (ord 1) && leb (r * n + n * d) (line_count T) && all_below n (λ g. matrix_heads T (r * n) 1 r d g))) ≡ true)
         (sym degree)
@@ -388,7 +388,7 @@ module _ {s : Scope} {ord : ℕ → ℕ} {T : List ℕ} {k : ℕ} (some : 0 < s.
   opened_up (suc r) l =
       let e : suc r * n ≡ r * n + n * word_at T (r * n) DEG = omega (arith, ap (λ d. n * d) (degree r l)) in
       let more : r * n < line_count T = omega (arith, room r l, some) in
-      stepped-more n T ord (at r) (at r) (opened_up r (omega arith)) more (stays-there r l) (place_ok r l) some (at (suc r))
+      stepped-more n T ord (at r) (at r) (opened_up r (omega arith)) more (stays-there r l) (place-passes r l) some (at (suc r))
       (ap (λ x. record { line = x; level = 1; rep = suc r }) e)
 
   pub opened-stepped : Stepped s.gens T ord (record { line = k * s.gens; level = 1; rep = k })

@@ -9,6 +9,8 @@
 //   begins, turned   whether the line of a place begins the next level, and the level of a place
 //   onward           the place behind a representation
 //   heads_behind, heads     the walk behind representations of level 1 and degree 1, and the whole walk
+#![tactic(auto)]
+
 ghost use Rattle.std.specs.Prelude.{◌≡◌, ℕ, ◌+◌, ◌*◌, ◌≤◌, ◌<◌, length};
 ghost use Rattle.definitions.specs.Lists.{all_below};
 ghost use Rattle.definitions.specs.Presentation.{max_generators};
@@ -22,7 +24,7 @@ use level::Listed;
 use seek::Scope;
 
 // The line, its level, and how many representations of the level stand before it.
-#[derive(Drop)]
+#[derive(Clone, Copy)]
 pub struct Place {
     pub line: usize,
     pub level: u32,

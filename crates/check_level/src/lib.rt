@@ -6,6 +6,8 @@
 //   level_compares, small_compares, compares     all representations of the level
 //   level_relates                        their intertwiners
 //   level_fits                           the level
+#![tactic(auto)]
+
 ghost use Rattle.std.specs.Prelude.{◌≡◌, true, ◌≤◌, ◌<◌, length};
 ghost use Rattle.commuting.specs.Commuting.{Quiet};
 ghost use Rattle.seek.specs.Seek.{Whole};
@@ -20,7 +22,7 @@ use rows::Rows;
 use seek::Scope;
 
 // How far the first lines of a level are written: the representation behind those that have one degree, and its first line.
-#[derive(Drop)]
+#[derive(Clone, Copy)]
 pub struct RunEnd {
     pub next: usize,
     pub line: usize,

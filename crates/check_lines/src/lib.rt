@@ -9,6 +9,8 @@
 //   refs_are                 lines that all refer to one representation
 //   refs_as, refs_equal      generators that refer as the first one does
 //   target_ok, targets_ok    where the intertwiners lead
+#![tactic(auto)]
+
 ghost use Rattle.std.specs.Prelude.{◌≡◌, ◌||◌, ℕ, ◌+◌, ◌*◌, ◌≤◌, ◌<◌, ltb, length};
 ghost use Rattle.definitions.specs.Lists.{all_below};
 ghost use Rattle.definitions.specs.Presentation.{max_degree};

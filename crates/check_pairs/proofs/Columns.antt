@@ -1,7 +1,7 @@
 -- References in lines of words.
 --
 --   free_at            no column of the representation at a line has the reference of a column of another
---   free-is           for every column, `commonFree` of the two
+--   free-is           for every column, `common_free` of the two
 --   fresh-is          no column before one has its reference
 --   like-blocks, like-degrees, like-refs      one degree and one first reference, case by case
 --   apart-unlike, apart-alike                 what tells two representations apart

@@ -9,6 +9,8 @@
 //   all_own                               the blocks of each of a level
 //   suspect_apart, level_separated        whether all of a level are apart
 //   separated                             whether all representations of every level are apart
+#![tactic(auto)]
+
 ghost use Rattle.std.specs.Prelude.{◌≡◌, ℕ, ◌+◌, ◌*◌, ◌≤◌, ◌<◌, length};
 ghost use Rattle.definitions.specs.Lists.{all_below};
 ghost use Rattle.definitions.specs.Presentation.{Presentation};

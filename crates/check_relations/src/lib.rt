@@ -2,6 +2,8 @@
 //
 //   Condition, holds, holds_on, holds_everywhere     a condition on a representation, on those of a level, on all
 //   top_relations_hold, relations_hold, intertwiners_hold     the conditions on a table
+#![tactic(auto)]
+
 ghost use Rattle.std.specs.Prelude.{◌≤◌, ◌<◌};
 ghost use Rattle.definitions.specs.Presentation.{Presentation};
 ghost use Rattle.definitions.specs.Judgement.{relations_hold, intertwiners_hold};
@@ -15,7 +17,7 @@ use rows::{Row, Rows};
 use seek::Scope;
 
 // What is asked of each representation.
-#[derive(Drop)]
+#[derive(Clone, Copy)]
 enum Condition {
     // The relations of the generator on top of its level.
     Top,

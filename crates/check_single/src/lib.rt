@@ -7,6 +7,8 @@
 //   single_value                 a representation of degree 1, compared with those below, and the value of the power word
 //   times, single_power          an exponent, several times, and the power relation of the generator on top
 //   rep_passes                   both of a representation of any degree
+#![tactic(auto)]
+
 ghost use Rattle.std.specs.Prelude.{◌≡◌, true, ℕ, suc, ◌+◌, ◌*◌, ◌%◌, ◌≤◌, ◌<◌, length};
 ghost use Rattle.definitions.specs.Presentation.{max_generators};
 ghost use Rattle.definitions.specs.Table.{EXP, word_at};

@@ -4,6 +4,8 @@
 //
 //   judge_formed     22 to 26, of a table to which 21 does not apply
 //   judge            21 to 26, of any words
+#![tactic(auto)]
+
 ghost use Rattle.checker.specs.Judged.{SomeTask, Judged, SomeSorted, JudgedFormed};
 
 use conditions::size::Orders;

@@ -1,7 +1,4 @@
 // Whether a presentation text is accepted: the first of the refusals 11 to 15, or 0.
-//
-//   accept                the call
-//   chieftables_accept    the same, for C and Rust
 ghost use Rattle.definitions.specs.Answers.{Accept};
 
 use rows::{GENERATORS, PAIRS};
@@ -13,12 +10,4 @@ pub fn accept(text: &[u8]) -> u32
     let mut rows = [[0u32; GENERATORS]; PAIRS];
     let o = acceptance::accepted(text, &mut rows);
     o.status
-}
-
-// `accept`, for C and Rust.
-#[unsafe(no_mangle)]
-pub extern "C" fn chieftables_accept(text: &[u8]) -> u32
-    ensures { Accept text.now result }
-{
-    accept(text)
 }

@@ -1,7 +1,4 @@
 // The table of a presentation text, built into the caller's words: 11 to 16, or 0 and the count of lines.
-//
-//   build                the call
-//   chieftables_build    the same, for C and Rust
 ghost use Rattle.definitions.specs.Answers.{Build};
 
 use crate::counted::Counted;
@@ -15,12 +12,4 @@ pub fn build(text: &[u8], words: &mut [u32]) -> Counted
         answer: a.answer,
         count: a.lines,
     }
-}
-
-// `build`, for C and Rust.
-#[unsafe(no_mangle)]
-pub extern "C" fn chieftables_build(text: &[u8], words: &mut [u32]) -> Counted
-    ensures { Build text.now words.old result.answer result.count words.new }
-{
-    build(text, words)
 }

@@ -1,7 +1,4 @@
 // Whether the group of a presentation text is commutative: 11 to 15, or 0 and a yes or no. No table is built.
-//
-//   commutative                the call
-//   chieftables_commutative    the same, for C and Rust
 ghost use Rattle.definitions.specs.Answers.{Commutative};
 
 use crate::yes_or_no::Verdict;
@@ -16,12 +13,4 @@ pub fn commutative(text: &[u8]) -> Verdict
         answer: a.answer,
         yes: a.yes,
     }
-}
-
-// `commutative`, for C and Rust.
-#[unsafe(no_mangle)]
-pub extern "C" fn chieftables_commutative(text: &[u8]) -> Verdict
-    ensures { Commutative text.now result.answer result.yes }
-{
-    commutative(text)
 }

@@ -1,4 +1,6 @@
-// The public calls, and their exports.
+// The public calls.
+#![tactic(auto)]
+
 pub mod accept; // accept.rt: whether a presentation text is accepted
 pub mod build; // build.rt: a presentation text to words
 pub mod check; // check.rt: a table for a presentation text

@@ -1,7 +1,4 @@
 // How large a build of a presentation text is: 11 to 15, or 0 and the words that it wants.
-//
-//   measure                the call
-//   chieftables_measure    the same, for C and Rust
 ghost use Rattle.definitions.specs.Answers.{Measure};
 
 use crate::counted::Counted;
@@ -15,12 +12,4 @@ pub fn measure(text: &[u8]) -> Counted
         answer: a.answer,
         count: a.words,
     }
-}
-
-// `measure`, for C and Rust.
-#[unsafe(no_mangle)]
-pub extern "C" fn chieftables_measure(text: &[u8]) -> Counted
-    ensures { Measure text.now result.answer result.count }
-{
-    measure(text)
 }

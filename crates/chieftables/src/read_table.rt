@@ -1,7 +1,4 @@
 // Table text read into the caller's words: 16, 20, or 0 and the count of lines.
-//
-//   read_table                the call
-//   chieftables_read_table    the same, for C and Rust
 ghost use Rattle.definitions.specs.Answers.{ReadTable};
 
 use crate::counted::Counted;
@@ -15,12 +12,4 @@ pub fn read_table(text: &[u8], words: &mut [u32]) -> Counted
         answer: a.status,
         count: a.count,
     }
-}
-
-// `read_table`, for C and Rust.
-#[unsafe(no_mangle)]
-pub extern "C" fn chieftables_read_table(text: &[u8], words: &mut [u32]) -> Counted
-    ensures { ReadTable text.now words.old result.answer result.count words.new }
-{
-    read_table(text, words)
 }

@@ -1,7 +1,4 @@
 // The caller's words written as table text into the caller's bytes: 21, 16, or 0 and the count of bytes.
-//
-//   write_table                the call
-//   chieftables_write_table    the same, for C and Rust
 ghost use Rattle.definitions.specs.Answers.{WriteTable};
 
 use crate::counted::Counted;
@@ -15,12 +12,4 @@ pub fn write_table(words: &[u32], out: &mut [u8]) -> Counted
         answer: a.status,
         count: a.count,
     }
-}
-
-// `write_table`, for C and Rust.
-#[unsafe(no_mangle)]
-pub extern "C" fn chieftables_write_table(words: &[u32], out: &mut [u8]) -> Counted
-    ensures { WriteTable words.now out.old result.answer result.count out.new }
-{
-    write_table(words, out)
 }

@@ -8,6 +8,8 @@
 //   take, take_all                  what is claimed whole
 //   slot, share                     a slot
 //   claim, first_clash              one representation, and all of a level
+#![tactic(auto)]
+
 ghost use Rattle.std.specs.Prelude.{◌≡◌, true, suc, ◌+◌, ◌*◌, ◌/◌, ◌≤◌, ◌<◌, length};
 ghost use Rattle.definitions.specs.Table.{level_at};
 ghost use Rattle.seek.specs.Seek.{Whole, HasLines};

@@ -35,7 +35,7 @@ use Rattle.monomial.proofs.Maps.{pair, at_mul}
 use Rattle.monomial.proofs.Residues.{residues, add-value, times-value, less-value, part-value, unit, unit-value, unit-injective, log, log-below}
 use Rattle.monomial.proofs.Frames.{shows-mul, shows-power, shows-value, shows-map, shows-on, shows-scale, same-shown, shown-same}
 use Rattle.clifford.specs.Stands.{frame, Rung}
-use Rattle.clifford.proofs.Numbering.{P, p, N, deg, rep, τ, S, ready, rep_below, first_of-rep, first_of-column}
+use Rattle.clifford.proofs.Numbering.{P, p, N, rep, τ, S, ready, rep_below, first_of-rep, first_of-column}
 use Rattle.clifford.proofs.Defect.{defect, defect-eq}
 use Rattle.clifford.proofs.Top.{Normed, Y, Y-at, raised, raised-hom, raised-low, raised-top, φ, q-eq, fixed-stays}
 use Rattle.clifford.proofs.Step.{Roots, numbered, numbered-zero, Y-numbered-at}

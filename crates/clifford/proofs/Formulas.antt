@@ -18,7 +18,7 @@ use Rattle.monomial.proofs.Schur.{rep-power}
 use Rattle.clifford.specs.Stands.{Rung}
 use Rattle.clifford.proofs.Numbering.{P, p, N, rep, τ, S, ready, O, orbit-same}
 use Rattle.clifford.proofs.Defect.{defect, defect-eq, defect-const, defect-power, X-maps}
-use Rattle.clifford.proofs.Top.{Y-at, q}
+use Rattle.clifford.proofs.Top.{Y-at}
 use Rattle.clifford.proofs.Scalars.{σ, σ-last}
 use Rattle.clifford.proofs.Extensions.{E, Φ, 𝓢, first, first_rep, first-shown, image-shows}
 use Rattle.clifford.proofs.Inductions.{along-shows, last-shows, position-of}

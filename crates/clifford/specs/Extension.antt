@@ -1,7 +1,7 @@
 -- What one step up the chief series needs of the groups: a group G of finite order, its cyclic extension G⁺ by
 -- generator i, and how the generators up to n - 1 act on both by conjugation.
 --
---   Extension 𝓛 𝓛⁺ conj conj⁺ i n
+--   Extension 𝓖 𝓖⁺ conj conj⁺ i n
 use Rattle.std.specs.Prelude.{◌≡◌, ℕ, ◌≤◌, ◌<◌}
 use Rattle.definitions.specs.Lists.{iter}
 use Rattle.definitions.specs.Presentation.{Mul, power}

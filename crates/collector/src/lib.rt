@@ -8,6 +8,8 @@
 //   turn, carry                  its parts: repeated conjugation, and the power word
 //   image, conjugate, turned     conjugates: of a generator, of a form, again and again
 //   power, scaled                a power; a power times a form
+#![tactic(auto)]
+
 ghost use Rattle.std.specs.Prelude.{◌≡◌, suc, ◌*◌, ◌%◌, ◌≤◌, ◌<◌, length, get_or};
 ghost use Rattle.definitions.specs.Presentation.{max_generators};
 ghost use Rattle.rows.specs.Rows.{Small, Single};

@@ -1,1 +1,2 @@
 // One column moved through products of matrices. Definitions and theorems only.
+#![tactic(auto)]

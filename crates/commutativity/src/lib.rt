@@ -2,13 +2,15 @@
 //
 //   Told            the number of a refusal and 0, or 0 and 1 for yes, 0 for no
 //   commutative     whether every representation of the top level has degree 1
+#![tactic(auto)]
+
 ghost use Rattle.definitions.specs.Answers.{Commutative};
 
 use acceptance::accepted;
 use rows::{GENERATORS, PAIRS};
 
 // The number of a refusal and 0, or 0 and 1 for yes, 0 for no.
-#[derive(Drop)]
+#[derive(Clone, Copy)]
 pub struct Told {
     pub answer: u32,
     pub yes: u32,

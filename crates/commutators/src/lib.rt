@@ -1,6 +1,8 @@
 // Whether the commutator words of a presentation are empty, as its rows tell.
 //
 //   words_empty      those of all pairs of the first n generators
+#![tactic(auto)]
+
 ghost use Rattle.std.specs.Prelude.{◌≡◌, ◌≤◌};
 ghost use Rattle.definitions.specs.Presentation.{max_generators};
 ghost use Rattle.commutators.specs.Empty.{rows_empty};

@@ -5,6 +5,8 @@
 //   reached, reaches             from where on a generator commutes with those below it
 //   risen, rises                 how far a generator commutes with every other
 //   moved                        the highest exponent of a row that a conjugation may change
+#![tactic(auto)]
+
 ghost use Rattle.std.specs.Prelude.{◌≡◌, ◌≤◌, ◌<◌, get_or};
 ghost use Rattle.definitions.specs.Presentation.{max_generators};
 ghost use Rattle.commuting.specs.Commuting.{keeps, KeepsFrom, Reach, Quiet, Rise, Central};

@@ -11,6 +11,8 @@
 //   led_to, upper_fits               the generators above the top, on a block
 //   block_fits                       all generators, on a block
 //   width, proper, rep_fits           all blocks of a representation
+#![tactic(auto)]
+
 ghost use Rattle.std.specs.Prelude.{◌≡◌, true, ◌+◌, ◌*◌, ◌/◌, ◌≤◌, ◌<◌, length, get_or};
 ghost use Rattle.level.specs.Stored.{entry_in, Holds, listed_in};
 ghost use Rattle.compare.specs.Shifted.{LineShifted, Shifted, LineSame, LinesSame};
@@ -22,7 +24,7 @@ use seek::Scope;
 
 // A level and the level below: the generator on top and its prime; where the first lines of the representations of the level
 // below, and of the level itself, stand in a list, and how many there are.
-#[derive(Drop)]
+#[derive(Clone, Copy)]
 pub struct Stage {
     pub top: u32,
     pub p: u32,
@@ -33,7 +35,7 @@ pub struct Stage {
 }
 
 // A block of a representation: its first column, the number to which it refers, and that representation of the level below.
-#[derive(Drop)]
+#[derive(Clone, Copy)]
 pub struct Stretch {
     pub start: u32,
     pub refn: u32,
@@ -41,7 +43,7 @@ pub struct Stretch {
 }
 
 // What moves a matrix to a block: the reference of the columns, and what is added to rows and to exponents.
-#[derive(Drop)]
+#[derive(Clone, Copy)]
 pub struct Shift {
     pub refn: u32,
     pub row: u32,

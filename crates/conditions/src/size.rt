@@ -11,7 +11,7 @@ ghost use Rattle.conditions.specs.Size.{Measured, LevelOrders};
 
 use rows::{GENERATORS, Row};
 
-#[derive(Drop)]
+#[derive(Clone, Copy)]
 pub struct Size {
     pub order: u32,
     pub words: usize,

@@ -6,6 +6,8 @@
 //   fixes_power                  conjugation by a generator fixes its power word
 //   is_inner_at, is_inner_on, is_inner    its power is conjugation by that word
 //   level_passes, consistent     the test for a generator; for all
+#![tactic(auto)]
+
 ghost use Rattle.std.specs.Prelude.{◌≡◌, suc, ◌≤◌, ◌<◌, length};
 ghost use Rattle.definitions.specs.Lists.{all_below};
 ghost use Rattle.definitions.specs.Presentation.{max_generators};

@@ -3,6 +3,8 @@
 //   Constructed      the number of a refusal and 0, or 0 and the count of lines
 //   build_sound      the table of a sound presentation, or 16
 //   build            so for a text
+#![tactic(auto)]
+
 ghost use Rattle.definitions.specs.Answers.{Build};
 ghost use Rattle.acceptance.specs.Accepted.{SomeSound};
 ghost use Rattle.construction.specs.Sized.{Sized};
@@ -13,7 +15,7 @@ use presentation::Outcome;
 use rows::{GENERATORS, PAIRS, Rows};
 
 // The number of a refusal and 0, or 0 and the count of lines.
-#[derive(Drop)]
+#[derive(Clone, Copy)]
 pub struct Constructed {
     pub answer: u32,
     pub lines: usize,

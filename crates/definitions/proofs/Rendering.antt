@@ -19,7 +19,7 @@
 --   value_line-unique, lines-unique     the same for a line and for lines of values
 --   render-unique, render-injective    the names and the rows of a rendering
 --   length-upto, presentation_names-fields, -length, -injective    the names line of presentation text
---   row_formed, FormedRows, well_formed-formed, formed-well_formed       the conditions of `wellFormed`
+--   row_formed, FormedRows, well_formed-formed, formed-well_formed       the conditions of `well_formed`
 --   says-unique                   a text says the relations of one presentation
 use mathlib.Core.Path.{◌≡◌, refl, sym, ap, ap₂, subst, ◌∙◌}
 use mathlib.Core.Logic.{◌↔◌, ◌≢◌}
@@ -341,7 +341,7 @@ row_values-injective (p ∷ ps) (r ∷ rs) (r' ∷ rs') l m q =
     let first : r ≡ r' = λ i. record { p = head-eq_of_cons-eq h i; word = tail-eq_of_cons-eq h i } in
     ap₂ (λ (z : Row) (zs : List Row). z ∷ zs) first (row_values-injective ps rs rs' (suc_inj l) (suc_inj m) (tail-eq_of_cons-eq q))
 
--- the four conditions of `wellFormed`
+-- the four conditions of `well_formed`
 abbrev pub row_formed : ℕ → Row → Bool
 row_formed n r = eqb (length r.word) n && leb r.p largest && small r.word
 

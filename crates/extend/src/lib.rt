@@ -6,6 +6,8 @@
 //   append_matrix, append_top    one generator of an extension, other than the one on top, and that
 //   append_low, append_extension      the generators up to the one on top; one extension
 //   append_each, append_extensions     all of them
+#![tactic(auto)]
+
 ghost use Rattle.std.specs.Prelude.{◌≡◌, List, ℕ, ◌+◌, ◌*◌, ◌≤◌, ◌<◌};
 ghost use Rattle.lines.specs.Lines.{Space, Appended};
 ghost use Rattle.survey.specs.Below.{low_of, deg_of, Fixed, Sound, Surveyed};
@@ -21,7 +23,7 @@ use targets::{LANDING, START, TARGETS};
 
 // What the extensions of a representation are copied from: its number and its lines; the number and the constant of
 // extension 0; and what each extension adds to the constant.
-#[derive(Drop)]
+#[derive(Clone, Copy)]
 pub struct Origin {
     pub rep: u32,
     pub source: Listed,

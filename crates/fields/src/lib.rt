@@ -2,6 +2,8 @@
 //
 //   get      reads a field
 //   put      stores a field
+#![tactic(auto)]
+
 ghost use Rattle.std.specs.Prelude.{◌≡◌, get_or};
 ghost use Rattle.fields.specs.Fields.{field, Inside, Put};
 

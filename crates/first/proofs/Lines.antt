@@ -1,6 +1,6 @@
 -- The lines of level 1, their lengths, and bounds of their numbers.
 --
---   root_line                  the eight words of a line
+--   root_line-is               the eight words of a line
 --   root_line-length, root_words-length, first_words-length     eight words for each line
 --   root-room                  there is room for a power where there is room for all
 --   word_read                  an exponent that was read from a word
@@ -18,9 +18,9 @@ use Rattle.lines.proofs.Appending.{Going, going-room}
 use Rattle.first.specs.Roots.{root_ref, root_exp, root_line, root_words, first_words}
 
 module _ (n p m : ℕ) (rows : List (List ℕ)) where
-  pub root_line : (k g r e : ℕ) → r ≡ root_ref p rows k g → e ≡ root_exp p m k g → (1 ∷ k ∷ 1 ∷ (g + 1) ∷ r ∷ 0 ∷ 0 ∷ e ∷ []) ≡ root_line p m rows k g
+  pub root_line-is : (k g r e : ℕ) → r ≡ root_ref p rows k g → e ≡ root_exp p m k g → (1 ∷ k ∷ 1 ∷ (g + 1) ∷ r ∷ 0 ∷ 0 ∷ e ∷ []) ≡ root_line p m rows k g
   unfolding root_line
-  root_line k g r e a b = λ o. 1 ∷ k ∷ 1 ∷ add-one g o ∷ a o ∷ 0 ∷ 0 ∷ b o ∷ []
+  root_line-is k g r e a b = λ o. 1 ∷ k ∷ 1 ∷ add-one g o ∷ a o ∷ 0 ∷ 0 ∷ b o ∷ []
 
   pub root_line-length : (k g : ℕ) → length (root_line p m rows k g) ≡ 8
   unfolding root_line

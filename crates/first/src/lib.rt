@@ -1,4 +1,6 @@
 // Level 1, as lines at the start of the caller's words: its representations are the powers of one root.
+#![tactic(auto)]
+
 ghost use Rattle.std.specs.Prelude.{◌≡◌, ◌+◌, ◌*◌, ◌≤◌, ◌<◌, length};
 ghost use Rattle.text.specs.Writing.{Wrote};
 ghost use Rattle.first.specs.Roots.{WordsBelow, root_ref, root_exp, root_words, first_words};

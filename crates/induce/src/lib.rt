@@ -7,6 +7,8 @@
 //   append_cell, append_below, append_cells      the lines of a block, and of the blocks of a generator
 //   find_scalars, induced_target       scalars and reference of a generator above the one on top
 //   append_generator, append_induction       a generator, and the representation
+#![tactic(auto)]
+
 ghost use Rattle.std.specs.Prelude.{◌≡◌, List, [], cond, ℕ, ◌*◌, ◌≤◌, ◌<◌, leb, length};
 ghost use Rattle.formulas.specs.Formulas.{block_to};
 ghost use Rattle.lines.specs.Lines.{Appended, Space};
@@ -20,7 +22,7 @@ use rows::Rows;
 use survey::Frame;
 
 // What is induced from an orbit: the least representation of that, the number, and the degree of a block.
-#[derive(Drop)]
+#[derive(Clone, Copy)]
 pub struct Induction {
     pub leader: u32,
     pub number: u32,
@@ -43,7 +45,7 @@ fn find_induction(low: &[u32], notes: &[u32], blocks: &mut [u32], f: Frame, r: u
 
 // A block of a generator's matrix: the line at which the matrix of its representation begins, the blocks from which and to
 // which the generator takes it, the power of the root that it is multiplied by, and its reference.
-#[derive(Drop)]
+#[derive(Clone, Copy)]
 pub struct Cell {
     pub src: usize,
     pub from: u32,

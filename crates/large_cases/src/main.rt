@@ -10,6 +10,8 @@
 //   check_first_lines        so many lines, checked
 //   build_checked            a table, built and checked
 //   answer, answer_at, answer_all     a case, the one at a position, and all of them
+#![tactic(auto)]
+
 ghost use Rattle.std.specs.Prelude.{◌<◌, ◌≤◌, length};
 
 // Bytes of the standard input, at most.
@@ -24,7 +26,7 @@ fn print(number: u64) {
 }
 
 // What a build answers and counts, a sum over all words, and the answer to the check of the counted lines.
-#[derive(Drop)]
+#[derive(Clone, Copy)]
 struct Told {
     answer: u32,
     count: usize,

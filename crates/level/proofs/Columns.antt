@@ -24,7 +24,7 @@ use lib.ListN.{length, get_or}
 use Rattle.definitions.specs.declared.Entry.{Entry}
 use Rattle.definitions.specs.Lists.{iter}
 use Rattle.definitions.specs.Presentation.{to_nf}
-use Rattle.definitions.specs.Monomial.{Matrix, entry, less, col, act, scale}
+use Rattle.definitions.specs.Monomial.{Matrix, entry, col, act, scale}
 use Rattle.numbers.proofs.Lists.{iter-suc, iter-add, iter-zero}
 use Rattle.numbers.proofs.Blocks.{get_d_map, get_or-table}
 use Rattle.formulas.specs.Formulas.{walk, plus}

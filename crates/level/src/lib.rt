@@ -13,6 +13,8 @@
 //   moved, moved_times, walked   a column moved through a generator, through it several times, through a word
 //   scaled, scaled_times         the same through a generator times a power of the root
 //   through                      column 0 moved through a generator of one representation and one of another
+#![tactic(auto)]
+
 ghost use Rattle.std.specs.Prelude.{◌≡◌, ℕ, suc, ◌+◌, ◌*◌, ◌%◌, ◌≤◌, ◌<◌, length};
 ghost use Rattle.definitions.specs.Lists.{iter};
 ghost use Rattle.definitions.specs.Presentation.{max_generators, to_nf};
@@ -123,7 +125,7 @@ fn steps(words: &[u32], at: usize, d: u32, k: u32, x: Entry, m: u32) -> Entry
 }
 
 // Turns of an entry, and where they lead.
-#[derive(Drop)]
+#[derive(Clone, Copy)]
 struct Lap {
     turns: u32,
     to: Entry,
@@ -279,7 +281,7 @@ fn single_word(words: &[u32], at: usize, w: &Row, n: usize, e: u32, m: u32) -> u
 }
 
 // A representation that stands in lines: its first line, and its degree.
-#[derive(Drop)]
+#[derive(Clone, Copy)]
 pub struct Listed {
     pub line: usize,
     pub deg: u32,

@@ -27,7 +27,7 @@ use Rattle.agreement.proofs.Table.{rungs}
 use Rattle.level.specs.Stored.{Below, Holds, entry_in}
 use Rattle.survey.specs.declared.Frame.{Frame}
 use Rattle.survey.specs.Below.{LevelStands, first_of, deg_of, matrix_of, target_of}
-use Rattle.levels.specs.Built.{up_to, lines_to, degree_in, frame_at, WithinCeilings, Placed, modulus}
+use Rattle.levels.specs.Built.{up_to, lines_to, degree_in, frame_at, WithinCeilings, Placed}
 use Rattle.levels.proofs.Places.{up_to-length, start_of, start-suc, start-end}
 use Rattle.levels.proofs.Room.{order_le, whole, degree_pos, degree-le, reps-le, lines-small}
 use Rattle.levels.proofs.Distinct.{rows-distinct}

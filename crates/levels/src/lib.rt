@@ -5,6 +5,8 @@
 //   level_of_4 .. level_of_any     with arrays for so many representations; next_level chooses among them
 //   Reached, levels_to             the first levels
 //   build_levels                   all of them
+#![tactic(auto)]
+
 ghost use Rattle.std.specs.Prelude.{◌*◌, ◌≤◌, ◌<◌, length};
 ghost use Rattle.clifford.specs.Accepted.{Accepted};
 ghost use Rattle.builder.specs.Level.{LevelAsked, LevelMade};
@@ -137,7 +139,7 @@ fn next_level(words: &mut [u32], rows: &Rows, f: Frame) -> Written
 }
 
 // Where the level that was written last begins and ends, and how many representations it has.
-#[derive(Drop)]
+#[derive(Clone, Copy)]
 struct Reached {
     base: usize,
     reps: u32,

@@ -6,13 +6,15 @@
 //   append_copy                  the lines of a matrix as it stands, with another head
 //   block_entry                  a column of a piece, as it stands in the greater matrix
 //   append_line, append_block    the line of a piece of degree 1; the lines of a piece
+#![tactic(auto)]
+
 ghost use Rattle.std.specs.Prelude.{◌≡◌, ◌+◌, ◌*◌, ◌≤◌, ◌<◌, length, take};
 ghost use Rattle.lines.specs.Lines.{head_line, copy_lines, block_entry, block_lines, Copied, Space, Appended};
 
 use definitions::Entry;
 
 // What the lines of one matrix share.
-#[derive(Drop)]
+#[derive(Clone, Copy)]
 pub struct Head {
     pub level: u32,
     pub rep: u32,
@@ -23,7 +25,7 @@ pub struct Head {
 
 // A matrix as a block of a greater one: its first line and its degree, the columns and the rows before it, and the power of
 // the root that it is multiplied by.
-#[derive(Drop)]
+#[derive(Clone, Copy)]
 pub struct Piece {
     pub src: usize,
     pub deg: u32,

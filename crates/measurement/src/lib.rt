@@ -2,6 +2,8 @@
 //
 //   Wanted           the number of a refusal and 0, or 0 and the words that a build wants
 //   measure          so for a text
+#![tactic(auto)]
+
 ghost use Rattle.definitions.specs.Answers.{Measure};
 
 use acceptance::accepted;
@@ -9,7 +11,7 @@ use conditions::size;
 use rows::{GENERATORS, PAIRS};
 
 // The number of a refusal and 0, or 0 and the words that a build wants.
-#[derive(Drop)]
+#[derive(Clone, Copy)]
 pub struct Wanted {
     pub answer: u32,
     pub words: usize,

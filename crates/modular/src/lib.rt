@@ -2,6 +2,8 @@
 //
 //   reduce               a number below 2m modulo m
 //   add_mod, sub_mod     the sum and the difference of two numbers below m
+#![tactic(auto)]
+
 ghost use Rattle.std.specs.Prelude.{◌≡◌, ◌+◌, ◌%◌, ◌≤◌, ◌<◌};
 ghost use Rattle.definitions.specs.Monomial.{less};
 

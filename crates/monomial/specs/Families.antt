@@ -2,7 +2,7 @@
 -- column, and a matrix is one map of Ω that holds the matrices of all representations at once.
 --
 --   Separated d a b       some group element fixes a and b with exponents that differ
---   Family 𝓛 conj i n     representations of a group, with intertwiners of the generators from i to n - 1
+--   Family 𝓖 conj i n     representations of a group, with intertwiners of the generators from i to n - 1
 --   Alike d φ Z Y         two maps that move past the representation alike
 use Rattle.std.specs.Prelude.{◌≡◌, ℕ, ◌≤◌, ◌<◌}
 use Rattle.definitions.specs.Presentation.{Mul}

@@ -9,6 +9,8 @@
 //   conjugate, left              one side of an intertwiner's equation at a block
 //   constant, right              the other
 //   next_scalar, list_scalars    lists the scalars, from block to block
+#![tactic(auto)]
+
 ghost use Rattle.std.specs.Prelude.{◌≡◌, List, ℕ, ◌*◌, ◌≤◌, ◌<◌, length, get_or};
 ghost use Rattle.definitions.specs.Lists.{iter};
 ghost use Rattle.fields.specs.Fields.{field, Inside, Put};
@@ -72,7 +74,7 @@ fn of_block(low: &[u32], notes: &[u32], blocks: &[u32], f: Frame, r: u32, b: u32
 }
 
 // An entry in a block of an orbit.
-#[derive(Drop)]
+#[derive(Clone, Copy)]
 pub struct BlockEntry {
     pub block: u32,
     pub x: Entry,
@@ -193,7 +195,7 @@ fn right(low: &[u32], notes: &[u32], blocks: &[u32], f: Frame, j: u32, r: u32, b
 }
 
 // A block, and its scalar.
-#[derive(Drop)]
+#[derive(Clone, Copy)]
 pub struct BlockScalar {
     pub block: u32,
     pub exp: u32,

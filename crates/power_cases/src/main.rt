@@ -12,6 +12,8 @@
 //   print_powers               the lines of a matrix; print_refused, that of what is none
 //   answer, answer_at          a case, and that at a position
 //   answer_all                 all cases
+#![tactic(auto)]
+
 ghost use Rattle.std.specs.Prelude.{◌≤◌, ◌<◌, ◌≡◌, length};
 ghost use Rattle.level.specs.Stored.{Holds};
 

@@ -135,9 +135,9 @@ module _ {t : Bytes} {n next : ℕ} (nm : NamesLine t n next) {rows : List (List
     unfolding presentation
     order_is = sym (product-order (presentation relations_of) primes n prime_is n (omega arith))
 
-    too_large : too_large relations_of ≡ ltb max_order (product primes n)
+    too_large_lem : too_large relations_of ≡ ltb max_order (product primes n)
     unfolding too_large
-    too_large =
+    too_large_lem =
         ap (λ (b : Bool). b || ltb max_order (order (presentation relations_of) n)) (le-ltb max_generators n few)
         ∙ ap (ltb max_order) order_is
 
@@ -172,8 +172,8 @@ module _ {t : Bytes} {n next : ℕ} (nm : NamesLine t n next) {rows : List (List
       not12 = unsaid some_not_prime says-them (all-prime q)
 
       large : (b : Bool) → leb (product h.primes n) max_order ≡ b → too_large relations_of ≡ not b
-      large true w = too_large few h.are ∙ le-ltb max_order (product h.primes n) (leb-true (product h.primes n) max_order w)
-      large false w = too_large few h.are ∙ lt-ltb max_order (product h.primes n) (leb-false (product h.primes n) max_order w)
+      large true w = too_large_lem few h.are ∙ le-ltb max_order (product h.primes n) (leb-true (product h.primes n) max_order w)
+      large false w = too_large_lem few h.are ∙ lt-ltb max_order (product h.primes n) (leb-false (product h.primes n) max_order w)
 
       not13 : leb (product h.primes n) max_order ≡ true → ¬ says t (λ (R : Relations). too_large R ≡ true)
       not13 w = unsaid too_large says-them (large true w)

@@ -3,6 +3,8 @@
 //   Outcome, refused      what reading leaves beside the rows: a refusal, or 0, n and the primes
 //   conclude              refusals 13 and 14 on what was kept of a text whose generators have room
 //   read                  the presentation that a text says
+#![tactic(auto)]
+
 ghost use Rattle.std.specs.Prelude.{◌≡◌, ℕ, ◌<◌, ◌≤◌, length, get_or};
 ghost use Rattle.definitions.specs.Presentation.{max_generators, pair_count, pair_number};
 ghost use Rattle.presentation.specs.Outcome.{Concluded, ReadText};
@@ -12,7 +14,7 @@ use rows::{GENERATORS, PAIRS, Row, Rows};
 use text::Read;
 
 // What reading a text leaves beside the rows: the number of a refusal, or 0, n and the primes.
-#[derive(Drop)]
+#[derive(Clone, Copy)]
 pub struct Outcome {
     pub status: u32,
     pub n: usize,

@@ -1,25 +1,49 @@
 // What the programs share.
 //
-//   read_file        the start of a file
+//   fill, read_file  bytes of a reader, as many as there is room for; the start of a file
 //   ANSWER           bytes of the text of an answer, at most
 //   put_answer       the text of an answer
+#![tactic(auto)]
+
 ghost use Rattle.std.specs.Prelude.{◌≡◌, ◌≤◌, length, take};
 ghost use Rattle.io.specs.Counts.{IsPrefixLen};
 ghost use Rattle.definitions.specs.Programs.{answer_text};
 
-// Reads the start of a file, and returns how many bytes it read: 0 if the file is missing or cannot be read. The contract bounds the
-// count. Nothing can be proved about the bytes, or about which file they come from, since the contracts of the C library that the
-// kit assumes state neither.
-pub fn read_file(name: &[u8], text: &mut [u8]) -> usize
+use std::fs;
+use std::io::Read;
+use std::rt::Files;
+
+// Reads from a file until the buffer is full or the file gives no more, and returns how many bytes came. A read that fails ends it.
+fn fill<F: Read>(file: &mut F, text: &mut [u8]) -> usize
     ensures { IsPrefixLen result text.new }
 {
-    let fd = os::open_read(name);
-    if fd < 0 {
-        return 0;
+    let mut count = 0;
+    while count < text.len() {
+        let Ok(more) = file.read(&mut text[count..]) else {
+            return count;
+        };
+        if more == 0 {
+            return count;
+        }
+        count += more;
     }
-    let count = io::read_full(fd, text);
-    libc::close(fd);
     count
+}
+
+// Reads the start of a file, and returns how many bytes it read: 0 if the file is missing or cannot be read. A name that is not UTF-8
+// names no file. The contract bounds the count. Nothing can be proved about the bytes, or about which file they come from, since no
+// contract of the library says which bytes the system gives.
+pub fn read_file(rt: &impl Files, name: &[u8], text: &mut [u8]) -> usize
+    ensures { IsPrefixLen result text.new }
+{
+    let Ok(path) = str::from_utf8(name) else {
+        return 0;
+    };
+    let Ok(file) = fs::open(rt, path) else {
+        return 0;
+    };
+    let mut file = file;
+    fill(&mut file, text)
 }
 
 // Bytes of the text of an answer, at most: a name of six, a number of ten digits, and the ends of two lines.

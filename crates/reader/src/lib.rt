@@ -7,6 +7,8 @@
 //   keep           keeps a line
 //   still_prime    the primes so far, with one more
 //   read_lines     all lines of values
+#![tactic(auto)]
+
 ghost use Rattle.std.specs.Prelude.{◌≡◌, ◌&&◌, [], ◌∷◌, ◌+◌, ◌<◌, ◌≤◌, length, drop};
 ghost use Rattle.definitions.specs.Text.{largest};
 ghost use Rattle.definitions.specs.Presentation.{pair_count, pair_number};
@@ -77,7 +79,7 @@ fn head(text: &[u8], at: usize, j: u32, i: u32) -> Read
 }
 
 // The exponents of a line, of which as many are kept as a row has.
-#[derive(Drop)]
+#[derive(Clone, Copy)]
 pub struct WordRead {
     pub ok: bool,
     pub next: usize,
@@ -122,7 +124,7 @@ fn exponents(text: &[u8], at: usize, n: u32) -> WordRead
 }
 
 // A pair of generators, i at most j.
-#[derive(Drop)]
+#[derive(Clone, Copy)]
 pub struct Pair {
     pub j: u32,
     pub i: u32,
@@ -170,7 +172,7 @@ fn still_prime(primes: bool, j: u32, i: u32, p: u32) -> bool
 }
 
 // Whether the lines stand, and whether every p of a line i = j is prime.
-#[derive(Drop)]
+#[derive(Clone, Copy)]
 pub struct LinesRead {
     pub ok: bool,
     pub primes: bool,

@@ -9,6 +9,8 @@
 //   top_relations, all_relations                     those of one generator with the ones below it, and of all
 //   carried, all_carried                             a generator carried over by an intertwiner, and all of a level
 //   led_to, intertwiner, all_intertwiners            where an intertwiner leads, what is asked of it, and of all
+#![tactic(auto)]
+
 ghost use Rattle.std.specs.Prelude.{◌≡◌, ◌≤◌, ◌<◌};
 ghost use Rattle.columns.specs.Columns.{same_at};
 ghost use Rattle.level.specs.Stored.{target_in};

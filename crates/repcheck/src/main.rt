@@ -1,10 +1,11 @@
 // Answers whether the table text in the file table.txt passes for the presentation text in the file group.txt: the line
 // `answer` and a line with 0 or the number of the refusal.
+#![tactic(auto)]
+
 ghost use Rattle.definitions.specs.Answers.{Accept};
 ghost use Rattle.definitions.specs.Programs.{Repcheck};
 ghost use Rattle.repcheck.specs.Judged.{Replied};
 
-use libc::STDOUT_FILENO;
 use program::ANSWER;
 
 // Bytes of a presentation text and of a table text, at most.
@@ -51,14 +52,14 @@ fn judge_files(group: &[u8], table: &[u8]) -> u32
 fn print_answer(number: u32) {
     let mut out = [0u8; ANSWER];
     let count = program::put_answer(&mut out, number);
-    io::write_all(STDOUT_FILENO, &out[..count]);
+    io::write_all(1, &out[..count]);
 }
 
 // One byte more is read than a text may have, so that a longer file is seen.
-fn main() {
+fn main(rt: HostRuntime) {
     let mut group = [0u8; GROUP + 1];
     let mut table = [0u8; TABLE + 1];
-    let g = program::read_file(b"group.txt", &mut group);
-    let t = program::read_file(b"table.txt", &mut table);
+    let g = program::read_file(&rt, b"group.txt", &mut group);
+    let t = program::read_file(&rt, b"table.txt", &mut table);
     print_answer(judge_files(&group[..g], &table[..t]));
 }

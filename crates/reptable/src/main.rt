@@ -1,5 +1,7 @@
 // Writes the table of the presentation text in the file group.txt to the standard output: the table text, or the line
 // `answer` and a line with the number of the refusal.
+#![tactic(auto)]
+
 ghost use Rattle.std.specs.Prelude.{◌≤◌, length, take};
 ghost use Rattle.io.specs.Counts.{IsPrefixLen};
 ghost use Rattle.definitions.specs.Answers.{build_refusals};
@@ -7,7 +9,6 @@ ghost use Rattle.definitions.specs.Programs.{lent_words, reptable_refusals, Rept
 ghost use Rattle.reptable.specs.Tabulated.{room, Tabulated};
 
 use chieftables::counted::Counted;
-use libc::STDOUT_FILENO;
 
 // Bytes of a presentation text, at most.
 const TEXT: usize = 4096;
@@ -72,12 +73,12 @@ fn print_reply(bytes: &[u8]) {
     let mut out = [0u8; ROOM];
     let made = reply(bytes, &mut out);
     let count = made.count;
-    io::write_all(STDOUT_FILENO, &out[..count]);
+    io::write_all(1, &out[..count]);
 }
 
 // One byte more is read than a text may have, so that a longer file is seen.
-fn main() {
+fn main(rt: HostRuntime) {
     let mut text = [0u8; TEXT + 1];
-    let count = program::read_file(b"group.txt", &mut text);
+    let count = program::read_file(&rt, b"group.txt", &mut text);
     print_reply(&text[..count]);
 }

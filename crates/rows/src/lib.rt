@@ -11,6 +11,8 @@
 //   same, empty                  whether two rows say one normal form; whether a row says the trivial one
 //   top                          the highest exponent that is not 0
 //   stacked, copied              rows of two
+#![tactic(auto)]
+
 ghost use Rattle.std.specs.Prelude.{◌≡◌, [], ◌≤◌, ◌<◌, length, get_or};
 ghost use Rattle.definitions.specs.Presentation.{max_generators, pair_count, to_nf, trivial, pair_number};
 ghost use Rattle.definitions.specs.Consistency.{same_form};

@@ -11,6 +11,8 @@
 //   following        the next of its level
 //   degree_of        the degree of a representation, of level 0 too
 //   count_of         how many representations a level has, level 0 too
+#![tactic(auto)]
+
 ghost use Rattle.std.specs.Prelude.{◌≡◌, true, ◌+◌, ◌*◌, ◌-◌, ◌≤◌, ◌<◌, length};
 ghost use Rattle.definitions.specs.Presentation.{max_generators, max_order};
 ghost use Rattle.definitions.specs.Monomial.{rep_of};
@@ -25,7 +27,7 @@ use rows::ORDER;
 const FURTHEST: usize = 4294967295;
 
 // How many lines there are, how many generators, and the modulus of the exponents.
-#[derive(Drop)]
+#[derive(Clone, Copy)]
 pub struct Scope {
     pub lines: usize,
     pub gens: u32,

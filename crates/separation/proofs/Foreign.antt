@@ -20,7 +20,7 @@ use borrow.Author.Tests.{eqb-true, eqb-false, not-true}
 use Rattle.definitions.specs.declared.Entry.{Entry}
 use Rattle.definitions.specs.Lists.{blocks, any}
 use Rattle.definitions.specs.Presentation.{NF, Presentation, Valid, value}
-use Rattle.definitions.specs.Monomial.{col, product, Level, rep_of, image, conjugate}
+use Rattle.definitions.specs.Monomial.{col, Level, rep_of, image, conjugate}
 use Rattle.definitions.specs.Table.{level_at}
 use Rattle.definitions.specs.Judgement
 use Rattle.numbers.proofs.Bools.{and_left, and_right, OneOf, first, second, or_cases, or_left, or_right}
@@ -82,7 +82,7 @@ module _ (P : Presentation) (m : ℕ) (pos : 0 < m) (i : ℕ) (L : Level) (A : F
   pub D : ℕ → Map (residues m pos) (Basis L)
   D k = dite (dec_lt k i) (λ l x.
       let y = col ((rep_of L x.0.0).matrix k) x.0.1 in (
-        ((x.0.0, y.row), (x.1.0, A.row-Below x.0.0 k x.0.1 x.1.0 l x.1.1)),
+        ((x.0.0, y.row), (x.1.0, A.row_below x.0.0 k x.0.1 x.1.0 l x.1.1)),
         (y.exp, A.exp_below x.0.0 k x.0.1 x.1.0 l x.1.1),
       )) (λ l. (maps (residues m pos) (Basis L)).one)
 

@@ -2,11 +2,13 @@
 //
 //   Signed, signed_of     sign and size of a number; those of a signed word
 //   Rounds, rounds_of     whole rounds, forward or back, and the turns behind them; those of a number
+#![tactic(auto)]
+
 ghost use Rattle.std.specs.Prelude.{◌≡◌, ◌<◌};
 ghost use Rattle.signed.specs.Signs.{number, RoundsOf};
 
 // The number `size`, or, below zero, the number -(size + 1).
-#[derive(Drop)]
+#[derive(Clone, Copy)]
 pub struct Signed {
     pub back: bool,
     pub size: u32,
@@ -29,7 +31,7 @@ pub fn signed_of(k: i32) -> Signed
 }
 
 // `rounds` rounds of a length, in the direction of a number, and `rest` turns forward behind them.
-#[derive(Drop)]
+#[derive(Clone, Copy)]
 pub struct Rounds {
     pub rounds: usize,
     pub rest: u32,

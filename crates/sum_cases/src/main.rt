@@ -5,6 +5,8 @@
 //   result, print_edges        m, a, and the sums or the differences of a with 0, 1, m / 2 and m - 1
 //   print_square               these with each of the four as a
 //   print_modulus              the sums, and the differences
+#![tactic(auto)]
+
 ghost use Rattle.std.specs.Prelude.{◌≡◌, ◌≤◌, ◌<◌, length};
 
 use rows::wide;

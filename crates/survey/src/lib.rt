@@ -12,6 +12,8 @@
 //   made, count_numbers          note the numbers
 //   carry, carry_around, around  an entry along an orbit
 //   closing, leading, find_shifts      note the constants
+#![tactic(auto)]
+
 ghost use Rattle.std.specs.Prelude.{◌≡◌, ◌+◌, ◌*◌, ◌≤◌, ◌<◌, length, get_or};
 ghost use Rattle.fields.specs.Fields.{field, Inside, Put};
 ghost use Rattle.survey.specs.Notes.{note_width, firsts, leaders, positions, numbers, shifts, Beside, Cleared, Marked};
@@ -44,7 +46,7 @@ pub const SHIFT: usize = 4;
 
 // What a level is made with: the modulus, the generator on top (from 0), how many generators there are, the prime of the
 // one on top, the first line of the level below, how many representations that has, and the line behind it.
-#[derive(Drop)]
+#[derive(Clone, Copy)]
 pub struct Frame {
     pub m: u32,
     pub top: u32,
@@ -102,7 +104,7 @@ pub fn top_target(low: &[u32], notes: &[u32], f: Frame, r: u32) -> u32
 }
 
 // How far first lines are noted: the representation behind those that have one degree, and its first line.
-#[derive(Drop)]
+#[derive(Clone, Copy)]
 pub struct NextFirst {
     pub rep: u32,
     pub line: usize,
@@ -246,7 +248,7 @@ pub fn count_numbers(low: &[u32], notes: &mut [u32], f: Frame) -> u32
 }
 
 // An entry at a representation.
-#[derive(Drop)]
+#[derive(Clone, Copy)]
 pub struct Carried {
     pub rep: u32,
     pub x: Entry,

@@ -6,6 +6,8 @@
 //   in_form         whether lines of words stand to the end of a text
 //   fill            stores them
 //   read_table      the call
+#![tactic(auto)]
+
 ghost use Rattle.std.specs.Prelude.{◌≡◌, not, cond, ◌*◌, ◌-◌, ◌<◌, ◌≤◌, length, ltb, eqb};
 ghost use Rattle.definitions.specs.Answers.{newlines, ReadTable};
 ghost use Rattle.table_reading.specs.Forms.{TableWordAt, FormAt, Room, Filled};

@@ -3,6 +3,8 @@
 //   LINE, NAMES     words of a line, bytes of the names line
 //   Answer          the number of a refusal, or 0 and the count of lines or bytes
 //   separator       the byte behind a word
+#![tactic(auto)]
+
 ghost use Rattle.std.specs.Prelude.{◌≡◌};
 ghost use Rattle.table_text.specs.Pieces.{separator_of};
 
@@ -13,7 +15,7 @@ pub const LINE: usize = 8;
 pub const NAMES: usize = 34;
 
 // The number of a refusal and 0, or 0 and a count.
-#[derive(Drop)]
+#[derive(Clone, Copy)]
 pub struct Answer {
     pub status: u32,
     pub count: usize,

@@ -4,6 +4,8 @@
 //   fits            whether the text of the words has room
 //   put_words       writes the words
 //   write_table     the call
+#![tactic(auto)]
+
 ghost use Rattle.std.specs.Prelude.{◌≡◌, ◌+◌, ◌<◌, ◌≤◌, length, leb};
 ghost use Rattle.definitions.specs.Text.{small};
 ghost use Rattle.definitions.specs.Answers.{WriteTable};

@@ -7,6 +7,8 @@
 //   root                         the constant of extension 0
 //   landing                      the number of the extension to which extension 0 goes
 //   find_targets                 this, and the first extension of each target, for all generators above the one on top
+#![tactic(auto)]
+
 ghost use Rattle.std.specs.Prelude.{◌≡◌, suc, ◌*◌, ◌/◌, ◌≤◌, ◌<◌, length, get_or};
 ghost use Rattle.definitions.specs.Presentation.{max_generators, max_order};
 ghost use Rattle.formulas.specs.Formulas.{landing};

@@ -9,13 +9,15 @@
 //   put_bytes      writes given bytes
 //   width          the number of digits of a value
 //   put_value      writes a value
+#![tactic(auto)]
+
 ghost use Rattle.std.specs.Prelude.{◌≡◌, ◌↔◌, true, [], ◌∷◌, ◌+◌, ◌%◌, ◌<◌, ◌≤◌, get_or, length};
 ghost use Rattle.definitions.specs.Text.{decimal};
 ghost use Rattle.text.specs.Reading.{DigitAt, ReadAt, StartsAt};
 ghost use Rattle.text.specs.Writing.{Wrote};
 
 // What stands at a position.
-#[derive(Drop)]
+#[derive(Clone, Copy)]
 pub enum Read {
     // A value, and the position behind its last digit.
     Value(u32, usize),

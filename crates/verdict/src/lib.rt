@@ -2,6 +2,8 @@
 //
 //   check_sound      the first of 21 to 26 for a sound presentation
 //   check            the first of all for a text
+#![tactic(auto)]
+
 ghost use Rattle.definitions.specs.Answers.{Check};
 ghost use Rattle.acceptance.specs.Accepted.{SomeSound};
 ghost use Rattle.verdict.specs.Checked.{Checks};

@@ -1,0 +1,15 @@
+-- `build_first`: as many are lent as there are, at most, and the others are kept.
+use mathlib.Core.Path.{sym, ◌∙◌}
+use native.Mathlib.Omega.{arith}
+use lib.Seq.{length-take-le}
+use Rattle.definitions.specs.Answers.{Build}
+use Rattle.case_calls.proofs.Lent.{lent-first}
+use Rattle.case_calls.proofs.build_first.Goals as goal
+
+pub slice_bounds-build-end-2 : goal.slice_bounds-build-end-2
+slice_bounds-build-end-2 c = sym (length-take-le _ _ (omega arith))
+
+pub returns : goal.returns
+returns c = let call = c.build in
+    let part = c.words_lent-n.ensures in
+    lent-first (Build c.args.text.now) part (call.auto.words ∙ length-take-le _ _ part.within) call.ensures

@@ -1,0 +1,14 @@
+-- `check_parsed`: the words that are lent are the first of those that the digits give.
+use mathlib.Core.Path.{sym}
+use native.Mathlib.Omega.{arith}
+use lib.Seq.{length-take-le}
+use Rattle.definitions.specs.Answers.{Check}
+use Rattle.case_calls.proofs.Lent.{part-words}
+use Rattle.case_calls.proofs.check_parsed.Goals as goal
+
+pub slice_bounds-check-end : goal.slice_bounds-check-end
+slice_bounds-check-end c = sym (length-take-le _ _ (omega arith))
+
+pub returns : goal.returns
+returns c = let text = c.args.text.now in
+    part-words (λ T. Check text T c.check.result) c.words_lent-n.ensures c.parse.ensures c.check.ensures

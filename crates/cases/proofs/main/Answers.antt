@@ -1,0 +1,14 @@
+-- `main` is safe: the buffer keeps its length, which a law tells, since computing it takes too long.
+use mathlib.Core.Path.{sym}
+use Prim.Native.Nat.{ℕ}
+use lib.ListN.{length-replicate}
+use Rattle.cases.proofs.main.Goals as goal
+
+pub slice_bounds-read_full-end : goal.slice_bounds-read_full-end
+slice_bounds-read_full-end c = sym (length-replicate {0} {A = ℕ} 1048576 0)
+
+pub slice_bounds-input-end : goal.slice_bounds-input-end
+slice_bounds-input-end c = c.read_full-n.ensures.0
+
+pub slice_bounds-answer_all-end : goal.slice_bounds-answer_all-end
+slice_bounds-answer_all-end c = c.read_full-n.ensures.1

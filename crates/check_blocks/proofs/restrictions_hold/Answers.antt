@@ -1,0 +1,33 @@
+-- `restrictions_hold` tests the levels one by one.
+use native.Mathlib.Omega.{arith}
+use Rattle.numbers.proofs.Passed.{passed-more}
+use Rattle.seek.proofs.Among.{table-fails, table-holds}
+use Rattle.check_blocks.proofs.Levels.{HoldingBehind, asks, up-behind}
+use Rattle.check_blocks.proofs.restrictions_hold.Goals as goal
+
+pub loop-i-init : goal.loop-i-init
+loop-i-init c = let (some, is) = c.restricted-first.ensures in
+    let a = c.args in
+    (up-behind a.s a.words.now a.from is, some)
+
+pub level_acts-requires : goal.level_acts-requires
+level_acts-requires c = (c.requires, c.loop-i.invariant.1, omega arith)
+
+pub returns-then-not-level_acts : goal.returns-then-not-level_acts
+returns-then-not-level_acts c = let a = c.args in
+    let t = c.level_acts in
+    let T = a.words.now in
+    record {
+      is = table-fails a.s T (HoldingBehind a.s T a.from) (asks a.s T) a.s.m (λ P p. p.formed.gens_are) c.loop-i.invariant.0 (omega arith)
+          (λ P p. t.ensures.is P p.formed)
+          (c.if-not-level_acts.true);
+    }
+
+pub loop-i-preserved : goal.loop-i-preserved
+loop-i-preserved c = let t = c.level_acts in
+    (passed-more c.loop-i.invariant.0 (λ P p. t.ensures.is P p.formed) (c.if-not-level_acts.false), omega arith)
+
+pub returns : goal.returns
+returns c = let a = c.args in
+    let T = a.words.now in
+    record { is = table-holds a.s T (HoldingBehind a.s T a.from) (asks a.s T) a.s.m (λ P p. p.formed.gens_are) c.loop-i.invariant.0 (omega arith) }

@@ -1,0 +1,63 @@
+-- `append_induction` appends its generators one behind the other.
+use mathlib.Core.Path.{◌≡◌, refl, sym, ap, ◌∙◌, subst}
+use Prim.Native.Nat.{◌<◌}
+use native.Mathlib.Omega.{arith}
+use lib.Seq.{length-take-le}
+use Rattle.definitions.specs.Lists.{blocks}
+use Rattle.text.proofs.Writing.{wrote_as}
+use Rattle.lines.proofs.Appending.{going_more, going-even, space-none, space-low}
+use Rattle.survey.specs.Below.{low_of}
+use Rattle.orbits.specs.Blocks.{Inducing}
+use Rattle.induce.specs.declared.Induction.{Induction}
+use Rattle.induce.specs.Inducing.{induced_words}
+use Rattle.induce.proofs.Cells.{induced-length}
+use Rattle.induce.proofs.Generators.{induced-degree, induction-is, induction-room}
+use borrow.Author.Rules.{rules}
+use Rattle.induce.proofs.append_induction.Goals as goal
+
+pub overflow_mul-n : goal.overflow_mul-n
+overflow_mul-n c = omega (arith, space-low c.requires.space)
+
+pub slice_bounds-find_induction-end : goal.slice_bounds-find_induction-end
+slice_bounds-find_induction-end c = space-low c.requires.space
+
+pub slice_bounds-find_induction-end-2 : goal.slice_bounds-find_induction-end-2
+slice_bounds-find_induction-end-2 c = sym (length-take-le _ _ (space-low c.requires.space))
+
+pub find_induction-i-requires : goal.find_induction-i-requires
+find_induction-i-requires c = ((c.args.rows.now, c.requires.surveyed.0), c.requires.surveyed.1.listed, c.requires.surveyed.2)
+
+pub loop-g-init : goal.loop-g-init
+loop-g-init c = let a = c.args in
+    let E = c.find_induction-i.ensures in
+    let I : Inducing a.f (low_of a.f a.words.now) a.rows.now a.notes.now _ a.r =
+    record { surveyed = c.requires.surveyed.0; leads = c.requires.surveyed.1; orbit_is = E.1 } in
+    let leader = ap (λ (i : Induction). i.leader) E.0 in
+    (search rules, search rules, refl, subst (Inducing a.f _ _ _ _) (sym leader) I, space-none c.requires.space)
+
+pub append_generator-pos-requires : goal.append_generator-pos-requires
+append_generator-pos-requires c = let l = c.loop-g in let f = c.args.f in let G = l.invariant.4 in
+    let W = low_of f c.args.words.now in
+    let i = c.find_induction-i.result in let E = c.find_induction-i.ensures.0 in
+    let less-than : l.g < f.gens = omega (arith, c.loop-g-test.true, l.invariant.1) in
+    let degree = induced-degree _ _ _ i _ E in
+    let room = induction-room _ _ _ i _ E c.requires.space in
+    let space = going-even f.gens _ (λ g. induced-length f W c.args.rows.now i g degree) G less-than room in
+    rw G.below (record { inducing = (l.invariant.3, less-than); deg_value = (degree, space) })
+
+pub loop-g-preserved : goal.loop-g-preserved
+loop-g-preserved c = let l = c.loop-g in let G = l.invariant.4 in
+    let A = c.append_generator-pos.ensures in
+    (search rules, search rules, search rules, rw G.below at A.inducing_2, going_more G (rw G.below at A.appended))
+
+pub shape_of-words : goal.shape_of-words
+shape_of-words c = c.loop-g.invariant.4.len
+
+pub returns : goal.returns
+returns c = let l = c.loop-g in let f = c.args.f in
+    let W = low_of f c.args.words.now in
+    let e : l.g ≡ f.gens = omega arith in
+    let i = c.find_induction-i.result in
+    let E = c.find_induction-i.ensures.0 in
+    let is = induction-is _ _ _ i _ E _ c.requires.surveyed.0 c.requires.surveyed.1.listed in
+    wrote_as l.invariant.4.wrote (ap (λ n. blocks n (induced_words f W c.args.rows.now i)) e ∙ is)
