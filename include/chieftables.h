@@ -1,6 +1,6 @@
 /* The calls of libchieftables.a, for C99 and C++.
  *
- * `rt staticlib chieftables` writes target/staticlib/libchieftables.a. docs/FORMAT.md has the formats, the judgement and the
+ * `scripts/library` writes target/staticlib/libchieftables.a. docs/FORMAT.md has the formats, the judgement and the
  * refusals at length.
  *
  *   chieftables_refusal      why a call refuses, by number

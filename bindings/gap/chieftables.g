@@ -15,7 +15,7 @@
 # A refusal is an error whose text has its number and sentence; CHIEFTABLES.refusal has the number. The program is the file
 # that CHIEFTABLES.program names. In the top folder of the repository these make it:
 #
-#   rt staticlib chieftables
+#   scripts/library
 #   cargo build --release --manifest-path bindings/rust/Cargo.toml
 
 BindGlobal( "CHIEFTABLES", rec( refusal := 0 ) );
@@ -92,7 +92,7 @@ end;
 ChiefTablesRun := function( call, texts )
   local folder, files, said, out, status, k;
   if not IsExecutableFile( CHIEFTABLES.program ) then
-    ErrorNoReturn( "chieftables: ", CHIEFTABLES.program, " is missing: `rt staticlib chieftables`, then ",
+    ErrorNoReturn( "chieftables: ", CHIEFTABLES.program, " is missing: `scripts/library`, then ",
       "`cargo build --release --manifest-path bindings/rust/Cargo.toml` make it" );
   fi;
   folder := DirectoryTemporary();

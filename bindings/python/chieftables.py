@@ -16,7 +16,7 @@ calls take any sequence of them; an array("I") is handed over as it is, without 
 The library is a shared object, libchieftables.so, in target/staticlib, or the file that CHIEFTABLES_SO names. In the top folder
 of the repository these make it:
 
-    rt staticlib chieftables
+    scripts/library
     bindings/python/shared
 """
 
@@ -81,7 +81,7 @@ def _path():
 def _load():
     path = _path()
     if not os.path.exists(path):
-        commands = "`rt staticlib chieftables`, then `bindings/python/shared` make it"
+        commands = "`scripts/library`, then `bindings/python/shared` make it"
         raise LibraryMissing(f"{path} is missing: {commands}; CHIEFTABLES_SO names another file")
     library = ctypes.CDLL(path)
     size, byte, word = ctypes.c_size_t, ctypes.POINTER(ctypes.c_uint8), ctypes.POINTER(ctypes.c_uint32)

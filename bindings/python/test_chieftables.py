@@ -94,7 +94,7 @@ class Calls(unittest.TestCase):
         environment = dict(os.environ, CHIEFTABLES_SO="/nowhere/libchieftables.so", PYTHONPATH=os.path.dirname(os.path.abspath(__file__)))
         code = "import chieftables\ntry:\n    chieftables.accept('')\nexcept chieftables.LibraryMissing as error:\n    print(error)"
         told = subprocess.run([sys.executable, "-c", code], env=environment, capture_output=True, text=True, check=True).stdout
-        self.assertIn("rt staticlib chieftables", told)
+        self.assertIn("scripts/library", told)
 
     @unittest.skipUnless(numpy, "NumPy is not on the machine")
     def test_numpy(self):

@@ -1,4 +1,4 @@
-//! Tells the linker where the static library is: in the folder that CHIEFTABLES_LIB names, or where `rt staticlib` writes it.
+//! Tells the linker where the static library is: in the folder that CHIEFTABLES_LIB names, or where `scripts/library` writes it.
 
 use std::path::PathBuf;
 
@@ -13,7 +13,7 @@ fn main() {
     println!("cargo:rerun-if-changed={}", library.display());
     assert!(
         library.is_file(),
-        "{} is missing: `rt staticlib chieftables` makes it; CHIEFTABLES_LIB names another folder",
+        "{} is missing: `scripts/library` makes it; CHIEFTABLES_LIB names another folder",
         library.display()
     );
     println!("cargo:rustc-link-search=native={}", folder.display());
