@@ -145,7 +145,8 @@ module _ (R : Rung) where
 
   -- a statement about a representation of the steps and that of the formulas
   both : (Q : Rep → Rep → Type 0) → ((s κ : ℕ) → s < N R → τ R s ≡ s → Q (Steps.extension (P R) m i L s κ) (Fm.extension_at (Sc R) s κ))
-      → ((s : ℕ) → s < N R → ¬ (τ R s ≡ s) → leader (O R) s ≡ s → Q (Steps.induction (P R) m i L s) (Fm.induction_at (Sc R) s)) → (r' : ℕ) → r' < length (next R) → Q (rep_of (next R) r') (rep_of by r')
+      → ((s : ℕ) → s < N R → ¬ (τ R s ≡ s) → leader (O R) s ≡ s → Q (Steps.induction (P R) m i L s) (Fm.induction_at (Sc R) s))
+      → (r' : ℕ) → r' < length (next R) → Q (rep_of (next R) r') (rep_of by r')
   both Q ext ind r' h = at_source R (Q (rep_of (next R) r') (rep_of by r')) r' h
       (λ e. subst (λ D. Q D (rep_of by r')) (sym e.rep_is) (subst (Q (Steps.extension (P R) m i L e.s e.κ)) (sym (by-fixed r' e)) (ext e.s e.κ e.s_below e.fixed)))
       (λ e. subst (λ D. Q D (rep_of by r')) (sym e.rep_is) (subst (Q (Steps.induction (P R) m i L e.s)) (sym (by-moved r' e)) (ind e.s e.s_below e.moved e.own)))

@@ -107,7 +107,8 @@ module _ (A : Accepted) where
   pub lines-small : WithinCeilings A → (k : ℕ) → k ≤ A.C.P.n → lines_to A k ≤ max_generators * (max_generators * max_order)
   lines-small S k l =
       let a = lines-le k l in
-      let b : sum k (λ i. order P (suc i)) ≤ k * max_order = subst (λ x. sum k (λ i. order P (suc i)) ≤ x) (sum-const k max_order) (sum-le k (λ i. order P (suc i)) (λ i. max_order) (λ i h. below i h)) in
+      let b : sum k (λ i. order P (suc i)) ≤ k * max_order =
+      subst (λ x. sum k (λ i. order P (suc i)) ≤ x) (sum-const k max_order) (sum-le k (λ i. order P (suc i)) (λ i. max_order) (λ i h. below i h)) in
       let few : k ≤ max_generators = omega (arith, S.few) in
       let c : sum k (λ i. order P (suc i)) ≤ max_generators * max_order = omega (arith, mul-le-mul_right {m = k} {n = max_generators} max_order few) in
       omega (arith, mul-le-mul {n₁ = n} {m₁ = sum k (λ i. order P (suc i))} {n₂ = max_generators} {m₂ = max_generators * max_order} S.few c)

@@ -18,7 +18,10 @@ pub survey_level-reps-requires : goal.survey_level-reps-requires
 survey_level-reps-requires c = (c.requires.0.sound, c.requires.1)
 
 pub append_all-end-requires : goal.append_all-end-requires
-append_all-end-requires c = record { surveyed = (c.survey_level-reps.ensures.surveyed, c.requires.2); space = record { from = le_refl _; room = c.requires.0.room } }
+append_all-end-requires c = record {
+  surveyed = (c.survey_level-reps.ensures.surveyed, c.requires.2);
+  space = record { from = le_refl _; room = c.requires.0.room };
+}
 
 pub returns : goal.returns
 returns c = record { wrote = c.append_all-end.ensures; reps_is = c.survey_level-reps.ensures.value }

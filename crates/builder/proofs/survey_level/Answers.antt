@@ -29,4 +29,10 @@ find_shifts-requires c = (
 )
 
 pub returns : goal.returns
-returns c = let N = c.count_numbers-x.ensures in record { value = N.value.0; surveyed = surveyed c.requires.0 c.mark_orbits.ensures.0 N.value.1 N.array c.find_shifts.ensures.beside c.up-t.ensures c.word-u.ensures c.find_shifts.ensures.array }
+returns c =
+    let N = c.count_numbers-x.ensures in
+    record {
+      value = N.value.0;
+      surveyed = surveyed c.requires.0 c.mark_orbits.ensures.0 N.value.1 N.array c.find_shifts.ensures.beside
+          c.up-t.ensures c.word-u.ensures c.find_shifts.ensures.array;
+    }

@@ -10,7 +10,8 @@ use Rattle.check_blocks.proofs.level_acts.Given as goal
 
 -- the count of the level is known
 abbrev pub invariant-loop-s : goal.invariant-loop-s
-invariant-loop-s l = Found l.s.gens l.words (suc l.i) l.r l.d × PassingOn l.s l.words (Holding l.s l.words) (asks l.s l.words) (suc l.i) l.r × (l.reps ≡ length (level_at l.s.gens l.words (suc l.i)))
+invariant-loop-s l = Found l.s.gens l.words (suc l.i) l.r l.d × PassingOn l.s l.words (Holding l.s l.words) (asks l.s l.words) (suc l.i) l.r ×
+    (l.reps ≡ length (level_at l.s.gens l.words (suc l.i)))
 
 abbrev pub decreases-loop-s : goal.decreases-loop-s
 decreases-loop-s l = l.reps - l.r

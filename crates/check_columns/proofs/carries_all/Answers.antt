@@ -59,7 +59,10 @@ pub returns-then-not-commutes : goal.returns-then-not-commutes
 returns-then-not-commutes c = λ e. absurd (false≢true e)
 
 pub pair-at-requires : goal.pair-at-requires
-pair-at-requires c = (omega (arith, c.up-below.ensures, c.up-above.ensures, c.loop-j.invariant.from), omega (arith, c.up-above.ensures, c.loop-j-test.true, c.requires.0.kept.few))
+pair-at-requires c = (
+  omega (arith, c.up-below.ensures, c.up-above.ensures, c.loop-j.invariant.from),
+  omega (arith, c.up-above.ensures, c.loop-j-test.true, c.requires.0.kept.few),
+)
 
 pub carries-requires : goal.carries-requires
 carries-requires c = let a = c.args in

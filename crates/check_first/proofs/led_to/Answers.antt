@@ -38,7 +38,8 @@ returns-then-a-eq1 c = λ x.
 
 pub overflow_mul-result : goal.overflow_mul-result
 overflow_mul-result c = let a = c.args in
-    let q : a.a * a.e ≤ max_order * max_order = mul-le-mul {n₁ = a.a} {m₁ = a.e} {n₂ = max_order} {m₂ = max_order} c.requires.3 (omega (arith, c.requires.4, c.requires.5)) in
+    let q : a.a * a.e ≤ max_order * max_order = mul-le-mul {n₁ = a.a} {m₁ = a.e} {n₂ = max_order} {m₂ = max_order} c.requires.3
+    (omega (arith, c.requires.4, c.requires.5)) in
     omega (arith, q)
 
 pub nonzero_rem-result : goal.nonzero_rem-result

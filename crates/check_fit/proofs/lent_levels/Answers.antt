@@ -13,7 +13,8 @@ starts : (e : Else-not-level_one) → let a = e.args in Started a.s a.words.now 
 starts e = let F = e.level_one.ensures (e.if-not-level_one.false) in
     started e.args.primes.now F (omega (arith, e.if-s-gt-MAX_LINES.false)) (e.requires.1, e.requires.2)
 
-passes : {k : ℕ} (e : Else-not-level_one) → let a = e.args in FitUpTo a.s a.words.now a.rows.now a.primes.now a.orders.now k → FittingLevels a.s a.rows.now a.primes.now a.orders.now a.words.now k
+passes : {k : ℕ} (e : Else-not-level_one) → let a = e.args in
+    FitUpTo a.s a.words.now a.rows.now a.primes.now a.orders.now k → FittingLevels a.s a.rows.now a.primes.now a.orders.now a.words.now k
 passes e h = let F = e.level_one.ensures (e.if-not-level_one.false) in
     counted-pass F.heads F.whole (ap (λ k. get_or e.args.orders.now k 0) (sym e.up-n.ensures) ∙ e.if-orders-n.false) h
 

@@ -42,7 +42,10 @@ pub shape_of-slots-then-above-eq0 : goal.shape_of-slots-then-above-eq0
 shape_of-slots-then-above-eq0 c = c.loop-i.invariant.2
 
 pub returns-then-above-eq0 : goal.returns-then-above-eq0
-returns-then-above-eq0 c = record { fit_up_to = reaching-stops c.requires c.loop-i.invariant.0 (omega arith); firsts_len_unchanged = c.first_lines-above.ensures.size ∙ c.loop-i.invariant.0.size }
+returns-then-above-eq0 c = record {
+  fit_up_to = reaching-stops c.requires c.loop-i.invariant.0 (omega arith);
+  firsts_len_unchanged = c.first_lines-above.ensures.size ∙ c.loop-i.invariant.0.size;
+}
 
 pub offset_bounds-primes-k : goal.offset_bounds-primes-k
 offset_bounds-primes-k c = omega (arith, c.up-k.ensures, c.requires.whole.few)
@@ -61,7 +64,10 @@ pub shape_of-firsts-then-not-level_fits : goal.shape_of-firsts-then-not-level_fi
 shape_of-firsts-then-not-level_fits c = c.first_lines-above.ensures.size ∙ c.loop-i.invariant.0.size
 
 pub returns-then-not-level_fits : goal.returns-then-not-level_fits
-returns-then-not-level_fits c = record { fit_up_to = reaching-stops c.requires c.loop-i.invariant.0 (omega arith); firsts_len_unchanged = c.first_lines-above.ensures.size ∙ c.loop-i.invariant.0.size }
+returns-then-not-level_fits c = record {
+  fit_up_to = reaching-stops c.requires c.loop-i.invariant.0 (omega arith);
+  firsts_len_unchanged = c.first_lines-above.ensures.size ∙ c.loop-i.invariant.0.size;
+}
 
 pub overflow_step-i : goal.overflow_step-i
 overflow_step-i c = omega (arith, c.requires.whole.few)

@@ -40,15 +40,18 @@ pub degree_of-f-requires : goal.degree_of-f-requires
 degree_of-f-requires c = (c.requires.0.whole, c.requires.0.level, omega (arith, c.requires.0.counts, c.if-low-r.false))
 
 pub returns-then-d-o : goal.returns-then-d-o
-returns-then-d-o c = block-long _ _ c.args.d _ _ _ (there (goal.at.returns-then-d-o c).After-up) c.word_at-x.ensures _ (degree (goal.at.returns-then-d-o c).After-degree_of-f) (listed (goal.at.returns-then-d-o c).Else-low-r) c.requires.2 c.if-d-o.true
+returns-then-d-o c = block-long _ _ c.args.d _ _ _ (there (goal.at.returns-then-d-o c).After-up) c.word_at-x.ensures _
+    (degree (goal.at.returns-then-d-o c).After-degree_of-f) (listed (goal.at.returns-then-d-o c).Else-low-r) c.requires.2 c.if-d-o.true
 
 pub refs_are-requires : goal.refs_are-requires
 refs_are-requires c = omega (arith, c.up.ensures, c.matrix_line.ensures, c.requires.1, c.requires.2, c.if-d-o.false)
 
 pub returns-then-not-refs_are : goal.returns-then-not-refs_are
-returns-then-not-refs_are c = block-mixed _ _ c.args.d _ _ _ (there (goal.at.returns-then-not-refs_are c).After-up) c.word_at-x.ensures _ (degree (goal.at.returns-then-not-refs_are c).After-degree_of-f) (listed (goal.at.returns-then-not-refs_are c).Else-low-r) c.requires.2
+returns-then-not-refs_are c = block-mixed _ _ c.args.d _ _ _ (there (goal.at.returns-then-not-refs_are c).After-up) c.word_at-x.ensures _
+    (degree (goal.at.returns-then-not-refs_are c).After-degree_of-f) (listed (goal.at.returns-then-not-refs_are c).Else-low-r) c.requires.2
     (omega (arith, c.if-d-o.false)) (sym c.refs_are.ensures ∙ c.if-not-refs_are.true)
 
 pub returns : goal.returns
-returns c = block-whole _ _ c.args.d _ _ _ (there (goal.at.returns c).After-up) c.word_at-x.ensures _ (degree (goal.at.returns c).After-degree_of-f) (listed (goal.at.returns c).Else-low-r) c.requires.2
+returns c = block-whole _ _ c.args.d _ _ _ (there (goal.at.returns c).After-up) c.word_at-x.ensures _ (degree (goal.at.returns c).After-degree_of-f)
+    (listed (goal.at.returns c).Else-low-r) c.requires.2
     (omega (arith, c.if-d-o.false)) c.degree_of-f.ensures.1 (sym c.refs_are.ensures ∙ c.if-not-refs_are.false)

@@ -49,16 +49,20 @@ pub onward-p-requires : goal.onward-p-requires
 onward-p-requires c = stepped-inside _ _ _ _ _ c.loop-p.invariant (more (goal.at.onward-p-requires c).In-loop-p) c.turned-t.ensures (passed c)
 
 pub loop-p-smaller : goal.loop-p-smaller
-loop-p-smaller c = let forth = stepped-forth _ _ _ _ _ c.loop-p.invariant (more (goal.at.loop-p-smaller c).In-loop-p) c.turned-t.ensures (passed (goal.at.loop-p-smaller c).Else-not-place_ok) c.requires.0.some
+loop-p-smaller c =
+    let forth = stepped-forth _ _ _ _ _ c.loop-p.invariant (more (goal.at.loop-p-smaller c).In-loop-p) c.turned-t.ensures
+    (passed (goal.at.loop-p-smaller c).Else-not-place_ok) c.requires.0.some
     c.onward-p.result c.onward-p.ensures in
     omega (arith, c.loop-p-test.true, forth)
 
 pub loop-p-preserved : goal.loop-p-preserved
-loop-p-preserved c = stepped-more _ _ _ _ _ c.loop-p.invariant (more (goal.at.loop-p-preserved c).In-loop-p) c.turned-t.ensures (passed (goal.at.loop-p-preserved c).Else-not-place_ok) c.requires.0.some
+loop-p-preserved c = stepped-more _ _ _ _ _ c.loop-p.invariant (more (goal.at.loop-p-preserved c).In-loop-p) c.turned-t.ensures
+    (passed (goal.at.loop-p-preserved c).Else-not-place_ok) c.requires.0.some
     c.onward-p.result c.onward-p.ensures
 
 pub returns-then-p-s : goal.returns-then-p-s
-returns-then-p-s c = stepped-short _ _ _ _ c.loop-p.invariant (none (goal.at.returns-then-p-s c).After-loop-p) (omega (arith, c.if-words-ne0.false)) c.if-p-s.true
+returns-then-p-s c = stepped-short _ _ _ _ c.loop-p.invariant (none (goal.at.returns-then-p-s c).After-loop-p) (omega (arith, c.if-words-ne0.false))
+    c.if-p-s.true
 
 pub returns : goal.returns
 returns c = stepped-all _ _ _ _ c.loop-p.invariant (none (goal.at.returns c).After-loop-p) (omega (arith, c.if-words-ne0.false)) c.if-p-s.false

@@ -12,7 +12,8 @@ use Rattle.check_level.proofs.level_compares.Given as goal
 abbrev pub invariant-loop-r : goal.invariant-loop-r
 invariant-loop-r l = ((q : ℕ) → q < l.r → RepFits l.s l.words l.g (rep_at_level l.s l.words (suc l.g.top) q))
     × ((q : ℕ) → q < l.r → PowerHolds l.s l.words l.rows l.g (rep_at_level l.s l.words (suc l.g.top) q))
-    × Claims l.g.top l.g.p l.part (level_at l.s.gens l.words (suc l.g.top)) l.r l.marks l.slots × (length l.marks ≡ length l.initial.marks) × (length l.slots ≡ length l.initial.slots)
+    × Claims l.g.top l.g.p l.part (level_at l.s.gens l.words (suc l.g.top)) l.r l.marks l.slots × (length l.marks ≡ length l.initial.marks) ×
+    (length l.slots ≡ length l.initial.slots)
 
 abbrev pub decreases-loop-r : goal.decreases-loop-r
 decreases-loop-r l = l.above - l.r

@@ -9,7 +9,8 @@ use Rattle.check_level.proofs.run_lines.Given as goal
 
 -- for whatever level d is of
 abbrev pub invariant-loop-q : goal.invariant-loop-q
-invariant-loop-q l = (s : Scope) (i : ℕ) (A : RunAsked s l.words i l.d (length l.initial.firsts) l.at l.r l.reps) → l.step ≡ s.gens * l.d.deg → Running A l.initial.firsts l.firsts l.line l.q
+invariant-loop-q l = (s : Scope) (i : ℕ) (A : RunAsked s l.words i l.d (length l.initial.firsts) l.at l.r l.reps) → l.step ≡ s.gens * l.d.deg →
+    Running A l.initial.firsts l.firsts l.line l.q
 
 abbrev pub decreases-loop-q : goal.decreases-loop-q
 decreases-loop-q l = l.reps - l.q

@@ -17,7 +17,11 @@ returns-then-word_at-x c = let a = c.args in
     (ap not (eq-eqb _ _ (sym c.if-word_at-x.true ∙ c.word_at.ensures)))
 
 pub loop-c-preserved : goal.loop-c-preserved
-loop-c-preserved c = (omega arith, c.loop-c.invariant.1, tested-more c.loop-c.invariant.2 (ap not (ne_eqb _ _ (λ q. c.if-word_at-x.false (c.word_at.ensures ∙ sym q)))))
+loop-c-preserved c = (
+  omega arith,
+  c.loop-c.invariant.1,
+  tested-more c.loop-c.invariant.2 (ap not (ne_eqb _ _ (λ q. c.if-word_at-x.false (c.word_at.ensures ∙ sym q)))),
+)
 
 pub returns : goal.returns
 returns c = let a = c.args in

@@ -39,11 +39,15 @@ pub word_at-requires : goal.word_at-requires
 word_at-requires c = (omega (arith, c.requires.0, c.up-c.ensures), omega arith)
 
 pub overflow_mul-y : goal.overflow_mul-y
-overflow_mul-y c = let q = product_small {a = c.up.result} {b = c.up-in-loop-k.result} (omega (arith, c.up.ensures, c.if-a-gt-SMALL.false)) (omega (arith, c.up-in-loop-k.ensures)) in
+overflow_mul-y c =
+    let q = product_small {a = c.up.result} {b = c.up-in-loop-k.result} (omega (arith, c.up.ensures, c.if-a-gt-SMALL.false))
+    (omega (arith, c.up-in-loop-k.ensures)) in
     omega (arith, q)
 
 pub overflow_add-y : goal.overflow_add-y
-overflow_add-y c = let q = product_small {a = c.up.result} {b = c.up-in-loop-k.result} (omega (arith, c.up.ensures, c.if-a-gt-SMALL.false)) (omega (arith, c.up-in-loop-k.ensures)) in
+overflow_add-y c =
+    let q = product_small {a = c.up.result} {b = c.up-in-loop-k.result} (omega (arith, c.up.ensures, c.if-a-gt-SMALL.false))
+    (omega (arith, c.up-in-loop-k.ensures)) in
     omega (arith, q, c.loop-k.invariant.0.small, c.loop-k.invariant.1, c.requires.2)
 
 pub loop-k-preserved : goal.loop-k-preserved
@@ -54,7 +58,8 @@ loop-k-preserved c = let a = c.args in
     let here = subst (λ k. LineSame T (a.at + k) (a.src + k) a.x) c.up-c.ensures line in
     let e = ap₂ (λ a b. a * b) (c.up.ensures ∙ ap (λ k. get_or a.u.now k 0) c.up-c.ensures)
     (c.up-in-loop-k.ensures ∙ c.word_at.ensures ∙ ap (λ k. word_at T (a.at + k) EXP) c.up-c.ensures) in
-    let q = product_small {a = c.up.result} {b = c.up-in-loop-k.result} (omega (arith, c.up.ensures, c.if-a-gt-SMALL.false)) (omega (arith, c.up-in-loop-k.ensures)) in
+    let q = product_small {a = c.up.result} {b = c.up-in-loop-k.result} (omega (arith, c.up.ensures, c.if-a-gt-SMALL.false))
+    (omega (arith, c.up-in-loop-k.ensures)) in
     (summed-more l.invariant.0 here e q, omega arith)
 
 pub returns : goal.returns

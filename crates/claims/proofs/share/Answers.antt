@@ -1,5 +1,4 @@
 -- `share` meets its contract: only where every test passes is a slot claimed.
-use mathlib.Core.Bool.{false≢true}
 use native.Mathlib.Omega.{arith}
 use Rattle.claims.proofs.Marks.{shares-free}
 use Rattle.claims.proofs.share.Goals as goal

@@ -7,7 +7,8 @@ use Rattle.commutators.proofs.Scan.{Scanned}
 use Rattle.commutators.proofs.words_empty.Given as goal
 
 abbrev pub invariant-loop-k : goal.invariant-loop-k
-invariant-loop-k l = (l.j < l.n) × (l.i < l.j) × (l.k ≤ l.k-end) × (l.at ≡ pair_number l.j l.i) × (l.at < pair_count) × (l.empty ≡ true) × Scanned l.rows l.j l.i l.k
+invariant-loop-k l = (l.j < l.n) × (l.i < l.j) × (l.k ≤ l.k-end) × (l.at ≡ pair_number l.j l.i) × (l.at < pair_count) × (l.empty ≡ true) ×
+    Scanned l.rows l.j l.i l.k
 
 abbrev pub decreases-loop-k : goal.decreases-loop-k
 decreases-loop-k l = l.k-end - l.k

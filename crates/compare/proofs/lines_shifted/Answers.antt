@@ -18,7 +18,11 @@ overflow_add-src c = omega (arith, c.requires.1.fits, c.up-k.ensures, c.well_for
 pub line_shifted-requires : goal.line_shifted-requires
 line_shifted-requires c = let H = c.requires.1 in
     let k = c.up-k.ensures in
-    let b = H.valid c.up-k.result (omega (arith, k)) in record { at_in_bounds = (omega (arith, c.requires.0, k), omega (arith, H.fits, k)); src_bound = (b.exp, c.requires.2, H.small, omega (arith, c.requires.3, b.row)) }
+    let b = H.valid c.up-k.result (omega (arith, k)) in
+    record {
+      at_in_bounds = (omega (arith, c.requires.0, k), omega (arith, H.fits, k));
+      src_bound = (b.exp, c.requires.2, H.small, omega (arith, c.requires.3, b.row));
+    }
 
 pub returns-then-not-line_shifted : goal.returns-then-not-line_shifted
 returns-then-not-line_shifted c = never

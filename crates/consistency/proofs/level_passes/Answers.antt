@@ -6,7 +6,11 @@ pub returns-then-not-keeps_powers : goal.returns-then-not-keeps_powers
 returns-then-not-keeps_powers c = record { settles = level-first c.keeps_powers.ensures (c.if-not-keeps_powers.true); h_len = c.images.ensures.1 }
 
 pub returns-then-not-keeps_commutators : goal.returns-then-not-keeps_commutators
-returns-then-not-keeps_commutators c = record { settles = level-second c.keeps_powers.ensures (c.if-not-keeps_powers.false) c.keeps_commutators.ensures (c.if-not-keeps_commutators.true); h_len = c.images.ensures.1 }
+returns-then-not-keeps_commutators c = record {
+  settles = level-second c.keeps_powers.ensures (c.if-not-keeps_powers.false)
+      c.keeps_commutators.ensures (c.if-not-keeps_commutators.true);
+  h_len = c.images.ensures.1;
+}
 
 pub returns-then-not-fixes_power : goal.returns-then-not-fixes_power
 returns-then-not-fixes_power c = record {

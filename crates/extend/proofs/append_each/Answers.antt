@@ -14,7 +14,11 @@ loop-k-init c = (search rules, search rules, space-none c.requires.space)
 pub append_extension-pos-requires : goal.append_extension-pos-requires
 append_extension-pos-requires c = let l = c.loop-k in
     let f = c.args.f in let E = c.requires.extends in let G = l.invariant.2 in
-    let less : l.k < f.p = search rules in record { extends = (subst (λ W. Extends f W c.args.rows.now c.args.targets.now c.args.o) (sym G.below) E, less); space = going-even f.p (8 * (f.gens * c.args.o.source.deg)) (extension-length E) G less c.requires.space.room }
+    let less : l.k < f.p = search rules in
+    record {
+      extends = (subst (λ W. Extends f W c.args.rows.now c.args.targets.now c.args.o) (sym G.below) E, less);
+      space = going-even f.p (8 * (f.gens * c.args.o.source.deg)) (extension-length E) G less c.requires.space.room;
+    }
 
 pub loop-k-preserved : goal.loop-k-preserved
 loop-k-preserved c = let G = c.loop-k.invariant.2 in

@@ -7,7 +7,8 @@ use Rattle.extend.specs.Extending.{extension_words}
 use Rattle.extend.proofs.append_each.Given as goal
 
 abbrev pub invariant-loop-k : goal.invariant-loop-k
-invariant-loop-k l = (l.k ≤ l.p) × (l.p ≡ l.f.p) × Going l.f.end (extension_words l.f (low_of l.f l.initial.words) l.rows l.o.rep) l.initial.words l.at l.k l.words l.pos
+invariant-loop-k l = (l.k ≤ l.p) × (l.p ≡ l.f.p) ×
+    Going l.f.end (extension_words l.f (low_of l.f l.initial.words) l.rows l.o.rep) l.initial.words l.at l.k l.words l.pos
 
 abbrev pub decreases-loop-k : goal.decreases-loop-k
 decreases-loop-k l = l.p - l.k

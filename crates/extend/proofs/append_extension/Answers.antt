@@ -26,7 +26,17 @@ append_matrix-pos-requires c = let l = c.loop-g in
     let f = c.args.f in let o = c.args.o in let E = c.requires.extends.0 in
     let L = low-done E _ c.requires.space c.append_low-pos.ensures in
     let G = l.invariant.3 _ _ L.1 in
-    let less : l.g < f.gens = search rules in record { copies = (subst (λ W. Copies f W o) (sym G.below) (extends-copies E), c.requires.extends.1, less, (λ e. omega (arith, e, l.invariant.0))); space = going-even f.gens (8 * o.source.deg) (matrix-length L.0 _) G less (omega (arith, c.requires.space.room)) }
+    let less : l.g < f.gens = search rules in
+    record {
+      copies = (
+        subst (λ W. Copies f W o) (sym G.below) (extends-copies E),
+        c.requires.extends.1,
+        less,
+        (λ e. omega (arith, e, l.invariant.0)),
+      );
+      space = going-even f.gens (8 * o.source.deg) (matrix-length L.0 _) G less
+          (omega (arith, c.requires.space.room));
+    }
 
 pub loop-g-preserved : goal.loop-g-preserved
 loop-g-preserved c = let l = c.loop-g in

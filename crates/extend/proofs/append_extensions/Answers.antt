@@ -35,7 +35,11 @@ find_origin-o-requires c = ((c.args.rows.now, c.requires.surveyed.0), c.requires
 
 pub append_each-requires : goal.append_each-requires
 append_each-requires c = let f = c.args.f in
-    let e = c.find_origin-o.ensures in record { extends = origin-extends c.requires.surveyed.0 c.requires.surveyed.1 c.requires.surveyed.2 c.find_targets.ensures e; space = subst (λ (o : Origin). Space f.end c.args.at (f.p * (8 * (f.gens * o.source.deg))) c.args.words.now) (sym e) c.requires.space }
+    let e = c.find_origin-o.ensures in
+    record {
+      extends = origin-extends c.requires.surveyed.0 c.requires.surveyed.1 c.requires.surveyed.2 c.find_targets.ensures e;
+      space = subst (λ (o : Origin). Space f.end c.args.at (f.p * (8 * (f.gens * o.source.deg))) c.args.words.now) (sym e) c.requires.space;
+    }
 
 pub returns : goal.returns
 returns c = let f = c.args.f in

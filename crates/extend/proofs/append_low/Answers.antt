@@ -18,7 +18,8 @@ loop-g-init c = (search rules, search rules, space-none c.requires.space)
 
 pub append_matrix-pos-requires : goal.append_matrix-pos-requires
 append_matrix-pos-requires c = let l = c.loop-g in let less : l.g < c.args.f.top = search rules in
-    let A = copy-asked _ _ _ _ c.requires.copies.0 l.invariant.2 (omega arith) c.requires.space in record { copies = (A.0, c.requires.copies.1, omega (arith, c.requires.copies.0.located.stands.gens), λ e. omega (arith, e)); space = A.1 }
+    let A = copy-asked _ _ _ _ c.requires.copies.0 l.invariant.2 (omega arith) c.requires.space in
+    record { copies = (A.0, c.requires.copies.1, omega (arith, c.requires.copies.0.located.stands.gens), λ e. omega (arith, e)); space = A.1 }
 
 pub loop-g-preserved : goal.loop-g-preserved
 loop-g-preserved c = let G = c.loop-g.invariant.2 in
@@ -26,7 +27,8 @@ loop-g-preserved c = let G = c.loop-g.invariant.2 in
 
 pub append_top-requires : goal.append_top-requires
 append_top-requires c = let e : c.loop-g.g ≡ c.args.f.top = omega arith in
-    let A = copy-asked _ _ _ _ c.requires.copies.0 (going-at e c.loop-g.invariant.2) (le_refl _) c.requires.space in record { copies = (A.0, c.requires.copies.1); space = A.1 }
+    let A = copy-asked _ _ _ _ c.requires.copies.0 (going-at e c.loop-g.invariant.2) (le_refl _) c.requires.space in
+    record { copies = (A.0, c.requires.copies.1); space = A.1 }
 
 pub shape_of-words : goal.shape_of-words
 shape_of-words c = let e : c.loop-g.g ≡ c.args.f.top = omega arith in

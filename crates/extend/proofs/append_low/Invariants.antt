@@ -7,7 +7,8 @@ use Rattle.extend.specs.Extending.{copy_words}
 use Rattle.extend.proofs.append_low.Given as goal
 
 abbrev pub invariant-loop-g : goal.invariant-loop-g
-invariant-loop-g l = (l.g ≤ l.top) × (l.top ≡ l.f.top) × Going l.f.end (λ j. copy_words l.f (low_of l.f l.initial.words) l.o l.k j l.o.rep) l.initial.words l.at l.g l.words l.pos
+invariant-loop-g l = (l.g ≤ l.top) × (l.top ≡ l.f.top) ×
+    Going l.f.end (λ j. copy_words l.f (low_of l.f l.initial.words) l.o l.k j l.o.rep) l.initial.words l.at l.g l.words l.pos
 
 abbrev pub decreases-loop-g : goal.decreases-loop-g
 decreases-loop-g l = l.top - l.g

@@ -22,7 +22,11 @@ pub overflow_add-result : goal.overflow_add-result
 overflow_add-result c = omega (arith, small c, c.requires.2)
 
 pub overflow_mul-result : goal.overflow_mul-result
-overflow_mul-result c = omega (arith, product-fits c.args.k (get_or c.word-w.result 0 0 + 1) (omega (arith, c.requires.2, c.requires.3)) (omega (arith, small c, c.requires.2)))
+overflow_mul-result c = omega (
+  arith,
+  product-fits c.args.k (get_or c.word-w.result 0 0 + 1) (omega (arith, c.requires.2, c.requires.3))
+      (omega (arith, small c, c.requires.2)),
+)
 
 pub returns : goal.returns
 unfolding root_ref

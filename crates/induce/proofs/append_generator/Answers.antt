@@ -10,11 +10,19 @@ use Rattle.induce.proofs.Generators.{stills-are, cells_are, scalars-small}
 use Rattle.induce.proofs.append_generator.Goals as goal
 
 pub append_below-requires : goal.append_below-requires
-append_below-requires c = (record { listing = record { rows = c.args.rows.now; known = c.requires.inducing.0 }; degree = c.requires.deg_value.0; inside = c.requires.inducing.1 }, c.requires.deg_value.1)
+append_below-requires c = (
+  record {
+    listing = record { rows = c.args.rows.now; known = c.requires.inducing.0 };
+    degree = c.requires.deg_value.0;
+    inside = c.requires.inducing.1;
+  },
+  c.requires.deg_value.1,
+)
 
 pub returns-then-g-f : goal.returns-then-g-f
 returns-then-g-f c = let a = c.args in
-    let are = stills-are _ (low_of a.f a.words.now) _ _ _ _ c.requires.inducing.0 _ in record { appended = wrote_as c.append_below.ensures (are c.if-g-f.true c.requires.deg_value.0); inducing_2 = c.requires.inducing.0 }
+    let are = stills-are _ (low_of a.f a.words.now) _ _ _ _ c.requires.inducing.0 _ in
+    record { appended = wrote_as c.append_below.ensures (are c.if-g-f.true c.requires.deg_value.0); inducing_2 = c.requires.inducing.0 }
 
 pub overflow_mul-n : goal.overflow_mul-n
 overflow_mul-n c = omega (arith, space-low c.requires.deg_value.1)
@@ -54,4 +62,9 @@ pub returns : goal.returns
 returns c = let a = c.args in
     let E = c.find_scalars.ensures in
     let high : a.f.top ≤ a.g = omega (arith, c.if-g-f.false) in
-    let are = cells_are _ (low_of a.f a.words.now) _ _ _ _ E.inducing _ _ in record { appended = wrote_as c.append_cells.ensures (are high c.requires.inducing.1 c.requires.deg_value.0 E.block_scalars c.induced_target-x.ensures); inducing_2 = E.inducing }
+    let are = cells_are _ (low_of a.f a.words.now) _ _ _ _ E.inducing _ _ in
+    record {
+      appended = wrote_as c.append_cells.ensures (are high c.requires.inducing.1 c.requires.deg_value.0 E.block_scalars
+          c.induced_target-x.ensures);
+      inducing_2 = E.inducing;
+    }

@@ -10,7 +10,8 @@ use Rattle.induce.proofs.append_induction.Given as goal
 
 abbrev pub invariant-loop-g : goal.invariant-loop-g
 invariant-loop-g l = (l.g ≤ l.gens) × (l.gens ≡ l.f.gens) × (length l.blocks ≡ length l.initial.blocks)
-    × Inducing l.f (low_of l.f l.initial.words) l.rows l.notes l.blocks l.i.leader × Going l.f.end (induced_words l.f (low_of l.f l.initial.words) l.rows l.i) l.initial.words l.at l.g l.words l.pos
+    × Inducing l.f (low_of l.f l.initial.words) l.rows l.notes l.blocks l.i.leader ×
+    Going l.f.end (induced_words l.f (low_of l.f l.initial.words) l.rows l.i) l.initial.words l.at l.g l.words l.pos
 
 abbrev pub decreases-loop-g : goal.decreases-loop-g
 decreases-loop-g l = l.gens - l.g

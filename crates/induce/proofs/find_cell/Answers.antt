@@ -10,7 +10,12 @@ find_still-c-requires c = (c.requires.0.writing, c.requires.1)
 
 pub block_to-requires : goal.block_to-requires
 block_to-requires c = let R = c.requires.0 in
-    let I = R.writing.listing.known in let Y = I.surveyed in record { level_stands = (Y.sound.stands, Y.orbited, I.leads.listed, R.high, R.writing.inside, c.requires.1); src_value = ap (λ (q : Cell). q.src) c.find_still-c.ensures.0 }
+    let I = R.writing.listing.known in
+    let Y = I.surveyed in
+    record {
+      level_stands = (Y.sound.stands, Y.orbited, I.leads.listed, R.high, R.writing.inside, c.requires.1);
+      src_value = ap (λ (q : Cell). q.src) c.find_still-c.ensures.0;
+    }
 
 pub block_by-requires : goal.block_by-requires
 block_by-requires c = ((c.args.low.now, c.requires.0), c.requires.1)

@@ -27,7 +27,15 @@ returns-then-w-k c = let T = c.lap_from-w.ensures.lapping.lapped in
     (T.leads ∙ ap (λ n. iter f n c.args.x) c.if-w-k.true, T.below)
 
 pub after_laps-requires : goal.after_laps-requires
-after_laps-requires c = let L = c.lap_from-w.ensures in record { holds = c.requires.holds; below = (c.requires.below, closed-early c.requires.holds c.requires.below L (omega (arith, L.lapping.at_most, c.if-w-k.false))) }
+after_laps-requires c =
+    let L = c.lap_from-w.ensures in
+    record {
+      holds = c.requires.holds;
+      below = (
+        c.requires.below,
+        closed-early c.requires.holds c.requires.below L (omega (arith, L.lapping.at_most, c.if-w-k.false)),
+      );
+    }
 
 pub returns : goal.returns
 returns c = (c.after_laps.ensures.0 ∙ power-turns c.requires.holds c.requires.below _, c.after_laps.ensures.1)

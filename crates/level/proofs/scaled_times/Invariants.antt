@@ -8,7 +8,8 @@ use Rattle.level.specs.Stored.{Below, generator_in}
 use Rattle.level.proofs.scaled_times.Given as goal
 
 abbrev pub invariant-loop-i : goal.invariant-loop-i
-invariant-loop-i l = (l.i ≤ l.k) × (1 ≤ l.i) × (l.r ≡ iter (λ y. plus l.m l.c (act l.m (generator_in l.words l.d l.g) y)) (l.i - 1) l.initial.r) × Below l.m l.d.deg l.r
+invariant-loop-i l = (l.i ≤ l.k) × (1 ≤ l.i) × (l.r ≡ iter (λ y. plus l.m l.c (act l.m (generator_in l.words l.d l.g) y)) (l.i - 1) l.initial.r) ×
+    Below l.m l.d.deg l.r
 
 abbrev pub decreases-loop-i : goal.decreases-loop-i
 decreases-loop-i l = l.k - l.i

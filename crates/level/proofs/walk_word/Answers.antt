@@ -24,7 +24,9 @@ pub apply_times-y-requires : goal.apply_times-y-requires
 apply_times-y-requires c = let l = c.loop-k in record { holds = rw l.invariant.1 (c.requires.n_le_max_generators.1 _ (search rules)); below = l.invariant.3 }
 
 pub overflow_add-g : goal.overflow_add-g
-overflow_add-g c = let l = c.loop-k in let f : 8 * (c.args.at + l.k * c.args.d + c.args.d) ≤ length c.args.words.now = (c.requires.n_le_max_generators.1 l.k (search rules)).fits in
+overflow_add-g c =
+    let l = c.loop-k in
+    let f : 8 * (c.args.at + l.k * c.args.d + c.args.d) ≤ length c.args.words.now = (c.requires.n_le_max_generators.1 l.k (search rules)).fits in
     omega (arith, c.up-g.ensures, l.invariant.1, c.well_formed)
 
 pub loop-k-preserved : goal.loop-k-preserved

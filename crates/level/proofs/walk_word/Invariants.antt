@@ -8,7 +8,9 @@ use Rattle.level.specs.Stored.{matrix_in, Below}
 use Rattle.level.proofs.walk_word.Given as goal
 
 abbrev pub invariant-loop-k : goal.invariant-loop-k
-invariant-loop-k l = (l.k ≤ l.n) × (l.g ≡ l.at + l.k * l.d) × (entry l.row l.exp ≡ walk l.m (λ (j : ℕ). matrix_in l.words (l.at + j * l.d) l.d) l.k (to_nf l.k l.w) (entry l.initial.row l.initial.exp)) × Below l.m l.d (entry l.row l.exp)
+invariant-loop-k l = (l.k ≤ l.n) × (l.g ≡ l.at + l.k * l.d) ×
+    (entry l.row l.exp ≡ walk l.m (λ (j : ℕ). matrix_in l.words (l.at + j * l.d) l.d) l.k (to_nf l.k l.w) (entry l.initial.row l.initial.exp)) ×
+    Below l.m l.d (entry l.row l.exp)
 
 abbrev pub decreases-loop-k : goal.decreases-loop-k
 decreases-loop-k l = l.n - l.k

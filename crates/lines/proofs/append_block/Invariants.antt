@@ -13,7 +13,8 @@ unfoldable pub turn : ℕ → Head → Piece → List ℕ → ℕ → List ℕ
 turn m h b W k = head_line h (b.col + k) (block_entry m b W k)
 
 abbrev pub invariant-loop-k : goal.invariant-loop-k
-invariant-loop-k l = (l.k ≤ l.deg) × (l.deg ≡ l.b.deg) × Going l.low (turn l.m l.h l.b (take (8 * l.low) l.initial.words)) l.initial.words l.at l.k l.words l.pos
+invariant-loop-k l = (l.k ≤ l.deg) × (l.deg ≡ l.b.deg) ×
+    Going l.low (turn l.m l.h l.b (take (8 * l.low) l.initial.words)) l.initial.words l.at l.k l.words l.pos
 
 abbrev pub decreases-loop-k : goal.decreases-loop-k
 decreases-loop-k l = l.deg - l.k

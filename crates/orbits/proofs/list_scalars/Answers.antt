@@ -35,4 +35,5 @@ shape_of-blocks c = c.loop-k.invariant.2 ∙ c.put_block.ensures.len
 
 pub returns : goal.returns
 returns c = let l = c.loop-k in
-    let e : l.k + 1 ≡ c.args.f.p = omega (arith, l.invariant.1) in record { inducing = l.invariant.3.known; block_scalars = scaling-all _ _ _ _ _ c.requires.1 c.requires.2 l.invariant.3 e }
+    let e : l.k + 1 ≡ c.args.f.p = omega (arith, l.invariant.1) in
+    record { inducing = l.invariant.3.known; block_scalars = scaling-all _ _ _ _ _ c.requires.1 c.requires.2 l.invariant.3 e }

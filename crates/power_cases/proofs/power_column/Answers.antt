@@ -8,4 +8,6 @@ pub nonzero_rem-x : goal.nonzero_rem-x
 nonzero_rem-x c = omega (arith, (c.requires.0.valid c.args.c c.requires.1).exp)
 
 pub power_entry-requires : goal.power_entry-requires
-power_entry-requires c = let m : 0 < c.args.m = omega (arith, (c.requires.0.valid c.args.c c.requires.1).exp) in record { holds = c.requires.0; below = record { row = c.requires.1; exp = mod-lt c.args.c m } }
+power_entry-requires c =
+    let m : 0 < c.args.m = omega (arith, (c.requires.0.valid c.args.c c.requires.1).exp) in
+    record { holds = c.requires.0; below = record { row = c.requires.1; exp = mod-lt c.args.c m } }

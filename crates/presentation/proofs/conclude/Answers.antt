@@ -5,7 +5,10 @@ use Rattle.presentation.proofs.Judged.{concluded-large, concluded-misused, concl
 use Rattle.presentation.proofs.conclude.Goals as goal
 
 pub order_fits-requires : goal.order_fits-requires
-order_fits-requires c = record { n_le_max_generators = omega arith; by_index = λ j l. omega (arith, c.primes_of-primes.ensures.each j l, c.requires.by_index j l) }
+order_fits-requires c = record {
+  n_le_max_generators = omega arith;
+  by_index = λ j l. omega (arith, c.primes_of-primes.ensures.each j l, c.requires.by_index j l);
+}
 
 pub returns-then-not-order_fits : goal.returns-then-not-order_fits
 returns-then-not-order_fits c = concluded-large c.primes_of-primes.ensures (sym c.order_fits.ensures ∙ c.if-not-order_fits.true) c.refused.ensures

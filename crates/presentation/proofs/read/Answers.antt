@@ -27,7 +27,8 @@ returns-then-count-gt-GENERATORS c = let m = c.names.ensures.stands _ _ c.in-Val
 
 pub conclude-requires : goal.conclude-requires
 conclude-requires c = let m = c.names.ensures.stands _ _ c.in-Value.is in
-    let a = c.read_lines-l.ensures.stands (c.if-not-ok.false) in record { n_le_max_generators = omega arith; by_index = primes-positive m a (c.if-not-primes.false) (omega arith) }
+    let a = c.read_lines-l.ensures.stands (c.if-not-ok.false) in
+    record { n_le_max_generators = omega arith; by_index = primes-positive m a (c.if-not-primes.false) (omega arith) }
 
 pub returns : goal.returns
 returns c = let m = c.names.ensures.stands _ _ c.in-Value.is in

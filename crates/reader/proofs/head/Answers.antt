@@ -18,7 +18,8 @@ pub returns-then-a-j : goal.returns-then-a-j
 returns-then-a-j c = head-other _ _ (c.value.ensures.stands _ _ c.in-Value.is) (λ q. c.if-a-j.true (q ∙ sym (add-one _)))
 
 pub returns-in_default-value_behind : goal.returns-in_default-value_behind
-returns-in_default-value_behind c = head_none_2 _ _ (c.value.ensures.stands _ _ c.in-Value.is) (c.value_behind.ensures.fails c.in_default-value_behind.is) (omega (arith, c.requires))
+returns-in_default-value_behind c = head_none_2 _ _ (c.value.ensures.stands _ _ c.in-Value.is)
+    (c.value_behind.ensures.fails c.in_default-value_behind.is) (omega (arith, c.requires))
 
 pub overflow_add-i : goal.overflow_add-i
 unfolding largest

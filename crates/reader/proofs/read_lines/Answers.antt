@@ -13,7 +13,8 @@ pub head-requires : goal.head-requires
 head-requires c = omega (arith, c.requires)
 
 pub returns-in_default : goal.returns-in_default
-returns-in_default c = reading-refused c.loop-j.invariant (reading-no-line c.loop-j.invariant (omega arith) (line-no-head _ (c.head.ensures.fails c.in_default.is)))
+returns-in_default c = reading-refused c.loop-j.invariant (reading-no-line c.loop-j.invariant (omega arith) (line-no-head _ (c.head.ensures.fails
+    c.in_default.is)))
 
 pub exponents-w-requires : goal.exponents-w-requires
 exponents-w-requires c = let h = c.head.ensures.stands _ _ c.in-Value.is in

@@ -12,7 +12,8 @@ pub returns-then-number-ne0 : goal.returns-then-number-ne0
 returns-then-number-ne0 c = group-refused c.args.group.now c.args.table.now (omega arith) c.if-number-ne0.true c.accept-number.ensures
 
 pub returns-then-table-gt-TABLE : goal.returns-then-table-gt-TABLE
-returns-then-table-gt-TABLE c = table-long c.args.group.now c.args.table.now (omega arith) c.if-number-ne0.false c.accept-number.ensures c.if-table-gt-TABLE.true
+returns-then-table-gt-TABLE c = table-long c.args.group.now c.args.table.now (omega arith) c.if-number-ne0.false c.accept-number.ensures
+    c.if-table-gt-TABLE.true
 
 pub judge_table-requires : goal.judge_table-requires
 judge_table-requires c = subst (Accept c.args.group.now) c.if-number-ne0.false c.accept-number.ensures

@@ -39,4 +39,8 @@ shape_of-notes c = c.loop-r.invariant.2.len
 
 pub returns : goal.returns
 returns c = let l = c.loop-r in
-    let e : l.r ≡ c.args.f.reps = omega arith in record { value = (l.invariant.3 ∙ ap (number_in c.args.f c.args.low.now) e, l.invariant.2); array = array-filled 3 c.requires.1 l.invariant.2 l.invariant.4 e }
+    let e : l.r ≡ c.args.f.reps = omega arith in
+    record {
+      value = (l.invariant.3 ∙ ap (number_in c.args.f c.args.low.now) e, l.invariant.2);
+      array = array-filled 3 c.requires.1 l.invariant.2 l.invariant.4 e;
+    }

@@ -9,7 +9,17 @@ pub note-requires : goal.note-requires
 note-requires c = inside-below 1 _ _ _ (omega arith) c.requires.marked_to.long.0 c.requires.level_stands.2
 
 pub mark_orbit-requires : goal.mark_orbit-requires
-mark_orbit-requires c = let u = sym c.note.ensures ∙ c.if-note-f.true in record { level_stands = (c.requires.level_stands.0, c.requires.level_stands.1, c.requires.level_stands.2, marking-own _ _ c.requires.level_stands.0 _ _ _ c.requires.level_stands.2 u c.requires.marked_to); marked_to = c.requires.marked_to }
+mark_orbit-requires c =
+    let u = sym c.note.ensures ∙ c.if-note-f.true in
+    record {
+      level_stands = (
+        c.requires.level_stands.0,
+        c.requires.level_stands.1,
+        c.requires.level_stands.2,
+        marking-own _ _ c.requires.level_stands.0 _ _ _ c.requires.level_stands.2 u c.requires.marked_to,
+      );
+      marked_to = c.requires.marked_to;
+    }
 
 pub returns-then-note-f : goal.returns-then-note-f
 returns-then-note-f c = let e = c.mark_orbit.ensures in
@@ -19,5 +29,7 @@ returns-then-note-f c = let e = c.mark_orbit.ensures in
     record { marks = M; lines = e.lines; len = e.len }
 
 pub returns-else-note-f : goal.returns-else-note-f
-returns-else-note-f c = let M = marking-skip _ _ c.requires.level_stands.0 _ _ _ c.requires.level_stands.2 (λ e. c.if-note-f.false (c.note.ensures ∙ e)) c.requires.marked_to in
+returns-else-note-f c =
+    let M = marking-skip _ _ c.requires.level_stands.0 _ _ _ c.requires.level_stands.2 (λ e. c.if-note-f.false (c.note.ensures ∙ e))
+    c.requires.marked_to in
     record { marks = M; lines = refl; len = refl }

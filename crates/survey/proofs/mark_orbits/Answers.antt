@@ -20,7 +20,11 @@ loop-r-init c = let C = c.clear.ensures in
 
 pub mark_from-requires : goal.mark_from-requires
 mark_from-requires c = let l = c.loop-r in
-    let e = l.invariant.2.lines ∙ c.clear.ensures.beside.kept 0 (omega arith) (λ e. omega (arith, e)) in record { level_stands = (c.requires.0, subst (Lines c.args.f c.args.low.now) (sym e) c.requires.1, search rules); marked_to = l.invariant.2.marks }
+    let e = l.invariant.2.lines ∙ c.clear.ensures.beside.kept 0 (omega arith) (λ e. omega (arith, e)) in
+    record {
+      level_stands = (c.requires.0, subst (Lines c.args.f c.args.low.now) (sym e) c.requires.1, search rules);
+      marked_to = l.invariant.2.marks;
+    }
 
 pub loop-r-preserved : goal.loop-r-preserved
 loop-r-preserved c = let M = c.mark_from.ensures in let l = c.loop-r in

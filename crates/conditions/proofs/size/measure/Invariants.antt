@@ -7,7 +7,8 @@ use Rattle.conditions.specs.Conditions.{product}
 use Rattle.conditions.proofs.size.measure.Given as goal
 
 abbrev pub invariant-loop-j : goal.invariant-loop-j
-invariant-loop-j l = (l.order ≡ product l.primes l.j) × (l.elements ≡ sum l.j (λ i. product l.primes (suc i))) × (l.elements ≤ l.j * max_order) × (l.j ≤ l.n) × (l.n ≤ max_generators)
+invariant-loop-j l = (l.order ≡ product l.primes l.j) × (l.elements ≡ sum l.j (λ i. product l.primes (suc i))) × (l.elements ≤ l.j * max_order) ×
+    (l.j ≤ l.n) × (l.n ≤ max_generators)
 
 abbrev pub decreases-loop-j : goal.decreases-loop-j
 decreases-loop-j l = l.n - l.j
