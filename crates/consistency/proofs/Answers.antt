@@ -60,8 +60,7 @@ module _ {n : ℕ} {ps : List ℕ} {rows : List (List ℕ)} where
   unfolding all_below
   answer-none = record { is = λ C R. refl }
 
-  module _ {i : ℕ} {b : Bool} (l : i < n) (a : TestAnswer n ps rows (λ P. all_below i (level_test P)) true)
-  (t : Settles i ps rows (λ P. level_test P i) b) where
+  module _ {i : ℕ} {b : Bool} (l : i < n) (a : TestAnswer n ps rows (λ P. all_below i (level_test P)) true) (t : Settles i ps rows (λ P. level_test P i) b) where
     level-is : (C : Context) → Reads C.P n ps rows → b ≡ level_test C.P i
     level-is C R = t.is C (reads-below (omega arith) R) (all_below-elim i (level_test C.P) (sym (a.is C R)))
 
@@ -80,8 +79,7 @@ module _ {i : ℕ} {ps : List ℕ} {rows : List (List ℕ)} where
   lower C R = reads-below (omega arith) R
 
   module _ {h : List (List ℕ)} (t : Images i ps rows h i) where
-    pub power-kept : {k : ℕ} {l u v : List ℕ} {b : Bool} → k < i → Power i ps rows (get_or h k []) l (get_or ps k 0) →
-    u ≡ get_or rows (pair_number k k) [] → Value i ps rows k u v
+    pub power-kept : {k : ℕ} {l u v : List ℕ} {b : Bool} → k < i → Power i ps rows (get_or h k []) l (get_or ps k 0) → u ≡ get_or rows (pair_number k k) [] → Value i ps rows k u v
         → b ≡ same_form i (to_nf i l) (to_nf i v) → Settles i ps rows (λ P. power_kept P i k) b
     unfolding power_kept
     power-kept {k} a ql ue qv e = record {
@@ -134,8 +132,7 @@ module _ {i : ℕ} {ps : List ℕ} {rows : List (List ℕ)} where
 
     pub commutator-low : {j : ℕ} → c < j → j < i → Settles i ps rows (λ P. commutator_kept P i j c) true
     unfolding commutator_kept
-    commutator-low {j} a b = record { is = λ C R B. sym (eq-same_form i _ _ (central-low C i c l (group_below C i B) (below-empty C R) (above-empty C
-    R) j a b)) }
+    commutator-low {j} a b = record { is = λ C R B. sym (eq-same_form i _ _ (central-low C i c l (group_below C i B) (below-empty C R) (above-empty C R) j a b)) }
 
     pub commutator-high : {k : ℕ} → k < c → Settles i ps rows (λ P. commutator_kept P i c k) true
     unfolding commutator_kept
@@ -151,8 +148,7 @@ module _ {i : ℕ} {ps : List ℕ} {rows : List (List ℕ)} where
   unfolding keeps_powers power_kept
   powers-all a = record { is = a.is }
 
-  pub commutators-all : {r : Bool} → Settles i ps rows (λ P. all_below i (λ j. all_below j (commutator_kept P i j))) r →
-  Settles i ps rows (λ P. keeps_commutators P i) r
+  pub commutators-all : {r : Bool} → Settles i ps rows (λ P. all_below i (λ j. all_below j (commutator_kept P i j))) r → Settles i ps rows (λ P. keeps_commutators P i) r
   unfolding keeps_commutators commutator_kept
   commutators-all a = record { is = a.is }
 
