@@ -2,7 +2,7 @@
 // the exp-th power of the root of unity times basis vector `row`. Everything else of this crate stands in specs/.
 #![tactic(auto)]
 
-#[derive(Clone, Copy)]
+#[derive(Clone, Copy, PartialEq, Eq, Debug)]
 pub struct Entry {
     pub row: u32,
     pub exp: u32,
