@@ -5,25 +5,27 @@
 --   digits-shorter, value-unique     digits before the end of others; what stands behind a value, and the value
 --   value_none, value-past    no value: no digit stands there; the run goes on behind a 0 or behind nine digits
 --   read-stands, read-fails, read_known   what the two answers say; the value read is the one that stands there
---   Run, digit-within, run_none, run-one, run-within, run_more, run_past, run_end   a run of digits, turn by turn
+--   Run, digit-within, run_none, run-one, run_more, run_past, run_end   a run of digits, turn by turn
 --   behind-none, behind-some  a value behind a byte
---   Matched, matched-none, matched-more, matched-all, matched-other, starts-short   given bytes, turn by turn
+--   starts-is                 given bytes, as the library compares them
 use mathlib.Core.Path.{◌≡◌, refl, sym, ap, ap₂, subst, subst₂, ◌∙◌}
 use mathlib.Core.Logic.{by_cases}
 use mathlib.Core.List.{[], ◌∷◌, ◌++◌, append_assoc, append_cancel_left, head-eq_of_cons-eq, tail-eq_of_cons-eq}
 use Prim.Native.Nat.{ℕ, suc, ◌+◌, ◌*◌, ◌-◌, ◌<◌, ◌≤◌, zero-le, suc-le-suc}
-use native.Mathlib.Nat.{le_antisymm, suc_inj, add-zero, add-suc}
+use native.Mathlib.Nat.{le_antisymm, suc_inj}
 use native.Mathlib.Decide.{dec_lt}
 use native.Mathlib.Numerals.{add-one}
 use native.Mathlib.Omega.{arith}
-use lib.ListN.{length, get_or, take, drop, length-append, length-drop, get_or-append, get_or-eq_default}
-use lib.Seq.{drop-cons, take-suc, take_all, get_or-drop}
+use lib.ListN.{length, get_or, take, drop, length-append, length-drop, get_or-eq_default}
+use lib.Seq.{drop-cons, take_all, get_or-drop}
 use Rattle.definitions.specs.Text.{Bytes, largest, decimal}
 use Rattle.definitions.proofs.Rendering.{Each, each_append, decimal-one, decimal-snoc, decimal_injective, decimal-digits, decimal-lead, decimal-zero}
 use Rattle.definitions.proofs.Rendering.{decimal_nonempty, decimal-length, decimal-nine}
 use Rattle.text.specs.Reading.{Digit, DigitAt, Ends, ValueAt, NoValue, ReadAt, StartsAt}
-use Rattle.text.specs.declared.Read.{Read}
-use Rattle.text.specs.declared.Read.TheVariants.{Value, Nothing}
+use Rattle.std.specs.Prelude.{Option, Some, None, ◌↔◌, Bool, true, eqb}
+use Rattle.std.specs.List.{starts_with}
+use Rattle.std.proofs.lemmas.Bool.Decides.{Decides-eqb}
+use Rattle.std.proofs.lemmas.Slice.Eq.{starts_is}
 
 -- ---- The bytes from a position on
 
@@ -120,14 +122,14 @@ module _ (t : Bytes) (at : ℕ) where
 -- ---- What was read
 
 module _ {lead t : Bytes} {at : ℕ} where
-  pub read-stands : {v next : ℕ} → ValueAt lead t at v next → ReadAt lead t at (Value v next)
+  pub read-stands : {v next : ℕ} → ValueAt lead t at v next → ReadAt lead t at (Some (v, next))
   read-stands {v} {next} h =
       record {
-        stands = λ w n q. let a : v ≡ w = cc in let b : next ≡ n = cc in subst₂ (λ (x y : ℕ). ValueAt lead t at x y) a b h;
+        stands = λ w n q. let e : ◌≡◌ {A = ℕ × ℕ} (v, next) (w, n) = cc in subst₂ (λ (x y : ℕ). ValueAt lead t at x y) (ap (λ (p : ℕ × ℕ). p.0) e) (ap (λ (p : ℕ × ℕ). p.1) e) h;
         fails = λ q. let z : ◌≡◌ {A = ℕ} 0 1 = cc in absurd (omega arith);
       }
 
-  pub read-fails : NoValue lead t at → ReadAt lead t at Nothing
+  pub read-fails : NoValue lead t at → ReadAt lead t at None
   read-fails h = record { stands = λ w n q. let z : ◌≡◌ {A = ℕ} 0 1 = cc in absurd (omega arith); fails = λ q. h }
 
   -- the value that was read is the one that stands there
@@ -140,48 +142,46 @@ module _ {lead t : Bytes} {at : ℕ} where
 
 -- ---- Reading a run of digits
 
--- v has been read up to i, where the digit d stands, or none
-pub record Run (t : Bytes) (at v i d : ℕ) : Type 0 where
+-- v has been read up to i
+pub record Run (t : Bytes) (at v i : ℕ) : Type 0 where
   pub text : drop at t ≡ decimal v ++ drop i t
   pub few : v ≤ 999999999
   pub further : at < i
   pub within : i ≤ length t
-  pub digit : DigitAt t i d
 
-pub digit-within : {t : Bytes} {i d : ℕ} → DigitAt t i d → d < 10 → i < length t
-digit-within {t} {i} {d} h l = byte-within t i (omega (arith, h.stands l))
+pub digit-within : {t : Bytes} {i d : ℕ} {r : Option ℕ} → DigitAt t i r → r ≡ Some d → i < length t
+digit-within {t} {i} {d} h q = byte-within t i (omega (arith, (h.stands d q).1))
 
-module _ {t : Bytes} {at : ℕ} where
-  pub run_none : {d : ℕ} → DigitAt t at d → 10 ≤ d → ReadAt [] t at Nothing
-  run_none h l = read-fails (value_none t at (h.fails l))
+module _ {t : Bytes} {at : ℕ} {r : Option ℕ} where
+  pub run_none : DigitAt t at r → r ≡ None → ReadAt [] t at None
+  run_none h q = read-fails (value_none t at (h.fails q))
 
-  pub run-one : {v d : ℕ} → DigitAt t at v → v < 10 → DigitAt t (at + 1) d → Run t at v (at + 1) d
-  run-one {v} {d} h l k =
-      record { text = value-one t at v l (h.stands l); few = omega arith; further = omega arith; within = omega (arith, digit-within h l); digit = k }
+  pub run-one : {v : ℕ} → DigitAt t at r → r ≡ Some v → Run t at v (at + 1)
+  run-one {v} h q =
+      let s = h.stands v q in
+      record { text = value-one t at v s.0 s.1; few = omega (arith, s.0); further = omega arith; within = omega (arith, digit-within h q) }
 
-  module _ {v i d : ℕ} (h : Run t at v i d) where
-    pub run-within : d < 10 → i < length t
-    run-within l = digit-within h.digit l
+  module _ {v i : ℕ} (h : Run t at v i) (digit : DigitAt t i r) where
+    module _ {d : ℕ} (q : r ≡ Some d) where
+      pub run_more : 0 < v → v < 100000000 → Run t at (v * 10 + d) (i + 1)
+      run_more p m =
+          let s = digit.stands d q in
+          record {
+            text = value-more t at v i d p s.0 s.1 h.text;
+            few = omega (arith, s.0);
+            further = omega (arith, h.further);
+            within = omega (arith, digit-within digit q);
+          }
 
-    pub run_more : {e : ℕ} → d < 10 → 0 < v → v < 100000000 → DigitAt t (i + 1) e → Run t at (v * 10 + d) (i + 1) e
-    run_more l p m k =
-        record {
-          text = value-more t at v i d p l (h.digit.stands l) h.text;
-          few = omega arith;
-          further = omega (arith, h.further);
-          within = omega (arith, run-within l);
-          digit = k;
-        }
+      pub run_past : (0 < v → 100000000 ≤ v) → ReadAt [] t at None
+      run_past k = let s = digit.stands d q in read-fails (value-past t at v i h.text (omega (arith, s.0, s.1)) k)
 
-    pub run_past : d < 10 → (0 < v → 100000000 ≤ v) → ReadAt [] t at Nothing
-    run_past l k = read-fails (value-past t at v i h.text (omega (arith, h.digit.stands l)) k)
-
-    pub run_end : 10 ≤ d → ReadAt [] t at (Value v i)
+    pub run_end : r ≡ None → ReadAt [] t at (Some (v, i))
     unfolding largest
-    run_end l = read-stands (record {
+    run_end q = read-stands (record {
       text = h.text;
       small = h.few;
-      ends = λ k. h.digit.fails l (subst Digit (drop-front t i) k);
+      ends = λ k. digit.fails q (subst Digit (drop-front t i) k);
       further = h.further;
       within = h.within;
     })
@@ -189,14 +189,14 @@ module _ {t : Bytes} {at : ℕ} where
 -- ---- A value behind a byte
 
 module _ (lead t : Bytes) (at b : ℕ) where
-  pub behind-none : (get_or t at 0 ≡ b → ⊥) → ReadAt (b ∷ lead) t at Nothing
+  pub behind-none : (get_or t at 0 ≡ b → ⊥) → ReadAt (b ∷ lead) t at None
   behind-none h = read-fails (record { none = λ v r l e q. h (sym (drop-front t at) ∙ ap (λ (xs : Bytes). get_or xs 0 0) q) })
 
   module _ (p : 0 < b) (q : get_or t at 0 ≡ b) where
     behind : drop at t ≡ b ∷ drop (at + 1) t
     behind = drop-byte t at b q p
 
-    pub behind-some : {r : Read} → ReadAt lead t (at + 1) r → ReadAt (b ∷ lead) t at r
+    pub behind-some : {r : Option (ℕ × ℕ)} → ReadAt lead t (at + 1) r → ReadAt (b ∷ lead) t at r
     behind-some h =
         record {
           stands = λ v next m. let k = h.stands v next m in record {
@@ -211,35 +211,9 @@ module _ (lead t : Bytes) (at b : ℕ) where
 
 -- ---- Given bytes
 
--- the first k bytes of s stand at a position
-pub record Matched (t : Bytes) (at : ℕ) (s : Bytes) (k : ℕ) : Type 0 where
-  pub text : drop at t ≡ take k s ++ drop (at + k) t
-  pub few : k ≤ length s
-  pub room : at + length s ≤ length t
-
-module _ {t : Bytes} {at : ℕ} {s : Bytes} where
-  pub matched-none : at + length s ≤ length t → Matched t at s 0
-  matched-none l = record { text = ap (λ (k : ℕ). drop k t) (sym (add-zero at)); few = zero-le; room = l }
-
-  module _ {k : ℕ} (h : Matched t at s k) where
-    pub matched-more : k < length s → get_or t (at + k) 0 ≡ get_or s k 0 → Matched t at s (k + 1)
-    matched-more l q =
-        record {
-          text =
-              h.text
-              ∙ ap (λ (xs : Bytes). take k s ++ xs) (drop-cons t (at + k) 0 (omega (arith, h.room)) ∙ ap (λ (b : ℕ). b ∷ drop (suc (at + k)) t) q)
-              ∙ sym (append_assoc (take k s) (get_or s k 0 ∷ []) (drop (suc (at + k)) t))
-              ∙ ap₂ (λ (xs ys : Bytes). xs ++ ys) (sym (take-suc s k 0 l)) refl
-              ∙ ap₂ (λ (i j : ℕ). take i s ++ drop j t) (sym (add-one k)) (sym (add-suc at k) ∙ ap (λ (j : ℕ). at + j) (sym (add-one k)));
-          few = omega arith;
-          room = h.room;
-        }
-
-    pub matched-all : length s ≤ k → StartsAt t at s
-    matched-all l = (drop (at + k) t, h.text ∙ ap (λ (xs : Bytes). xs ++ drop (at + k) t) (take_all k s l))
-
-    pub matched-other : k < length s → (get_or t (at + k) 0 ≡ get_or s k 0 → ⊥) → StartsAt t at s → ⊥
-    matched-other l n h = n (sym (get_or-drop at t k 0) ∙ ap (λ (xs : Bytes). get_or xs k 0) h.1 ∙ get_or-append s h.0 0 k l)
-
-pub starts-short : (t : Bytes) (at : ℕ) (s : Bytes) → length t - at < length s → StartsAt t at s → ⊥
-starts-short t at s l h = omega (arith, length-drop at t, simp length-append at (ap length h.1))
+-- what the library's comparison says
+pub starts-is : (t : Bytes) (at : ℕ) (s : Bytes) (r : Bool) → r ≡ starts_with eqb (take (length t - at) (drop at t)) s → (r ≡ true) ↔ StartsAt t at s
+starts-is t at s r q =
+    let rest : take (length t - at) (drop at t) ≡ drop at t = take_all (length t - at) (drop at t) (omega (arith, length-drop at t)) in
+    let is = starts_is Decides-eqb (drop at t) s r (q ∙ ap (λ (l : Bytes). starts_with eqb l s) rest) in
+    ((λ e. (drop (length s) (drop at t), is.0 e)), (λ h. is.1 h.0 h.1))

@@ -5,14 +5,17 @@
 --   wrote-length, wrote_as                     a buffer keeps its length; the same thing said otherwise
 --   wrote-next                                 one element of a list more
 --   wrote-last, wrote-digit                    a value of one digit; one digit behind the others
+--   wrote-slice                                a slice copied by the library
 use mathlib.Core.Path.{◌≡◌, refl, sym, ap, subst, ◌∙◌}
 use mathlib.Core.List.{List, [], ◌∷◌, ◌++◌, append_assoc, append-nil}
-use Prim.Native.Nat.{ℕ, suc, ◌+◌, ◌/◌, ◌%◌, ◌<◌, ◌≤◌}
+use Prim.Native.Nat.{ℕ, suc, ◌+◌, ◌-◌, ◌/◌, ◌%◌, ◌<◌, ◌≤◌}
+use borrow.Rule.Slice.PartMut.{put_mid}
+use Rattle.std.proofs.lemmas.Slice.{put_mid-paste}
 use native.Mathlib.Nat.{add-zero, mod-eq_of_lt}
 use native.Mathlib.Numerals.{add-one}
 use native.Mathlib.Omega.{arith}
 use lib.ListN.{length, get_or, take, drop, set, length-append, length-take, length-drop, take-append-drop}
-use lib.Seq.{set_split, take_at, drop_at, drop-drop, take-append-le, take-take, take-suc, append_snoc}
+use lib.Seq.{set_split, take_all, take_at, drop_at, drop-drop, take-append-le, take-take, take-suc, append_snoc}
 use Rattle.definitions.specs.Text.{decimal}
 use Rattle.definitions.proofs.Rendering.{decimal-one, decimal-more}
 use Rattle.text.specs.Writing.{put, Wrote}
@@ -97,3 +100,16 @@ module _ {b : List ℕ} {at : ℕ} {c : List ℕ} {next : ℕ} (v d : ℕ) (q : 
 
   pub wrote-digit : {e : List ℕ} {last : ℕ} → 10 ≤ v → Wrote b at (decimal (v / 10)) c next → Wrote c next (d ∷ []) e last → Wrote b at (decimal v) e last
   wrote-digit l h k = wrote_as (wrote-more h k) (ap (λ (x : ℕ). decimal (v / 10) ++ (x ∷ [])) q ∙ sym (decimal-more v l))
+
+-- ---- A slice copied
+
+pub wrote-slice : (b s : List ℕ) (at : ℕ) {t : List ℕ} → at + length s ≤ length b → t ≡ s → Wrote b at s (put_mid at (at + length s - at) b t) (at + length s)
+unfolding put
+wrote-slice b s at {t} l q =
+    record {
+      content =
+          put_mid-paste at (at + length s - at) b t s (length s) q (omega arith) refl
+          ∙ ap (λ (xs : List ℕ). take at b ++ xs ++ drop (at + length s) b) (take_all (length s) s (omega arith));
+      end = refl;
+      room = l;
+    }

@@ -3,13 +3,11 @@
 --   Digit, Ends           a byte that is a digit; bytes that do not go on with one
 --   DigitAt               the digit at a position
 --   ValueAt, NoValue      behind the bytes `lead` stands a value; none stands there
---   ReadAt                what `Read` says of a position
+--   ReadAt                what is read at a position
 --   StartsAt              the bytes s stand at a position
 --   field_trail, trail     fields, and values, each behind a space
-use Rattle.std.specs.Prelude.{◌≡◌, ℕ, ◌+◌, ◌<◌, ◌≤◌, List, [], ◌∷◌, ◌++◌, map, length, get_or, drop}
+use Rattle.std.specs.Prelude.{◌≡◌, ℕ, ◌+◌, ◌<◌, ◌≤◌, List, [], ◌∷◌, ◌++◌, map, length, get_or, drop, Option, Some, None}
 use Rattle.definitions.specs.Text.{Bytes, largest, decimal}
-use Rattle.text.specs.declared.Read.{Read}
-use Rattle.text.specs.declared.Read.TheVariants.{Value, Nothing}
 
 abbrev pub Digit : ℕ → Type 0
 Digit b = (48 ≤ b) × (b < 58)
@@ -18,10 +16,10 @@ Digit b = (48 ≤ b) × (b < 58)
 abbrev pub Ends : Bytes → Type 0
 Ends r = Digit (get_or r 0 0) → ⊥
 
--- d is the digit at a position, or at least 10 where none stands
-pub record DigitAt (t : Bytes) (at d : ℕ) : Type 0 where
-  pub stands : d < 10 → get_or t at 0 ≡ 48 + d
-  pub fails : 10 ≤ d → Digit (get_or t at 0) → ⊥
+-- r is the digit at a position, or none where none stands
+pub record DigitAt (t : Bytes) (at : ℕ) (r : Option ℕ) : Type 0 where
+  pub stands : (d : ℕ) → r ≡ Some d → (d < 10) × (get_or t at 0 ≡ 48 + d)
+  pub fails : r ≡ None → Digit (get_or t at 0) → ⊥
 
 module _ (lead : Bytes) (t : Bytes) (at : ℕ) where
   -- behind the bytes `lead` stands v, and its digits end before `next`
@@ -35,9 +33,9 @@ module _ (lead : Bytes) (t : Bytes) (at : ℕ) where
   pub record NoValue : Type 0 where
     pub none : (v : ℕ) (r : Bytes) → v ≤ largest → Ends r → drop at t ≡ lead ++ decimal v ++ r → ⊥
 
-  pub record ReadAt (r : Read) : Type 0 where
-    pub stands : (v next : ℕ) → r ≡ Value v next → ValueAt v next
-    pub fails : r ≡ Nothing → NoValue
+  pub record ReadAt (r : Option (ℕ × ℕ)) : Type 0 where
+    pub stands : (v next : ℕ) → r ≡ Some (v, next) → ValueAt v next
+    pub fails : r ≡ None → NoValue
 
 -- the bytes s stand at a position
 abbrev pub StartsAt : Bytes → ℕ → Bytes → Type 0

@@ -1,8 +1,7 @@
 // Decimal values in text: one value read at a position, one value written at a position.
 //
-//   Read           what stands at a position: a value and the position behind it, or none
 //   byte_at        a byte, 0 beyond the end
-//   value          the value that stands at a position
+//   value          the value that stands at a position, and the position behind it
 //   value_behind   the same behind a byte
 //   starts         whether given bytes stand at a position
 //   put_byte       writes a byte
@@ -16,67 +15,47 @@ ghost use Rattle.definitions.specs.Text.{decimal};
 ghost use Rattle.text.specs.Reading.{DigitAt, ReadAt, StartsAt};
 ghost use Rattle.text.specs.Writing.{Wrote};
 
-// What stands at a position.
-#[derive(Clone, Copy)]
-pub enum Read {
-    // A value, and the position behind its last digit.
-    Value(u32, usize),
-    // No value of at most nine digits without a leading zero.
-    Nothing,
-}
-
 // The byte at a position, and 0 beyond the end.
 pub fn byte_at(text: &[u8], at: usize) -> u8
     ensures { result ≡ get_or text.now at 0 }
 {
-    if at < text.len() { text[at] } else { 0 }
+    text.get(at).copied().unwrap_or(0)
 }
 
-// The digit at a position, and 10 where none stands.
-fn digit_at(text: &[u8], at: usize) -> u32
+// The digit at a position.
+fn digit_at(text: &[u8], at: usize) -> Option<u32>
     ensures { DigitAt text.now at result }
 {
-    let b = byte_at(text, at);
-    if b < 48 {
-        return 10;
+    match byte_at(text, at) {
+        b @ b'0'..=b'9' => Some(u32::from(b - b'0')),
+        _ => None,
     }
-    if 57 < b {
-        return 10;
-    }
-    (b - 48) as u32
 }
 
-// The value at a position, by its whole run of digits.
-pub fn value(text: &[u8], at: usize) -> Read
+// The value at a position, by its whole run of digits, and the position behind the last. It has at most nine digits, and no leading
+// zero.
+pub fn value(text: &[u8], at: usize) -> Option<(u32, usize)>
     ensures { ReadAt [] text.now at result }
 {
-    let mut v = digit_at(text, at);
-    if 9 < v {
-        return Read::Nothing;
-    }
-    let mut i = at + 1;
-    let mut d = digit_at(text, i);
-    while d < 10 {
-        if v == 0 {
-            return Read::Nothing;
-        }
-        if 99999999 < v {
-            return Read::Nothing;
+    let mut v = digit_at(text, at)?;
+    let mut next = at + 1;
+    while let Some(d) = digit_at(text, next) {
+        if v == 0 || 99999999 < v {
+            return None;
         }
         v = v * 10 + d;
-        i += 1;
-        d = digit_at(text, i);
+        next += 1;
     }
-    Read::Value(v, i)
+    Some((v, next))
 }
 
 // The value behind the byte b.
-pub fn value_behind(text: &[u8], at: usize, b: u8) -> Read
+pub fn value_behind(text: &[u8], at: usize, b: u8) -> Option<(u32, usize)>
     requires { 0 < b }
     ensures { ReadAt (b ∷ []) text.now at result }
 {
     if byte_at(text, at) != b {
-        return Read::Nothing;
+        return None;
     }
     value(text, at + 1)
 }
@@ -86,17 +65,7 @@ pub fn starts(text: &[u8], at: usize, s: &[u8]) -> bool
     requires { at ≤ length text.now }
     ensures { (result ≡ true) ↔ StartsAt text.now at s.now }
 {
-    if text.len() - at < s.len() {
-        return false;
-    }
-    let mut k = 0;
-    while k < s.len() {
-        if text[at + k] != s[k] {
-            return false;
-        }
-        k += 1;
-    }
-    true
+    text[at..].starts_with(s)
 }
 
 // Writes a byte, and returns the position behind it.
@@ -143,9 +112,7 @@ pub fn put_bytes(out: &mut [u8], at: usize, s: &[u8]) -> usize
     requires { at + length s.now ≤ length out.old }
     ensures { Wrote out.old at s.now out.new result }
 {
-    let mut next = at;
-    for k in 0..s.len() {
-        next = put_byte(out, next, s[k]);
-    }
-    next
+    let end = at + s.len();
+    out[at..end].copy_from_slice(s);
+    end
 }
