@@ -11,8 +11,7 @@ use native.Mathlib.Omega.{arith}
 use lib.ListN.{drop}
 use Rattle.definitions.specs.Text.{Bytes, largest, decimal}
 use Rattle.text.specs.Reading.{Ends, ValueAt, NoValue, ReadAt, trail}
-use Rattle.text.specs.declared.Read.{Read}
-use Rattle.text.specs.declared.Read.TheVariants.{Nothing}
+use Rattle.std.specs.Prelude.{Option, None}
 use Rattle.text.proofs.Reading.{read_known, value-unique}
 use Rattle.text.proofs.Trail.{trail-nil, trail-cons}
 use Rattle.reader.specs.Lines.{head_text, HeadLine, NoHead, HeadAt}
@@ -34,10 +33,10 @@ head-known {t} {at} {j} {i} {p} {next} h q r e m =
     (append_cancel_left (decimal (suc j)) _ _ (sym (head-text j i p (drop next t)) ∙ sym h.text ∙ m ∙ head-text j i q r))))
 
 module _ (j i : ℕ) {t : Bytes} {at : ℕ} where
-  head-fails : NoHead t at j i → HeadAt t at j i Nothing
+  head-fails : NoHead t at j i → HeadAt t at j i None
   head-fails h = record { stands = λ p n q. let z : ◌≡◌ {A = ℕ} 0 1 = cc in absurd (omega arith); fails = λ q. h }
 
-  pub head-none : NoValue [] t at → j < largest → HeadAt t at j i Nothing
+  pub head-none : NoValue [] t at → j < largest → HeadAt t at j i None
   head-none h l =
       head-fails (record { none = λ p r s e q. h.none (suc j) (32 ∷ decimal (suc i) ++ (32 ∷ decimal p ++ r)) l (λ d. omega (arith, d.0)) (q ∙ head-text j i p r) })
 
@@ -45,20 +44,20 @@ module _ (j i : ℕ) {t : Bytes} {at : ℕ} where
     first : (p : ℕ) (r : Bytes) → drop at t ≡ head_text j i p ++ r → (a ≡ suc j) × (drop next t ≡ 32 ∷ decimal (suc i) ++ (32 ∷ decimal p ++ r))
     first p r q = read_known h (suc j) (32 ∷ decimal (suc i) ++ (32 ∷ decimal p ++ r)) (λ d. omega (arith, d.0)) (q ∙ head-text j i p r)
 
-    pub head-other : (a ≡ suc j → ⊥) → HeadAt t at j i Nothing
+    pub head-other : (a ≡ suc j → ⊥) → HeadAt t at j i None
     head-other n = head-fails (record { none = λ p r s e q. n (first p r q).0 })
 
-    pub head_none_2 : NoValue (32 ∷ []) t next → i < largest → HeadAt t at j i Nothing
+    pub head_none_2 : NoValue (32 ∷ []) t next → i < largest → HeadAt t at j i None
     head_none_2 k l = head-fails (record { none = λ p r s e q. k.none (suc i) (32 ∷ decimal p ++ r) l (λ d. omega (arith, d.0)) (first p r q).1 })
 
     module _ {b behind : ℕ} (k : ValueAt (32 ∷ []) t next b behind) where
       second : (p : ℕ) (r : Bytes) → drop at t ≡ head_text j i p ++ r → (b ≡ suc i) × (drop behind t ≡ 32 ∷ decimal p ++ r)
       second p r q = read_known k (suc i) (32 ∷ decimal p ++ r) (λ d. omega (arith, d.0)) (first p r q).1
 
-      pub head-other-2 : (b ≡ suc i → ⊥) → HeadAt t at j i Nothing
+      pub head-other-2 : (b ≡ suc i → ⊥) → HeadAt t at j i None
       head-other-2 n = head-fails (record { none = λ p r s e q. n (second p r q).0 })
 
-      pub head-some : a ≡ suc j → b ≡ suc i → {x : Read} → ReadAt (32 ∷ []) t behind x → HeadAt t at j i x
+      pub head-some : a ≡ suc j → b ≡ suc i → {x : Option (ℕ × ℕ)} → ReadAt (32 ∷ []) t behind x → HeadAt t at j i x
       head-some x y m =
           record {
             stands = λ p last q. let w = m.stands p last q in record {

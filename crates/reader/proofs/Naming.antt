@@ -20,7 +20,7 @@ use Rattle.definitions.specs.Lists.{upto}
 use Rattle.definitions.specs.Text.{Bytes, largest, decimal, line}
 use Rattle.definitions.specs.Presentation.{presentation_names}
 use Rattle.text.specs.Reading.{Ends, ValueAt, NoValue, StartsAt, field_trail}
-use Rattle.text.specs.declared.Read.TheVariants.{Value, Nothing}
+use Rattle.std.specs.Prelude.{Some, None}
 use Rattle.text.proofs.Reading.{drop-front, drop-byte, read_known}
 use Rattle.text.proofs.Trail.{field_trail-one, line-trail}
 use Rattle.reader.specs.Lines.{NamesLine, NoNames, NamesAt}
@@ -81,11 +81,11 @@ pub record NamesGoing (t : Bytes) (n at : ℕ) : Type 0 where
 front : (t : Bytes) (at b : ℕ) (r : Bytes) → drop at t ≡ b ∷ r → get_or t at 0 ≡ b
 front t at b r q = sym (drop-front t at) ∙ ap (λ (xs : Bytes). get_or xs 0 0) q
 
-refused : {t : Bytes} → NoNames t → NamesAt t Nothing
+refused : {t : Bytes} → NoNames t → NamesAt t None
 refused h = record { stands = λ n k q. let z : ◌≡◌ {A = ℕ} 0 1 = cc in absurd (omega arith); fails = λ q. h }
 
 module _ {t : Bytes} where
-  pub names-unstarted : (StartsAt t 0 start → ⊥) → NamesAt t Nothing
+  pub names-unstarted : (StartsAt t 0 start → ⊥) → NamesAt t None
   names-unstarted h = refused (record { none = λ n r a b q. h (name_trail n ++ 10 ∷ r, q ∙ names-line n r) })
 
   pub names-none : StartsAt t 0 start → NamesGoing t 0 5
@@ -121,7 +121,7 @@ module _ {t : Bytes} where
     behind m r q = append_cancel_left start (name_trail n ++ drop at t) (name_trail m ++ 10 ∷ r) (sym h.text ∙ q ∙ names-line m r)
 
     pub names-refuse : ((r : Bytes) → 1 ≤ n → drop at t ≡ 10 ∷ r → ⊥)
-        → ((r : Bytes) → Ends r → n < largest → drop at t ≡ 32 ∷ 101 ∷ decimal (suc n) ++ r → ⊥) → NamesAt t Nothing
+        → ((r : Bytes) → Ends r → n < largest → drop at t ≡ 32 ∷ 101 ∷ decimal (suc n) ++ r → ⊥) → NamesAt t None
     names-refuse last next = refused (record { none = λ m r a b q. pick m r a b (behind m r q) (dec_lt n m) (ℕ_discrete n m) })
       where
         pick : (m : ℕ) (r : Bytes) → 1 ≤ m → m ≤ largest → name_trail n ++ drop at t ≡ name_trail m ++ 10 ∷ r → Dec (n < m) → Dec (n ≡ m) → ⊥
@@ -138,26 +138,25 @@ module _ {t : Bytes} where
             omega (arith, head-eq_of_cons-eq z)
 
     -- no further name can be read where a space stands
-    pub names-fails : get_or t at 0 ≡ 32 → NoValue (32 ∷ 101 ∷ []) t at → NamesAt t Nothing
+    pub names-fails : get_or t at 0 ≡ 32 → NoValue (32 ∷ 101 ∷ []) t at → NamesAt t None
     names-fails b k =
         names-refuse (λ r a q. omega (arith, front t at 10 r q)) (λ r e l q. k.none (suc n) r l e q)
 
-    pub names-other : {v next : ℕ} → ValueAt (32 ∷ 101 ∷ []) t at v next → (v ≡ n + 1 → ⊥) → NamesAt t Nothing
+    pub names-other : {v next : ℕ} → ValueAt (32 ∷ 101 ∷ []) t at v next → (v ≡ n + 1 → ⊥) → NamesAt t None
     names-other {v} {next} k o =
         names-refuse (λ r a q. omega (arith, head-eq_of_cons-eq (sym k.text ∙ q)))
         (λ r e l q. o ((read_known k (suc n) r e q).0 ∙ sym (add-one n)))
 
     -- neither a space nor the end of the line, or no name at all
-    pub names-stops : (get_or t at 0 ≡ 32 → ⊥) → (1 ≤ n → get_or t at 0 ≡ 10 → ⊥) → NamesAt t Nothing
+    pub names-stops : (get_or t at 0 ≡ 32 → ⊥) → (1 ≤ n → get_or t at 0 ≡ 10 → ⊥) → NamesAt t None
     names-stops s e = names-refuse (λ r a q. e a (front t at 10 r q)) (λ r a l q. s (front t at 32 (101 ∷ decimal (suc n) ++ r) q))
 
-    pub names-end : 1 ≤ n → get_or t at 0 ≡ 10 → at < length t → NamesAt t (Value n (at + 1))
+    pub names-end : 1 ≤ n → get_or t at 0 ≡ 10 → at < length t → NamesAt t (Some (n, at + 1))
     names-end l q b =
         record {
           stands = λ m next w.
-              let x : n ≡ m = cc in
-              let y : at + 1 ≡ next = cc in
-              subst (λ (k : ℕ). NamesLine t m k) y (subst (λ (k : ℕ). NamesLine t k (at + 1)) x (record {
+              let e : ◌≡◌ {A = ℕ × ℕ} (n, at + 1) (m, next) = cc in
+              subst (λ (p : ℕ × ℕ). NamesLine t p.0 p.1) e (record {
                 text =
                     h.text
                     ∙ ap (λ (xs : Bytes). start ++ (name_trail n ++ xs)) (drop-byte t at 10 q (omega arith))
@@ -165,6 +164,6 @@ module _ {t : Bytes} where
                 some = l;
                 few = h.few;
                 within = omega arith;
-              }));
+              });
           fails = λ w. let z : ◌≡◌ {A = ℕ} 0 1 = cc in absurd (omega arith);
         }

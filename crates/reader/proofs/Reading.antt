@@ -5,18 +5,18 @@
 --   Reading                     k lines have been read, and the next is that of (j, i)
 --   reading-none, reading-more  none; one more
 --   reading-below, reading-no-line, reading-over      a line is wanted; it is none; more stands behind the last
---   reading-end, reading-refused     every line has been read; a line was refused
+--   reading-end, reading-refused, reading-longer     every line has been read; a line was refused; the text goes on
+use Rattle.std.specs.Prelude.{Some, None}
 use mathlib.Core.Path.{◌≡◌, refl, sym, ap, subst, ◌∙◌}
 use mathlib.Core.Logic.{◌≢◌, by_cases}
-use mathlib.Core.Bool.{Bool, true, false, ◌&&◌, ◌||◌, not, true≢false, false≢true}
+use mathlib.Core.Bool.{Bool, true, false, ◌&&◌, ◌||◌, not, true≢false}
 use mathlib.Core.List.{List, [], ◌∷◌, ◌++◌, append-nil}
 use Prim.Native.Nat.{ℕ, suc, ◌+◌, ◌<◌, ◌≤◌}
 use native.Mathlib.Decide.{dec_lt, ℕ_discrete}
 use native.Mathlib.Omega.{arith}
 use lib.ListN.{length, get_or, set, drop, length-append, length-set, length-drop, drop_of_length-le}
 use lib.Seq.{get_or-set_same, get_or-set_other}
-use lib.Dec.{eqb}
-use borrow.Author.Tests.{eqb-true, eqb-false, eq-eqb, ne_eqb}
+use borrow.Author.Tests.{eq-eqb, ne_eqb}
 use Rattle.definitions.specs.Lists.{sum, all}
 use Rattle.definitions.specs.Text.{Bytes}
 use Rattle.definitions.specs.Presentation.{max_generators, pair_count, Row, pairs, pair_number, is_prime}
@@ -263,12 +263,14 @@ module _ {t : Bytes} {start n : ℕ} where
           composite = λ w. let o = h.composite w in (o.0, o.1, o.3);
         }
 
-    pub reading-end : n ≤ j → LinesAt t start n rows ps (record { ok = eqb at (length t); primes = primes })
-    reading-end l =
-        record {
-          stands = λ q. reading-whole l (eqb-true at (length t) q);
-          fails = λ q. reading-over l (let n = eqb-false at (length t) q in omega (arith, n, h.within));
-        }
+    pub reading-end : n ≤ j → at ≡ length t → LinesAt t start n rows ps (Some primes)
+    reading-end l q = record {
+      stands = λ all w. let e : ◌≡◌ {A = Bool} primes all = cc in subst (AllLines t start n rows ps) e (reading-whole l q);
+      fails = λ w. let z : ◌≡◌ {A = ℕ} 0 1 = cc in absurd (omega arith);
+    }
 
-    pub reading-refused : NoLines t start n → LinesAt t start n rows ps (record { ok = false; primes = primes })
-    reading-refused m = record { stands = λ q. absurd (false≢true q); fails = λ q. m }
+    pub reading-refused : NoLines t start n → LinesAt t start n rows ps None
+    reading-refused m = record { stands = λ all q. let z : ◌≡◌ {A = ℕ} 0 1 = cc in absurd (omega arith); fails = λ q. m }
+
+    pub reading-longer : n ≤ j → ¬ (at ≡ length t) → LinesAt t start n rows ps None
+    reading-longer l m = reading-refused (reading-over l (omega (arith, m, h.within)))

@@ -7,7 +7,8 @@
 --   going-as                  what is kept, said otherwise
 use mathlib.Core.Path.{◌≡◌, refl, sym, ap, subst, ◌∙◌}
 use mathlib.Core.Logic.{◌≢◌}
-use mathlib.Core.Bool.{true, false, true≢false, false≢true}
+use mathlib.Core.Bool.{true}
+use Rattle.std.specs.Prelude.{Some, None}
 use mathlib.Core.List.{List, [], ◌∷◌, ◌++◌}
 use Prim.Native.Nat.{ℕ, zero, suc, ◌+◌, ◌<◌, ◌≤◌}
 use native.Mathlib.Decide.{ℕ_discrete}
@@ -19,7 +20,7 @@ use Rattle.definitions.specs.Presentation.{max_generators}
 use Rattle.text.specs.Reading.{Ends, ValueAt, NoValue, trail}
 use Rattle.text.proofs.Reading.{drop-front, drop-byte}
 use Rattle.text.proofs.Trail.{trail-nil, trail-cons, trail-one, trail-ahead, ends-byte, ends-trail, small-nil, small_one, small_at}
-use Rattle.reader.specs.Lines.{NoWord, WordAt}
+use Rattle.reader.specs.Lines.{WordLine, NoWord, WordAt}
 
 -- ---- The last element of a list
 
@@ -101,10 +102,10 @@ module _ {t : Bytes} {at n : ℕ} where
         (trail-ahead h.word word (drop next t) (10 ∷ r) h.ends (ends-byte 10 r (omega arith)) (omega (arith, h.count, h.few)) (sym h.text ∙ q)).1
         ∙ ap (λ (j : ℕ). trail (drop j word) ++ 10 ∷ r) h.count
 
-    refuse : NoWord t at n → WordAt t at n (record { ok = false; next = next; kept = kept })
-    refuse w = record { stands = λ q. absurd (false≢true q); fails = λ q. w }
+    refuse : NoWord t at n → WordAt t at n None
+    refuse w = record { stands = λ kept next q. let z : ◌≡◌ {A = ℕ} 0 1 = cc in absurd (omega arith); fails = λ q. w }
 
-    pub going-fails : k < n → NoValue (32 ∷ []) t next → WordAt t at n (record { ok = false; next = next; kept = kept })
+    pub going-fails : k < n → NoValue (32 ∷ []) t next → WordAt t at n None
     going-fails l v =
         refuse (record {
           none = λ word r c s q.
@@ -118,22 +119,24 @@ module _ {t : Bytes} {at n : ℕ} where
     whole l word r c q =
         ahead word r c q ∙ ap (λ (ws : List ℕ). trail ws ++ 10 ∷ r) (drop_of_length-le word {i = k} (omega arith)) ∙ ap (λ (xs : Bytes). xs ++ 10 ∷ r) trail-nil
 
-    pub going-stops : n ≤ k → (get_or t next 0 ≡ 10 → ⊥) → WordAt t at n (record { ok = false; next = next; kept = kept })
+    pub going-stops : n ≤ k → (get_or t next 0 ≡ 10 → ⊥) → WordAt t at n None
     going-stops l n = refuse (record { none = λ word r c s q. n (sym (drop-front t next) ∙ ap (λ (xs : Bytes). get_or xs 0 0) (whole l word r c q)) })
 
-    pub going_end : n ≤ k → get_or t next 0 ≡ 10 → next < length t → WordAt t at n (record { ok = true; next = next + 1; kept = kept })
+    pub going_end : n ≤ k → get_or t next 0 ≡ 10 → next < length t → WordAt t at n (Some (kept, next + 1))
     going_end l q b =
         record {
-          stands = λ _. record {
-            word = h.word;
-            count = omega (arith, h.count, h.few);
-            small_all = h.small_all;
-            text = h.text ∙ ap (λ (xs : Bytes). trail h.word ++ xs) (drop-byte t next 10 q (omega arith));
-            keeps = h.keeps;
-            further = omega (arith, h.from);
-            within = omega arith;
-          };
-          fails = λ q. absurd (true≢false q);
+          stands = λ held last w.
+              let e : ◌≡◌ {A = List ℕ × ℕ} (kept, next + 1) (held, last) = cc in
+              subst (λ (p : List ℕ × ℕ). WordLine t at n p.0 p.1) e (record {
+                word = h.word;
+                count = omega (arith, h.count, h.few);
+                small_all = h.small_all;
+                text = h.text ∙ ap (λ (xs : Bytes). trail h.word ++ xs) (drop-byte t next 10 q (omega arith));
+                keeps = h.keeps;
+                further = omega (arith, h.from);
+                within = omega arith;
+              });
+          fails = λ w. let z : ◌≡◌ {A = ℕ} 0 1 = cc in absurd (omega arith);
         }
 
 -- the same with what is kept said otherwise

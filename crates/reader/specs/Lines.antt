@@ -3,13 +3,10 @@
 --   NamesLine, NoNames, NamesAt    the names line of n exponents
 --   head_text, HeadLine, NoHead, HeadAt     j, i and p of a line
 --   WordLine, NoWord, WordAt       the exponents and the end of a line
-use Rattle.std.specs.Prelude.{◌≡◌, true, false, List, [], ◌∷◌, ◌++◌, ℕ, suc, ◌<◌, ◌≤◌, length, get_or, drop}
+use Rattle.std.specs.Prelude.{◌≡◌, true, List, [], ◌∷◌, ◌++◌, ℕ, suc, ◌<◌, ◌≤◌, length, get_or, drop, Option, Some, None}
 use Rattle.definitions.specs.Text.{Bytes, largest, decimal, line, small}
 use Rattle.definitions.specs.Presentation.{max_generators, presentation_names}
 use Rattle.text.specs.Reading.{Ends, trail}
-use Rattle.text.specs.declared.Read.{Read}
-use Rattle.text.specs.declared.Read.TheVariants.{Value, Nothing}
-use Rattle.reader.specs.declared.WordRead.{WordRead}
 
 -- ---- The names line
 
@@ -22,9 +19,9 @@ pub record NamesLine (t : Bytes) (n next : ℕ) : Type 0 where
 pub record NoNames (t : Bytes) : Type 0 where
   pub none : (n : ℕ) (r : Bytes) → 1 ≤ n → n ≤ largest → t ≡ line (presentation_names n) ++ r → ⊥
 
-pub record NamesAt (t : Bytes) (a : Read) : Type 0 where
-  pub stands : (n next : ℕ) → a ≡ Value n next → NamesLine t n next
-  pub fails : a ≡ Nothing → NoNames t
+pub record NamesAt (t : Bytes) (a : Option (ℕ × ℕ)) : Type 0 where
+  pub stands : (n next : ℕ) → a ≡ Some (n, next) → NamesLine t n next
+  pub fails : a ≡ None → NoNames t
 
 -- ---- j, i and p
 
@@ -42,9 +39,9 @@ module _ (t : Bytes) (at j i : ℕ) where
   pub record NoHead : Type 0 where
     pub none : (p : ℕ) (r : Bytes) → p ≤ largest → Ends r → drop at t ≡ head_text j i p ++ r → ⊥
 
-  pub record HeadAt (a : Read) : Type 0 where
-    pub stands : (p next : ℕ) → a ≡ Value p next → HeadLine p next
-    pub fails : a ≡ Nothing → NoHead
+  pub record HeadAt (a : Option (ℕ × ℕ)) : Type 0 where
+    pub stands : (p next : ℕ) → a ≡ Some (p, next) → HeadLine p next
+    pub fails : a ≡ None → NoHead
 
 -- ---- The exponents
 
@@ -62,6 +59,6 @@ module _ (t : Bytes) (at n : ℕ) where
   pub record NoWord : Type 0 where
     pub none : (word : List ℕ) (r : Bytes) → length word ≡ n → small word ≡ true → drop at t ≡ trail word ++ 10 ∷ r → ⊥
 
-  pub record WordAt (w : WordRead) : Type 0 where
-    pub stands : w.ok ≡ true → WordLine w.kept w.next
-    pub fails : w.ok ≡ false → NoWord
+  pub record WordAt (w : Option (List ℕ × ℕ)) : Type 0 where
+    pub stands : (kept : List ℕ) (next : ℕ) → w ≡ Some (kept, next) → WordLine kept next
+    pub fails : w ≡ None → NoWord

@@ -5,13 +5,12 @@
 --   RowKept                    a line kept in the rows and the list of every p, if there is a row for it
 --   RowsStored                  every row for which there is room is kept so
 --   AllLines, NoLines, LinesAt     what reading all lines says
-use Rattle.std.specs.Prelude.{◌≡◌, Bool, true, false, ◌||◌, not, ℕ, ◌<◌, ◌≤◌, length, get_or, set, drop, eqb}
+use Rattle.std.specs.Prelude.{◌≡◌, Bool, true, false, ◌||◌, not, ℕ, ◌<◌, ◌≤◌, length, get_or, set, drop, eqb, Option, Some, None}
 use mathlib.Core.List.{List, [], zip_with, flat_map}
 use Rattle.definitions.specs.Lists.{all}
 use Rattle.definitions.specs.Text.{Bytes, value_line}
 use Rattle.definitions.specs.Presentation.{max_generators, pair_count, Row, pairs, pair_number, row_values, is_prime}
 use Rattle.definitions.proofs.Rendering.{row_formed}
-use Rattle.reader.specs.declared.LinesRead.{LinesRead}
 
 abbrev pub no_row : Row
 no_row = record { p = 2; word = [] }
@@ -47,6 +46,6 @@ module _ (t : Bytes) (start n : ℕ) where
   pub record NoLines : Type 0 where
     pub none : (lines : List Row) → length lines ≡ length (pairs n) → all (row_formed n) lines ≡ true → drop start t ≡ row_text n lines → ⊥
 
-  pub record LinesAt (rows : List (List ℕ)) (ps : List ℕ) (r : LinesRead) : Type 0 where
-    pub stands : r.ok ≡ true → AllLines rows ps r.primes
-    pub fails : r.ok ≡ false → NoLines
+  pub record LinesAt (rows : List (List ℕ)) (ps : List ℕ) (r : Option Bool) : Type 0 where
+    pub stands : (primes : Bool) → r ≡ Some primes → AllLines rows ps primes
+    pub fails : r ≡ None → NoLines

@@ -18,109 +18,77 @@ ghost use Rattle.reader.specs.Rows.{passes, RowKept, LinesAt};
 
 use conditions::prime::is_prime;
 use rows::{GENERATORS, PAIRS, Row, Rows};
-use text::Read;
 
 // The number in the exponent's name at a position.
-fn next_name(text: &[u8], at: usize) -> Read
+fn next_name(text: &[u8], at: usize) -> Option<(u32, usize)>
     ensures { ReadAt (32 ∷ 101 ∷ []) text.now at result }
 {
-    if text::byte_at(text, at) != 32 {
-        return Read::Nothing;
+    if text::byte_at(text, at) != b' ' {
+        return None;
     }
-    text::value_behind(text, at + 1, 101)
+    text::value_behind(text, at + 1, b'e')
 }
 
 // The names line: n, and the position behind the line.
-pub fn names(text: &[u8]) -> Read
+pub fn names(text: &[u8]) -> Option<(u32, usize)>
     ensures { NamesAt text.now result }
 {
     if !text::starts(text, 0, b"j i p") {
-        return Read::Nothing;
+        return None;
     }
     let mut n: u32 = 0;
     let mut at: usize = 5;
-    while text::byte_at(text, at) == 32 {
-        let Read::Value(v, next) = next_name(text, at) else {
-            return Read::Nothing;
-        };
+    while text::byte_at(text, at) == b' ' {
+        let (v, next) = next_name(text, at)?;
         if v != n + 1 {
-            return Read::Nothing;
+            return None;
         }
         n = v;
         at = next;
     }
     if n == 0 {
-        return Read::Nothing;
+        return None;
     }
-    if text::byte_at(text, at) != 10 {
-        return Read::Nothing;
+    if text::byte_at(text, at) != b'\n' {
+        return None;
     }
-    Read::Value(n, at + 1)
+    Some((n, at + 1))
 }
 
 // The p of the line of the pair (j, i), and the position behind it.
-fn head(text: &[u8], at: usize, j: u32, i: u32) -> Read
+fn head(text: &[u8], at: usize, j: u32, i: u32) -> Option<(u32, usize)>
     requires { (j < largest) × (i ≤ j) }
     ensures { HeadAt text.now at j i result }
 {
-    let Read::Value(a, next) = text::value(text, at) else {
-        return Read::Nothing;
-    };
+    let (a, next) = text::value(text, at)?;
     if a != j + 1 {
-        return Read::Nothing;
+        return None;
     }
-    let Read::Value(b, behind) = text::value_behind(text, next, 32) else {
-        return Read::Nothing;
-    };
+    let (b, behind) = text::value_behind(text, next, b' ')?;
     if b != i + 1 {
-        return Read::Nothing;
+        return None;
     }
-    text::value_behind(text, behind, 32)
+    text::value_behind(text, behind, b' ')
 }
 
-// The exponents of a line, of which as many are kept as a row has.
-#[derive(Clone, Copy)]
-pub struct WordRead {
-    pub ok: bool,
-    pub next: usize,
-    pub kept: Row,
-}
-
-// The n exponents behind the p of a line, and the end of the line.
-fn exponents(text: &[u8], at: usize, n: u32) -> WordRead
+// The n exponents behind the p of a line, of which as many are kept as a row has, and the position behind the end of the line.
+fn exponents(text: &[u8], at: usize, n: u32) -> Option<(Row, usize)>
     requires { (at ≤ length text.now) × Ends (drop at text.now) }
     ensures { WordAt text.now at n result }
 {
     let mut kept = [0u32; GENERATORS];
     let mut next = at;
-    let mut k: u32 = 0;
-    while k < n {
-        let Read::Value(e, behind) = text::value_behind(text, next, 32) else {
-            return WordRead {
-                ok: false,
-                next,
-                kept,
-            };
-        };
-        let place = k as usize;
-        if place < GENERATORS {
-            kept[place] = e;
+    for k in 0..n as usize {
+        let (e, behind) = text::value_behind(text, next, b' ')?;
+        if k < GENERATORS {
+            kept[k] = e;
         }
         next = behind;
-        k += 1;
     }
-    if text::byte_at(text, next) != 10 {
-        return WordRead {
-            ok: false,
-            next,
-            kept,
-        };
+    if text::byte_at(text, next) != b'\n' {
+        return None;
     }
-    WordRead {
-        ok: true,
-        next: next + 1,
-        kept,
-    }
+    Some((kept, next + 1))
 }
 
 // A pair of generators, i at most j.
@@ -171,21 +139,15 @@ fn still_prime(primes: bool, j: u32, i: u32, p: u32) -> bool
     is_prime(p)
 }
 
-// Whether the lines stand, and whether every p of a line i = j is prime.
-#[derive(Clone, Copy)]
-pub struct LinesRead {
-    pub ok: bool,
-    pub primes: bool,
-}
-
-// The lines of values of a text, from the end of its names line to its own. Those are kept for which there is a row.
+// The lines of values of a text, from the end of its names line to its own, and whether every p of a line i = j is prime. Those are
+// kept for which there is a row.
 pub fn read_lines(
     text: &[u8],
     start: usize,
     n: u32,
     rows: &mut Rows,
     ps: &mut [u32; PAIRS],
-) -> LinesRead
+) -> Option<bool>
     requires { (start ≤ length text.now) × (n ≤ largest) × (length rows.old ≡ pair_count) × (length ps.old ≡ pair_count) }
     ensures { LinesAt text.now start n rows.new ps.new result }
 {
@@ -194,26 +156,20 @@ pub fn read_lines(
     let mut i: u32 = 0;
     let mut k: usize = 0;
     let mut primes = true;
+    // Pair and number go on together: the number of all pairs is too large for a range where n is.
     while j < n {
-        let Read::Value(p, behind) = head(text, at, j, i) else {
-            return LinesRead { ok: false, primes };
-        };
-        let w = exponents(text, behind, n);
-        let ok = w.ok;
-        if !ok {
-            return LinesRead { ok: false, primes };
-        }
-        let e = w.kept;
+        let (p, behind) = head(text, at, j, i)?;
+        let (e, next) = exponents(text, behind, n)?;
         primes = still_prime(primes, j, i, p);
         keep(rows, ps, k, p, e);
-        at = w.next;
+        at = next;
         k += 1;
         let q = next_pair(j, i);
         j = q.j;
         i = q.i;
     }
-    LinesRead {
-        ok: at == text.len(),
-        primes,
+    if at != text.len() {
+        return None;
     }
+    Some(primes)
 }

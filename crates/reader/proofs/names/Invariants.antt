@@ -4,8 +4,8 @@ use lib.ListN.{length}
 use Rattle.reader.proofs.Naming.{NamesGoing}
 use Rattle.reader.proofs.names.Given as goal
 
-abbrev pub invariant-loop-v : goal.invariant-loop-v
-invariant-loop-v l = NamesGoing l.text l.n l.at
+abbrev pub invariant-loop-n : goal.invariant-loop-n
+invariant-loop-n l = NamesGoing l.text l.n l.at
 
-abbrev pub decreases-loop-v : goal.decreases-loop-v
-decreases-loop-v l = length l.text - l.at
+abbrev pub decreases-loop-n : goal.decreases-loop-n
+decreases-loop-n l = length l.text - l.at

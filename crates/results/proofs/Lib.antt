@@ -1,0 +1,2 @@
+-- Laws of the numbers that a result stands for.
+pub mod Numbers

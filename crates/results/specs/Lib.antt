@@ -1,0 +1,2 @@
+-- The numbers that a result stands for.
+pub mod Numbers
