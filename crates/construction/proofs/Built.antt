@@ -1,6 +1,5 @@
 -- From the answer about a text to that of its build.
 --
---   build-refused         a text that is not accepted
 --   given                 what building the levels asks
 --   table-written         the levels are the table
 --   sized-short, sized-done    16, or the table
@@ -20,7 +19,9 @@ use Rattle.definitions.specs.Steps.{table_of}
 use Rattle.definitions.specs.Answers.{says, presentation_refusals, short, over, Build}
 use Rattle.definitions.proofs.Refusals.{None, first-refused, first-behind, accept-unrefused, leaves-refused}
 use Rattle.definitions.proofs.Rendering.{says-unique}
-use Rattle.presentation.specs.declared.Outcome.{Outcome}
+use Rattle.std.specs.Prelude.{Result, Ok, Err}
+use Rattle.results.specs.declared.Refusal.{Refusal}
+use Rattle.presentation.specs.declared.ReadPresentation.{ReadPresentation}
 use Rattle.conditions.specs.declared.size.Size.{Size}
 use Rattle.conditions.specs.Size.{Measured}
 use Rattle.text.specs.Writing.{put, Wrote}
@@ -33,23 +34,16 @@ use Rattle.acceptance.proofs.Answered.{accepts}
 use Rattle.measurement.proofs.Sizes.{A, same, is-small, count_of, size-order, size-words}
 use Rattle.construction.specs.Sized.{Table, Sized}
 
-pub build-refused : {t : Bytes} {o : Outcome} {rows : List (List ℕ)} (before : List ℕ) → AcceptedText t o rows → ¬ (o.status ≡ 0)
-    → Build t before o.status 0 before
-build-refused {t} {o} before a h = record {
-  answered = first-refused (short t (length before)) o.status (presentation_refusals t) a.answered h;
-  leaves = leaves-refused h;
-}
-
 -- ---- The levels
 
-module _ {R : Relations} {o : Outcome} {rows : List (List ℕ)} (S : Confirmed R o rows) where
-  pub given : {s : Size} → Measured o.primes o.n s → (have : ℕ) → s.words ≤ have → Given rows o.primes o.n s.order have (A S)
+module _ {R : Relations} {p : ReadPresentation} (S : Confirmed R p) where
+  pub given : {s : Size} → Measured p.primes p.n s → (have : ℕ) → s.words ≤ have → Given p.rows p.primes p.n s.order have (A S)
   unfolding presentation
   given M have l = record {
     small = is-small S;
     n_is = count_of S;
     m_is = size-order S M ∙ ap (λ P. order P P.n) (sym (same S));
-    reads = reads-accepted R S.passed.formed S.passed.primes S.passed.used S.consistent o.primes rows S.passed.held.reads;
+    reads = reads-accepted R S.passed.formed S.passed.primes S.passed.used S.consistent p.primes p.rows S.passed.held.reads;
     room = subst (λ P. build_words P ≤ have) (sym (same S)) (subst (λ x. x ≤ have) (size-words S M) l);
   }
 
@@ -66,12 +60,12 @@ module _ {R : Relations} {o : Outcome} {rows : List (List ℕ)} (S : Confirmed R
 
 -- ---- 16, or the table
 
-module _ {o : Outcome} {rows : List (List ℕ)} {s : Size} (M : Measured o.primes o.n s) (before : List ℕ) where
-  pub sized-short : length before < s.words → Sized o rows before 16 0 before
+module _ {p : ReadPresentation} {s : Size} (M : Measured p.primes p.n s) (before : List ℕ) where
+  pub sized-short : length before < s.words → Sized p before 16 0 before
   sized-short l = record { short = λ R S b. (refl, refl, refl); done = λ R S b. absurd (omega (arith, size-words S M)) }
 
-  pub sized-done : {count : ℕ} {after : List ℕ} → s.words ≤ length before → AllWritten rows o.primes o.n s.order before count after
-      → Sized o rows before 0 count after
+  pub sized-done : {count : ℕ} {after : List ℕ} → s.words ≤ length before → AllWritten p.rows p.primes p.n s.order before count after
+      → Sized p before 0 count after
   sized-done l W = record {
     short = λ R S b. absurd (omega (arith, size-words S M));
     done = λ R S b. (refl, table-written S (W (A S) (given S M (length before) l)));
@@ -79,9 +73,9 @@ module _ {o : Outcome} {rows : List (List ℕ)} {s : Size} (M : Measured o.prime
 
 -- ---- The call
 
-pub build-sized : {t : Bytes} {o : Outcome} {rows : List (List ℕ)} {before after : List ℕ} {answer count : ℕ} → AcceptedText t o rows → o.status ≡ 0
-    → Sized o rows before answer count after → Build t before answer count after
-build-sized {t} {o} {rows} {before} {after} {answer} {count} a zero z = by_cases (dec_lt (length before) (build_words (presentation R)))
+pub build-sized : {t : Bytes} {r : Result ReadPresentation Refusal} {p : ReadPresentation} {before after : List ℕ} {answer count : ℕ} → AcceptedText t r → r ≡ Ok p
+    → Sized p before answer count after → Build t before answer count after
+build-sized {t} {r} {p} {before} {after} {answer} {count} a is z = by_cases (dec_lt (length before) (build_words (presentation R)))
     (λ l.
     let d = z.short R said.2 l in
     record {
@@ -95,14 +89,14 @@ build-sized {t} {o} {rows} {before} {after} {answer} {count} a zero z = by_cases
       leaves = record { finished = λ e. (R, said.1, (d.1.lines, d.1.words)); refused = λ n. absurd (n d.0) };
     })
   where
-    said : says t (λ (R : Relations). Confirmed R o rows)
-    said = a.sound zero
+    said : says t (λ (R : Relations). Confirmed R p)
+    said = a.sound p is
 
     R : Relations
     R = said.0
 
     none : None (presentation_refusals t)
-    none = accept-unrefused t (accepts a zero)
+    none = accept-unrefused t (accepts a is)
 
     enough : ¬ (length before < build_words (presentation R)) → ¬ says t (λ (Q : Relations). length before < build_words (presentation Q))
     enough h (Q, q, l) = h (subst (λ (x : Relations). length before < build_words (presentation x)) (says-unique t Q R q said.1) l)

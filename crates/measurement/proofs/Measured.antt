@@ -1,7 +1,6 @@
 -- From the answer about a text to that of its measure.
 --
---   measure-refused     a text that is not accepted
---   measure-sized       the words of the measured size, for a text that is
+--   measure-sized       the words of the measured size, for an accepted text
 --   measured-builds     with as many words as were counted a build answers 0
 --   measured-short      with fewer it answers 16
 use mathlib.Core.Path.{◌≡◌, refl, sym, ap, subst, ◌∙◌}
@@ -15,21 +14,21 @@ use Rattle.definitions.specs.Presentation.{Relations, build_words, presentation}
 use Rattle.definitions.specs.Answers.{First, says, presentation_refusals, short, Measure, Build}
 use Rattle.definitions.proofs.Refusals.{first_rest, accept-unrefused, leaves-refused, leaves-finished}
 use Rattle.definitions.proofs.Rendering.{says-unique}
-use Rattle.presentation.specs.declared.Outcome.{Outcome}
+use Rattle.std.specs.Prelude.{Result, Ok, Err}
+use Rattle.results.specs.declared.Refusal.{Refusal}
+use Rattle.results.specs.Numbers.{answer}
+use Rattle.presentation.specs.declared.ReadPresentation.{ReadPresentation}
 use Rattle.conditions.specs.declared.size.Size.{Size}
 use Rattle.conditions.specs.Size.{Measured}
 use Rattle.acceptance.specs.Accepted.{AcceptedText}
 use Rattle.acceptance.proofs.Answered.{accepts}
 use Rattle.measurement.proofs.Sizes.{size-words}
 
-module _ {t : Bytes} {o : Outcome} {rows : List (List ℕ)} (a : AcceptedText t o rows) where
-  pub measure-refused : ¬ (o.status ≡ 0) → Measure t o.status 0
-  measure-refused h = record { answered = a.answered; leaves = leaves-refused h }
-
-  pub measure-sized : o.status ≡ 0 → {s : Size} → Measured o.primes o.n s → Measure t 0 s.words
-  measure-sized zero M =
-      let (R, says, S) = a.sound zero in
-      record { answered = accepts a zero; leaves = leaves-finished (R, says, size-words S M) }
+module _ {t : Bytes} {r : Result ReadPresentation Refusal} (a : AcceptedText t r) {p : ReadPresentation} (is : r ≡ Ok p) where
+  pub measure-sized : {s : Size} → Measured p.primes p.n s → Measure t 0 s.words
+  measure-sized M =
+      let (R, says, S) = a.sound p is in
+      record { answered = accepts a is; leaves = leaves-finished (R, says, size-words S M) }
 
 -- ---- The build of a text that was measured
 

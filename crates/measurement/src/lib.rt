@@ -1,37 +1,19 @@
-// How large a build of a presentation text is: 11 to 15, or 0 and the words that it wants.
+// How large a build of a presentation text is: 11 to 15, or the words that it wants.
 //
-//   Wanted           the number of a refusal and 0, or 0 and the words that a build wants
 //   measure          so for a text
 #![tactic(auto)]
 
 ghost use Rattle.definitions.specs.Answers.{Measure};
+ghost use Rattle.results.specs.Numbers.{answer, counted};
 
 use acceptance::accepted;
 use conditions::size;
-use rows::{GENERATORS, PAIRS};
+use results::Refusal;
 
-// The number of a refusal and 0, or 0 and the words that a build wants.
-#[derive(Clone, Copy)]
-pub struct Wanted {
-    pub answer: u32,
-    pub words: usize,
-}
-
-// The number that a presentation text is refused with and 0, or 0 and the words that a build of it wants.
-pub fn measure(text: &[u8]) -> Wanted
-    ensures { Measure text.now result.answer result.words }
+// The words that a build of a presentation text wants, or its refusal.
+pub fn measure(text: &[u8]) -> Result<usize, Refusal>
+    ensures { Measure text.now (answer result) (counted result) }
 {
-    let mut rows = [[0u32; GENERATORS]; PAIRS];
-    let o = accepted(text, &mut rows);
-    let answer = o.status;
-    if answer != 0 {
-        return Wanted { answer, words: 0 };
-    }
-    let n = o.n;
-    let primes = o.primes;
-    let s = size::measure(&primes, n);
-    Wanted {
-        answer: 0,
-        words: s.words,
-    }
+    let p = accepted(text)?;
+    Ok(size::measure(&p.primes, p.n).words)
 }

@@ -2,10 +2,10 @@
 --
 --   unnamed, unlined            no names line or no lines: the text is not in the form
 --   relations_of, says-them      the relations that the lines say
+--   unheld                      nothing is held beside a refusal
 --   refused-form, not-prime, too_many, concluded     the answers 11, 12, 13, and what `Concluded` says
 --   primes-positive             a prime is not 0
---   concluded-large, concluded-misused, concluded-well     how `Concluded` is reached
-use mathlib.Core.Path.{◌≡◌, refl, sym, ap, ap₂, subst, ◌∙◌}
+use mathlib.Core.Path.{◌≡◌, refl, sym, ap, ap₂, subst, subst₂, ◌∙◌}
 use mathlib.Core.Logic.{inl, inr}
 use mathlib.Core.Bool.{Bool, true, false, ◌&&◌, ◌||◌, not, cond, false≢true}
 use mathlib.Core.List.{List, [], ◌++◌}
@@ -28,13 +28,22 @@ use Rattle.group.proofs.Rows.{to_nf-ext}
 use Rattle.group.proofs.Context.{exponent-unused}
 use Rattle.rows.specs.Rows.{Reads}
 use Rattle.rows.proofs.Pairs.{pair-below}
-use Rattle.presentation.specs.declared.Outcome.{Outcome}
+use Rattle.std.specs.Prelude.{Result, Ok, Err}
+use Rattle.results.specs.declared.Refusal.{Refusal}
+use Rattle.results.specs.declared.Refusal.TheVariants.{PresentationForm, NotPrime, TooLarge}
+use Rattle.results.specs.Numbers.{answer}
+use Rattle.results.proofs.Numbers.{answer-ok}
+use Rattle.presentation.specs.declared.ReadPresentation.{ReadPresentation}
 use Rattle.reader.specs.Lines.{NamesLine, NoNames}
 use Rattle.reader.specs.Rows.{no_row, row_text, AllLines, NoLines}
 use Rattle.conditions.specs.Conditions.{product, entry_well, row_wells, pair_well, all_well, Primes}
 use Rattle.presentation.specs.Outcome.{Held, ReadText, Concluded}
 use Rattle.conditions.proofs.Primes.{not-prime-small}
 use Rattle.conditions.proofs.Conditions.{product-order}
+
+-- what has the number of a refusal holds nothing
+unheld : {k : ℕ} {r : Result ReadPresentation Refusal} → answer r ≡ suc k → (p : ReadPresentation) → r ≡ Ok p → ⊥
+unheld e p q = omega (arith, e, answer-ok q)
 
 -- ---- Texts that are not in the form
 
@@ -82,12 +91,12 @@ module _ {t : Bytes} {n next : ℕ} (nm : NamesLine t n next) {rows : List (List
   unfolding some_not_prime presentation row_of
   all-prime q = ap not (all_below-intro n (λ j. is_prime (get_or al.lines (pair_number j j) no_row).p) (al.prime q))
 
-  pub not-prime : flag ≡ false → {o : Outcome} → o.status ≡ 12 → ReadText t o rows
+  pub not-prime : flag ≡ false → ReadText t (Err NotPrime)
   unfolding some_not_prime presentation row_of
-  not-prime q e =
+  not-prime q =
       let c = al.composite q in
       let w : some_not_prime relations_of ≡ true = ap not (all_below-fails n (λ j. is_prime (get_or al.lines (pair_number j j) no_row).p) c.0 c.1 c.2) in
-      record { answered = inr (in-form, inl ((relations_of, says-them, w), e)); held = λ z. absurd (omega arith) }
+      record { answered = inr (in-form, inl ((relations_of, says-them, w), refl)); held = λ p q. absurd (unheld refl p q) }
 
   pub primes-positive : flag ≡ true → n ≤ max_generators → (j : ℕ) → j < n → 0 < get_or ps (pair_number j j) 0
   primes-positive q few j l =
@@ -102,13 +111,13 @@ module _ {t : Bytes} {n next : ℕ} (nm : NamesLine t n next) {rows : List (List
 
   -- ---- More generators than the ceiling
 
-  pub too_many : flag ≡ true → max_generators < n → {o : Outcome} → o.status ≡ 13 → ReadText t o rows
+  pub too_many : flag ≡ true → max_generators < n → ReadText t (Err TooLarge)
   unfolding too_large
-  too_many q l e =
+  too_many q l =
       let w : too_large relations_of ≡ true = ap (λ (b : Bool). b || ltb max_order (order (presentation relations_of) n)) (lt-ltb max_generators n l) in
       record {
-        answered = inr (in-form, inr (unsaid some_not_prime says-them (all-prime q), inl ((relations_of, says-them, w), e)));
-        held = λ z. absurd (omega arith);
+        answered = inr (in-form, inr (unsaid some_not_prime says-them (all-prime q), inl ((relations_of, says-them, w), refl)));
+        held = λ p q. absurd (unheld refl p q);
       }
 
   -- ---- At most as many
@@ -161,12 +170,12 @@ module _ {t : Bytes} {n next : ℕ} (nm : NamesLine t n next) {rows : List (List
           rest = λ j i k a b c e. word-is j i b a k (omega arith) ∙ exponent-unused relations_of h j i k a b c e;
         }
 
-    held_by : misused relations_of ≡ false → (o : Outcome) → (o.n ≡ n) × (o.primes ≡ primes) → Held relations_of o rows
-    held_by h o k =
-        record { count = k.0; few = few; reads = subst (λ (xs : List ℕ). Reads (presentation relations_of) n xs rows) (sym k.1) (rows-read h) }
+    held_by : misused relations_of ≡ false → (p : ReadPresentation) → (p.n ≡ n) × (p.primes ≡ primes) × (p.rows ≡ rows) → Held relations_of p
+    held_by h p (count, is, are) =
+        record { count = count; few = few; reads = subst₂ (λ (xs : List ℕ) (ys : List (List ℕ)). Reads (presentation relations_of) n xs ys) (sym is) (sym are) (rows-read h) }
 
-  pub concluded : flag ≡ true → n ≤ max_generators → {o : Outcome} → Concluded n rows ps o → ReadText t o rows
-  concluded q few {o} h = pick (leb (product h.primes n) max_order) (all_well rows ps h.primes n) refl refl h.number
+  pub concluded : flag ≡ true → n ≤ max_generators → {r : Result ReadPresentation Refusal} → Concluded n rows ps r → ReadText t r
+  concluded q few {r} h = pick (leb (product h.primes n) max_order) (all_well rows ps h.primes n) refl refl h.number
     where
       not12 : ¬ says t (λ (R : Relations). some_not_prime R ≡ true)
       not12 = unsaid some_not_prime says-them (all-prime q)
@@ -179,51 +188,22 @@ module _ {t : Bytes} {n next : ℕ} (nm : NamesLine t n next) {rows : List (List
       not13 w = unsaid too_large says-them (large true w)
 
       pick : (a b : Bool) → leb (product h.primes n) max_order ≡ a → all_well rows ps h.primes n ≡ b
-          → o.status ≡ cond a (cond b 0 14) 13 → ReadText t o rows
+          → answer r ≡ cond a (cond b 0 14) 13 → ReadText t r
       pick false b x y e =
-          record { answered = inr (in-form, inr (not12, inl ((relations_of, says-them, large false x), e))); held = λ z. absurd (omega arith) }
+          record { answered = inr (in-form, inr (not12, inl ((relations_of, says-them, large false x), e))); held = λ p q. absurd (unheld e p q) }
       pick true false x y e =
           record {
             answered = inr (in-form, inr (not12, inr (not13 x, inl ((relations_of, says-them, misused-is few h.are ∙ ap not y), e))));
-            held = λ z. absurd (omega arith);
+            held = λ p q. absurd (unheld e p q);
           }
       pick true true x y e =
           let well : misused relations_of ≡ false = misused-is few h.are ∙ ap not y in
           record {
             answered = inr (in-form, inr (not12, inr (not13 x, inr (unsaid misused says-them well, e))));
-            held = λ z. (relations_of, says-them, held_by few h.are well o (h.kept z));
+            held = λ p z. (relations_of, says-them, held_by few h.are well p (h.kept p z));
           }
 
 -- ---- Answers
 
-pub refused-form : {t : Bytes} → ¬ InForm t → {o : Outcome} {rows : List (List ℕ)} → o.status ≡ 11 → ReadText t o rows
-refused-form h e = record { answered = inl (h, e); held = λ z. absurd (omega arith) }
-
--- ---- What was kept
-
-module _ {n : ℕ} {rows : List (List ℕ)} {ps primes : List ℕ} (are : Primes ps n primes) {o : Outcome} where
-  pub concluded-large : leb (product primes n) max_order ≡ false → o.status ≡ 13 → Concluded n rows ps o
-  concluded-large h e = record {
-    primes = primes;
-    are = are;
-    number = e ∙ sym (ap (λ (b : Bool). cond b (cond (all_well rows ps primes n) 0 14) 13) h);
-    kept = λ z. absurd (omega arith);
-  }
-
-  module _ (fits : leb (product primes n) max_order ≡ true) where
-    pub concluded-misused : all_well rows ps primes n ≡ false → o.status ≡ 14 → Concluded n rows ps o
-    concluded-misused h e = record {
-      primes = primes;
-      are = are;
-      number = e ∙ sym (ap₂ (λ (a b : Bool). cond a (cond b 0 14) 13) fits h);
-      kept = λ z. absurd (omega arith);
-    }
-
-    pub concluded-well : all_well rows ps primes n ≡ true → o.status ≡ 0
-        → (o.n ≡ n) × (o.primes ≡ primes) → Concluded n rows ps o
-    concluded-well h e k = record {
-      primes = primes;
-      are = are;
-      number = e ∙ sym (ap₂ (λ (a b : Bool). cond a (cond b 0 14) 13) fits h);
-      kept = λ z. k;
-    }
+pub refused-form : {t : Bytes} → ¬ InForm t → ReadText t (Err PresentationForm)
+refused-form h = record { answered = inl (h, refl); held = λ p q. absurd (unheld refl p q) }

@@ -2,8 +2,7 @@
 --
 --   task-of, judged-said     what judging a table asks, and its number for the relations
 --   checks-of         the judgement of words as a table of a sound presentation
---   check-refused     a text that is not accepted
---   check-judges      the number of the judgement, for a text that is
+--   check-judges      the number of the judgement, for an accepted text
 use mathlib.Core.Path.{◌≡◌, sym, ap, subst, ◌∙◌}
 use mathlib.Core.List.{List}
 use Prim.Native.Nat.{ℕ, ◌≤◌, ◌<◌}
@@ -12,7 +11,9 @@ use Rattle.definitions.specs.Text.{Bytes}
 use Rattle.definitions.specs.Presentation.{Relations, max_modulus, order, presentation}
 use Rattle.definitions.specs.Answers.{presentation_refusals, table_refusals, judgement, Check}
 use Rattle.definitions.proofs.Refusals.{first-refused, accept-unrefused, check-judged}
-use Rattle.presentation.specs.declared.Outcome.{Outcome}
+use Rattle.std.specs.Prelude.{Result, Ok, Err}
+use Rattle.results.specs.declared.Refusal.{Refusal}
+use Rattle.presentation.specs.declared.ReadPresentation.{ReadPresentation}
 use Rattle.conditions.specs.declared.size.Size.{Size}
 use Rattle.conditions.specs.Size.{Measured}
 use Rattle.group.proofs.Order.{order-positive}
@@ -23,8 +24,8 @@ use Rattle.acceptance.proofs.Answered.{reads_held, ranged, accepts}
 use Rattle.measurement.proofs.Sizes.{A, same, is-small, count_of, product_is, measurable, size-order}
 use Rattle.verdict.specs.Checked.{Checks}
 
-module _ {R : Relations} {o : Outcome} {rows : List (List ℕ)} (S : Confirmed R o rows) {s : Size} (M : Measured o.primes o.n s) where
-  pub task-of : Task (A S) o.n s.order rows o.primes
+module _ {R : Relations} {p : ReadPresentation} (S : Confirmed R p) {s : Size} (M : Measured p.primes p.n s) where
+  pub task-of : Task (A S) p.n s.order p.rows p.primes
   task-of =
       record {
         gens_are = count_of S;
@@ -33,27 +34,24 @@ module _ {R : Relations} {o : Outcome} {rows : List (List ℕ)} (S : Confirmed R
           subst (λ x. x ≤ max_modulus) (sym size-group) (is-small S).low,
         );
         ready = ranged S.passed;
-        reads = subst (λ Q. Reads Q o.n o.primes rows) (sym (same S)) (reads_held S.passed.held);
+        reads = subst (λ Q. Reads Q p.n p.primes p.rows) (sym (same S)) (reads_held S.passed.held);
         orders_fit = measurable S;
       }
     where
       size-group : s.order ≡ order (A S).C.P (A S).C.P.n
-      size-group = M.order_is ∙ product_is S o.n (omega arith) ∙ ap (λ Q. order Q o.n) (sym (same S)) ∙ ap (order (A S).C.P) (count_of S)
+      size-group = M.order_is ∙ product_is S p.n (omega arith) ∙ ap (λ Q. order Q p.n) (sym (same S)) ∙ ap (order (A S).C.P) (count_of S)
 
-  judged-said : {T : List ℕ} {a : ℕ} → Judged o.n s.order rows o.primes T a
+  judged-said : {T : List ℕ} {a : ℕ} → Judged p.n s.order p.rows p.primes T a
       → a ≡ judgement (presentation R) (order (presentation R) (presentation R).n) T
   unfolding presentation
   judged-said {T} J = J.is (A S) task-of ∙ ap (λ Q. judgement Q s.order T) (same S) ∙ ap (λ m. judgement (presentation R) m T) (size-order S M)
 
-pub checks-of : {o : Outcome} {rows : List (List ℕ)} {s : Size} {T : List ℕ} {a : ℕ} → Measured o.primes o.n s
-    → Judged o.n s.order rows o.primes T a → Checks o rows T a
+pub checks-of : {p : ReadPresentation} {s : Size} {T : List ℕ} {a : ℕ} → Measured p.primes p.n s
+    → Judged p.n s.order p.rows p.primes T a → Checks p T a
 checks-of M J = record { is = λ R S. judged-said S M J }
 
-module _ {t : Bytes} {o : Outcome} {rows : List (List ℕ)} (A : AcceptedText t o rows) (T : List ℕ) where
-  pub check-refused : ¬ (o.status ≡ 0) → Check t T o.status
-  check-refused h = first-refused (table_refusals t (λ P. order P P.n) T) o.status (presentation_refusals t) A.answered h
-
-  pub check-judges : o.status ≡ 0 → {a : ℕ} → Checks o rows T a → Check t T a
-  check-judges zero {a} J =
-      let (R, z, S) = A.sound zero in
-      (check-judged t (accept-unrefused t (accepts A zero)) R z (λ P. order P P.n) T a).1 (J.is R S)
+module _ {t : Bytes} {r : Result ReadPresentation Refusal} (A : AcceptedText t r) (T : List ℕ) {p : ReadPresentation} (is : r ≡ Ok p) where
+  pub check-judges : {a : ℕ} → Checks p T a → Check t T a
+  check-judges {a} J =
+      let (R, z, S) = A.sound p is in
+      (check-judged t (accept-unrefused t (accepts A is)) R z (λ P. order P P.n) T a).1 (J.is R S)
