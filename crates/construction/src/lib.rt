@@ -23,7 +23,8 @@ fn build_sound(p: &ReadPresentation, words: &mut [u32]) -> Result<usize, Refusal
     if words.len() < size.words {
         return Err(Refusal::Short);
     }
-    Ok(levels::build_levels(words, &p.rows, &p.primes, p.n as u32, size.order))
+    let lines = levels::build_levels(words, &p.rows, &p.primes, p.n as u32, size.order);
+    Ok(lines)
 }
 
 // Builds the table that a text asks for, and counts its lines; a refusal leaves the words as they were.

@@ -12,11 +12,10 @@ use lib.ListN.{length}
 use Rattle.definitions.specs.Text.{Bytes}
 use Rattle.definitions.specs.Presentation.{Relations, build_words, presentation}
 use Rattle.definitions.specs.Answers.{First, says, presentation_refusals, short, Measure, Build}
-use Rattle.definitions.proofs.Refusals.{first_rest, accept-unrefused, leaves-refused, leaves-finished}
+use Rattle.definitions.proofs.Refusals.{first_rest, accept-unrefused, leaves-finished}
 use Rattle.definitions.proofs.Rendering.{says-unique}
-use Rattle.std.specs.Prelude.{Result, Ok, Err}
+use Rattle.std.specs.Prelude.{Result, Ok}
 use Rattle.results.specs.declared.Refusal.{Refusal}
-use Rattle.results.specs.Numbers.{answer}
 use Rattle.presentation.specs.declared.ReadPresentation.{ReadPresentation}
 use Rattle.conditions.specs.declared.size.Size.{Size}
 use Rattle.conditions.specs.Size.{Measured}

@@ -4,7 +4,6 @@
 --   wide, product_is, measurable    n fits a word, products of its primes are orders, and can be measured
 --   size-order, size-words          what is measured is the order, and the words that a build wants
 use mathlib.Core.Path.{◌≡◌, sym, ap, subst, ◌∙◌}
-use mathlib.Core.List.{List}
 use Prim.Native.Nat.{ℕ, suc, ◌*◌, ◌≤◌}
 use native.Mathlib.Omega.{arith}
 use Rattle.definitions.specs.Lists.{sum}
