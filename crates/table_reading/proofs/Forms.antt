@@ -3,26 +3,26 @@
 --   word_none, word-other, word_some     word k at a position
 --   Forming, forming-none, forming-more, forming-fails, forming-end     whether words stand to the end
 --   Filling, filling-none, filling-length, filling-below, filling-known, filling-more, filling-end     storing them
---   CountedLines, counted_none, counted-more, counted-all     bytes 10 up to a position
---   enough-none, enough-some             room for the lines
+--   counted-newlines                     bytes 10, as the library counts them
 use mathlib.Core.Path.{◌≡◌, refl, sym, ap, ap₂, subst, ◌∙◌}
 use mathlib.Core.Logic.{by_cases}
-use mathlib.Core.Bool.{Bool, true, false, not, cond, false≢true}
+use mathlib.Core.Bool.{true, false, cond, false≢true}
 use mathlib.Core.List.{List, [], ◌∷◌, ◌++◌, append_assoc, append-nil, tail-eq_of_cons-eq}
-use Prim.Native.Nat.{ℕ, suc, ◌+◌, ◌*◌, ◌-◌, ◌/◌, ◌%◌, ◌<◌, ◌≤◌}
-use native.Mathlib.Numerals.{add-one}
+use Prim.Native.Nat.{ℕ, suc, ◌+◌, ◌%◌, ◌<◌, ◌≤◌}
 use native.Mathlib.Decide.{dec_lt}
 use native.Mathlib.Omega.{arith}
 use lib.ListN.{length, get_or, take, drop, set, length-append, length-take, length-drop, drop_of_length-le}
 use lib.Seq.{drop-cons, set_at, take-suc, take_all, append_snoc, length-take-le, get_or_at}
-use lib.Dec.{eqb, ltb, leb}
-use borrow.Author.Tests.{eqb-true, eqb-false, lt-ltb, le-ltb, le-leb, lt-leb}
+use lib.Dec.{eqb}
+use borrow.Author.Tests.{eqb-true, eqb-false}
 use Rattle.definitions.specs.Text.{Bytes, largest, decimal, small}
 use Rattle.definitions.specs.Presentation.{line_words}
 use Rattle.definitions.specs.Answers.{newlines, over}
 use Rattle.definitions.proofs.Rendering.{decimal_nonempty}
 use Rattle.text.specs.Reading.{Ends, ValueAt, NoValue}
-use Rattle.text.specs.declared.Read.TheVariants.{Value, Nothing}
+use Rattle.std.specs.Prelude.{Some, None, ◌==◌}
+use Rattle.std.specs.List.{count_by}
+use Rattle.std.proofs.lemmas.List.Sums.{sum_by-cons}
 use Rattle.text.proofs.Reading.{drop-front, drop-byte, read_known, value-unique}
 use Rattle.text.proofs.Trail.{small-nil, small_at}
 use Rattle.text.proofs.Trail as trail
@@ -36,29 +36,28 @@ ends-separator : (k : ℕ) (r : Bytes) → Ends (separator_of k ∷ r)
 ends-separator k r d = omega (arith, (separator-within k).1, d.0)
 
 module _ {t : Bytes} {at : ℕ} (k : ℕ) where
-  refused : NoTableWord t at k → TableWordAt t at k Nothing
+  refused : NoTableWord t at k → TableWordAt t at k None
   refused h = record { stands = λ v n q. let z : ◌≡◌ {A = ℕ} 0 1 = cc in absurd (omega arith); fails = λ q. h }
 
-  pub word_none : NoValue [] t at → TableWordAt t at k Nothing
+  pub word_none : NoValue [] t at → TableWordAt t at k None
   word_none h = refused (record { none = λ v r l q. h.none v (separator_of k ∷ r) l (ends-separator k r) q })
 
   module _ {v next : ℕ} (h : ValueAt [] t at v next) where
-    pub word-other : (get_or t next 0 ≡ separator_of k → ⊥) → TableWordAt t at k Nothing
+    pub word-other : (get_or t next 0 ≡ separator_of k → ⊥) → TableWordAt t at k None
     word-other n = refused (record {
       none = λ w r l q. n (sym (drop-front t next) ∙ ap (λ (zs : Bytes). get_or zs 0 0) (read_known h w (separator_of k ∷ r) (ends-separator k r) q).1);
     })
 
-    pub word_some : get_or t next 0 ≡ separator_of k → next < length t → TableWordAt t at k (Value v (next + 1))
+    pub word_some : get_or t next 0 ≡ separator_of k → next < length t → TableWordAt t at k (Some (v, next + 1))
     word_some q b = record {
-      stands = λ w n e.
-          let x : v ≡ w = cc in
-          let y : next + 1 ≡ n = cc in
-          subst (λ (m : ℕ). TableWordLine t at k w m) y (subst (λ (m : ℕ). TableWordLine t at k m (next + 1)) x (record {
+      stands = λ w n z.
+          let e : ◌≡◌ {A = ℕ × ℕ} (v, next + 1) (w, n) = cc in
+          subst (λ (p : ℕ × ℕ). TableWordLine t at k p.0 p.1) e (record {
             text = h.text ∙ ap (λ (zs : Bytes). decimal v ++ zs) (drop-byte t next (separator_of k) q (separator-within k).0);
             small_one = h.small;
             further = omega (arith, h.further);
             within = omega arith;
-          }));
+          });
       fails = λ e. let z : ◌≡◌ {A = ℕ} 0 1 = cc in absurd (omega arith);
     }
 
@@ -211,34 +210,6 @@ module _ {t : Bytes} {start : ℕ} {before : List ℕ} where
 
 -- ---- Bytes 10
 
-pub record CountedLines (t : Bytes) (i n : ℕ) : Type 0 where
-  pub total : n + newlines (drop i t) ≡ newlines t
-  pub few : n ≤ i
-  pub within : i ≤ length t
-
-module _ {t : Bytes} where
-  pub counted_none : CountedLines t 0 0
-  counted_none = record { total = omega arith; few = omega arith; within = omega arith }
-
-  pub counted-more : {i n x : ℕ} → CountedLines t i n → i < length t → x ≡ cond (eqb (get_or t i 0) 10) 1 0 → CountedLines t (i + 1) (n + x)
-  counted-more {i} {n} {x} h l q =
-      let e : newlines (drop i t) ≡ x + newlines (drop (i + 1) t) =
-      ap newlines (drop-cons t i 0 l) ∙ newlines-cons (get_or t i 0) (drop (suc i) t) ∙ ap₂ (λ (a b : ℕ). a + newlines (drop b t)) (sym q) (sym (add-one i)) in
-      record { total = omega (arith, h.total); few = omega (arith, h.few, at_most (eqb (get_or t i 0) 10) q); within = omega arith }
-    where
-      at_most : (b : Bool) → x ≡ cond b 1 0 → x ≤ 1
-      at_most true w = omega arith
-      at_most false w = omega arith
-
-  pub counted-all : {i n : ℕ} → CountedLines t i n → length t ≤ i → n ≡ newlines t
-  counted-all {i} {n} h l = omega (arith, h.total, ap newlines (drop_of_length-le t {i = i} l), newlines-nil)
-
--- ---- Room
-
-pub enough-none : (have lines : ℕ) → lines ≡ 0 → true ≡ not (ltb have (8 * (lines - 1)))
-enough-none have lines q = sym (ap not (le-ltb have (8 * (lines - 1)) (omega arith)))
-
-pub enough-some : (have lines : ℕ) → 0 < lines → leb (lines - 1) (have / 8) ≡ not (ltb have (8 * (lines - 1)))
-enough-some have lines l = by_cases (dec_lt have (8 * (lines - 1)))
-    (λ m. lt-leb (lines - 1) (have / 8) (omega arith) ∙ sym (ap not (lt-ltb have (8 * (lines - 1)) m)))
-    (λ m. le-leb (lines - 1) (have / 8) (omega arith) ∙ sym (ap not (le-ltb have (8 * (lines - 1)) (omega arith))))
+pub counted-newlines : (t : Bytes) → count_by (λ b. b == 10) t ≡ newlines t
+counted-newlines [] = sym newlines-nil
+counted-newlines (b ∷ t) = sum_by-cons (λ x. cond (x == 10) 1 0) b t ∙ ap (λ n. cond (eqb b 10) 1 0 + n) (counted-newlines t) ∙ sym (newlines-cons b t)

@@ -3,12 +3,10 @@
 --   TableWordLine, NoTableWord, TableWordAt     word k at a position
 --   FormLine, FormAt        whole lines to the end of the text
 --   Room, Filled            words that find room, and that were stored
-use Rattle.std.specs.Prelude.{◌≡◌, Bool, true, false, List, ◌∷◌, ◌++◌, ℕ, ◌%◌, ◌<◌, ◌≤◌, length, drop}
+use Rattle.std.specs.Prelude.{◌≡◌, Bool, true, false, List, ◌∷◌, ◌++◌, ℕ, ◌%◌, ◌<◌, ◌≤◌, length, drop, Option, Some, None}
 use Rattle.definitions.specs.Text.{Bytes, largest, decimal, small}
 use Rattle.definitions.specs.Presentation.{line_words}
 use Rattle.definitions.specs.Answers.{over}
-use Rattle.text.specs.declared.Read.{Read}
-use Rattle.text.specs.declared.Read.TheVariants.{Value, Nothing}
 use Rattle.table_text.specs.Pieces.{separator_of, pieces}
 
 module _ (t : Bytes) (at k : ℕ) where
@@ -21,9 +19,9 @@ module _ (t : Bytes) (at k : ℕ) where
   pub record NoTableWord : Type 0 where
     pub none : (v : ℕ) (r : Bytes) → v ≤ largest → drop at t ≡ decimal v ++ separator_of k ∷ r → ⊥
 
-  pub record TableWordAt (a : Read) : Type 0 where
-    pub stands : (v next : ℕ) → a ≡ Value v next → TableWordLine v next
-    pub fails : a ≡ Nothing → NoTableWord
+  pub record TableWordAt (a : Option (ℕ × ℕ)) : Type 0 where
+    pub stands : (v next : ℕ) → a ≡ Some (v, next) → TableWordLine v next
+    pub fails : a ≡ None → NoTableWord
 
 -- words of whole lines, with at most nine digits, to the end of a text
 pub record FormLine (t : Bytes) (start : ℕ) (T : List ℕ) : Type 0 where

@@ -1,6 +1,6 @@
 // Table text read into the caller's words: refusals 16 and 20.
 //
-//   count_newlines, is_newline     how many bytes 10 a text has
+//   count_newlines  how many bytes 10 a text has
 //   enough          whether so many words are room for so many lines
 //   next_word       the word at a position, and its separator
 //   in_form         whether lines of words stand to the end of a text
@@ -8,59 +8,40 @@
 //   read_table      the call
 #![tactic(auto)]
 
-ghost use Rattle.std.specs.Prelude.{◌≡◌, not, cond, ◌*◌, ◌-◌, ◌<◌, ◌≤◌, length, ltb, eqb};
+ghost use Rattle.std.specs.Prelude.{◌≡◌, not, ◌*◌, ◌-◌, ◌≤◌, length, ltb};
 ghost use Rattle.definitions.specs.Answers.{newlines, ReadTable};
+ghost use Rattle.results.specs.Numbers.{answer, counted};
 ghost use Rattle.table_reading.specs.Forms.{TableWordAt, FormAt, Room, Filled};
 
-use table_text::{Answer, LINE, NAMES, separator};
-use text::Read;
+use results::Refusal;
+use table_text::{LINE, NAMES, separator};
 
 // How many bytes 10 a text has.
 fn count_newlines(text: &[u8]) -> usize
     ensures { result ≡ newlines text.now }
 {
-    let mut n: usize = 0;
-    let mut i: usize = 0;
-    while i < text.len() {
-        n += is_newline(text[i]);
-        i += 1;
-    }
-    n
-}
-
-fn is_newline(b: u8) -> usize
-    ensures { result ≡ cond (eqb b 10) 1 0 }
-{
-    if b == 10 {
-        return 1;
-    }
-    0
+    text.iter().filter(|b| **b == b'\n').count()
 }
 
 // Whether so many words are room for every line but the first.
 fn enough(have: usize, lines: usize) -> bool
     ensures { result ≡ not (ltb have (8 * (lines - 1))) }
 {
-    if lines == 0 {
-        return true;
-    }
-    lines - 1 <= have / LINE
+    lines.saturating_sub(1) <= have / LINE
 }
 
-// Word k at a position, with its separator.
-fn next_word(text: &[u8], at: usize, k: usize) -> Read
+// Word k at a position, and the position behind its separator.
+fn next_word(text: &[u8], at: usize, k: usize) -> Option<(u32, usize)>
     ensures { TableWordAt text.now at k result }
 {
-    let Read::Value(v, next) = text::value(text, at) else {
-        return Read::Nothing;
-    };
+    let (v, next) = text::value(text, at)?;
     if text::byte_at(text, next) != separator(k) {
-        return Read::Nothing;
+        return None;
     }
-    Read::Value(v, next + 1)
+    Some((v, next + 1))
 }
 
-// Whether whole lines of words stand from a position to the end of a text.
+// Whether whole lines of words stand from a position to the end of a text. The loop goes on by what it reads.
 fn in_form(text: &[u8], start: usize) -> bool
     requires { start ≤ length text.now }
     ensures { FormAt text.now start result }
@@ -68,7 +49,7 @@ fn in_form(text: &[u8], start: usize) -> bool
     let mut at = start;
     let mut k: usize = 0;
     while at < text.len() {
-        let Read::Value(_, next) = next_word(text, at, k) else {
+        let Some((_, next)) = next_word(text, at, k) else {
             return false;
         };
         at = next;
@@ -85,7 +66,7 @@ fn fill(text: &[u8], start: usize, words: &mut [u32]) -> usize
     let mut at = start;
     let mut k: usize = 0;
     while at < text.len() {
-        let Read::Value(v, next) = next_word(text, at, k) else {
+        let Some((v, next)) = next_word(text, at, k) else {
             return k;
         };
         words[k] = v;
@@ -95,32 +76,19 @@ fn fill(text: &[u8], start: usize, words: &mut [u32]) -> usize
     k
 }
 
-// Reads table text into the caller's words.
-pub fn read_table(text: &[u8], words: &mut [u32]) -> Answer
-    ensures { ReadTable text.now words.old result.status result.count words.new }
+// Reads table text into the caller's words, and counts its lines; a refusal leaves the words as they were.
+pub fn read_table(text: &[u8], words: &mut [u32]) -> Result<usize, Refusal>
+    ensures { ReadTable text.now words.old (answer result) (counted result) words.new }
 {
-    let have = words.len();
-    if !enough(have, count_newlines(text)) {
-        return Answer {
-            status: 16,
-            count: 0,
-        };
+    if !enough(words.len(), count_newlines(text)) {
+        return Err(Refusal::Short);
     }
     if !text::starts(text, 0, b"level rep deg gen ref col row exp\n") {
-        return Answer {
-            status: 20,
-            count: 0,
-        };
+        return Err(Refusal::TableForm);
     }
     if !in_form(text, NAMES) {
-        return Answer {
-            status: 20,
-            count: 0,
-        };
+        return Err(Refusal::TableForm);
     }
     let k = fill(text, NAMES, words);
-    Answer {
-        status: 0,
-        count: k / LINE,
-    }
+    Ok(k / LINE)
 }

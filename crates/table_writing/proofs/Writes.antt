@@ -1,11 +1,11 @@
 -- Laws of writing table text word by word.
 --
 --   pieces-turn, pieces-front, turn-length, turn-room     the first k words, and one more
---   small-none, small-more, small_all, small-fails     every word has at most nine digits
+--   small_is                every word has at most nine digits, as the library tests it
 --   MeasuredText, measured-none, measured-more, measured-over, measured-all     the length of the text
 --   WrittenTo, written_none, written-room, written-more, written_all     the words written
-use mathlib.Core.Path.{◌≡◌, refl, sym, ap, ◌∙◌}
-use mathlib.Core.Bool.{Bool, true, false}
+use mathlib.Core.Path.{◌≡◌, sym, ap, ◌∙◌}
+use mathlib.Core.Bool.{Bool, false}
 use mathlib.Core.List.{List, [], ◌∷◌, ◌++◌, append_assoc}
 use Prim.Native.Nat.{ℕ, ◌+◌, ◌<◌, ◌≤◌}
 use native.Mathlib.Numerals.{add-one}
@@ -13,12 +13,14 @@ use native.Mathlib.Omega.{arith}
 use lib.ListN.{length, get_or, take, drop, length-append, take-append-drop}
 use lib.Seq.{take-suc, take_all, length-take-le}
 use lib.Dec.{leb}
-use borrow.Author.Tests.{lt-leb}
+use borrow.Author.Tests.{lt-leb, le-leb}
+use Rattle.std.specs.Prelude.{◌↔◌, IsTrue, EachIndex, slice_index}
+use Rattle.numbers.proofs.Bools.{same_test}
+use Rattle.numbers.proofs.Lists.{all-intro}
 use Rattle.definitions.specs.Text.{largest, decimal, small}
 use Rattle.text.specs.Writing.{Wrote}
 use Rattle.text.proofs.Writing.{wrote_none, wrote-more, wrote_as, wrote-length}
-use Rattle.text.proofs.Trail.{small-nil, small_at}
-use Rattle.text.proofs.Trail as trail
+use Rattle.text.proofs.Trail.{small_at}
 use Rattle.table_text.specs.Pieces.{separator_of, pieces}
 use Rattle.table_text.proofs.Pieces.{pieces-nil, pieces-one, pieces-append}
 
@@ -46,23 +48,9 @@ turn-room T k l = omega (arith, turn-length T k l, pieces-front T (k + 1))
 
 -- ---- Words of at most nine digits
 
-pub small-none : (T : List ℕ) → small (take 0 T) ≡ true
-small-none T = small-nil
-
-pub small-more : (T : List ℕ) (k : ℕ) → k < length T → small (take k T) ≡ true → get_or T k 0 ≤ 999999999 → small (take (k + 1) T) ≡ true
-unfolding largest
-small-more T k l h b = ap (λ (m : ℕ). small (take m T)) (add-one k) ∙ ap small (take-suc T k 0 l) ∙ trail.small_one (take k T) (get_or T k 0) h b
-
-pub small_all : (T : List ℕ) (k : ℕ) → length T ≤ k → small (take k T) ≡ true → true ≡ small T
-small_all T k l h = sym (ap small (sym (take_all k T l)) ∙ h)
-
-pub small-fails : (T : List ℕ) (k : ℕ) → k < length T → 999999999 < get_or T k 0 → false ≡ small T
-unfolding largest
-small-fails T k l b = pick (small T) refl
-  where
-    pick : (s : Bool) → small T ≡ s → false ≡ s
-    pick true q = absurd (omega (arith, small_at T k l q))
-    pick false q = refl
+pub small_is : (T : List ℕ) {r : Bool} → IsTrue r ↔ EachIndex T (λ k. slice_index T k ≤ 999999999) → r ≡ small T
+unfolding largest small
+small_is T h = same_test _ _ (λ e. all-intro (λ x. leb x largest) T 0 (λ k l. le-leb (get_or T k 0) largest (h.0 e k l))) (λ e. h.1 (λ k l. small_at T k l e))
 
 -- ---- The length of the text
 
@@ -75,7 +63,7 @@ module _ {T : List ℕ} {first : ℕ} where
   measured-none = record { is = omega (arith, ap length (pieces-nil 0)); few = omega arith }
 
   module _ {k total : ℕ} (h : MeasuredText T first k total) where
-    pub measured-more : {w : ℕ} → k < length T → w ≡ length (decimal (get_or T k 0)) → MeasuredText T first (k + 1) (total + w + 1)
+    pub measured-more : {w : ℕ} → k < length T → w ≡ length (decimal (get_or T k 0)) → MeasuredText T first (k + 1) (total + (w + 1))
     measured-more l q = record { is = omega (arith, h.is, turn-length T k l); few = omega arith }
 
     pub measured-over : (have : ℕ) → have < total → false ≡ leb (first + length (pieces 0 T)) have

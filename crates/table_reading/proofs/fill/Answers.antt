@@ -25,11 +25,11 @@ overflow_add-k c = let h = c.loop-at.invariant in
     omega (arith, filling-below h (omega arith), h.room)
 
 pub loop-at-smaller : goal.loop-at-smaller
-loop-at-smaller c = let w = c.next_word.ensures.stands _ _ c.in-Value.is in
+loop-at-smaller c = let w = c.next_word.ensures.stands _ _ c.in-Some.is in
     omega (arith, w.further, w.within)
 
 pub loop-at-preserved : goal.loop-at-preserved
-loop-at-preserved c = filling-more c.loop-at.invariant (omega arith) (c.next_word.ensures.stands _ _ c.in-Value.is)
+loop-at-preserved c = filling-more c.loop-at.invariant (omega arith) (c.next_word.ensures.stands _ _ c.in-Some.is)
 
 pub shape_of-words : goal.shape_of-words
 shape_of-words c = filling-length c.loop-at.invariant

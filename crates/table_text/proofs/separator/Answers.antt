@@ -6,5 +6,5 @@ use Rattle.table_text.proofs.separator.Goals as goal
 pub returns-then-k-eq7 : goal.returns-then-k-eq7
 returns-then-k-eq7 c = sym (separator-last c.args.k c.if-k-eq7.true)
 
-pub returns : goal.returns
-returns c = sym (separator-inner c.args.k c.if-k-eq7.false)
+pub returns-else-k-eq7 : goal.returns-else-k-eq7
+returns-else-k-eq7 c = sym (separator-inner c.args.k c.if-k-eq7.false)

@@ -1,11 +1,6 @@
 -- The words are written one by one.
-use Prim.Native.Nat.{◌-◌}
-use lib.ListN.{length}
 use Rattle.table_writing.proofs.Writes.{WrittenTo}
 use Rattle.table_writing.proofs.put_words.Given as goal
 
 abbrev pub invariant-loop-k : goal.invariant-loop-k
 invariant-loop-k l = WrittenTo l.words l.initial.out l.at l.k l.out l.next
-
-abbrev pub decreases-loop-k : goal.decreases-loop-k
-decreases-loop-k l = length l.words - l.k
