@@ -1,13 +1,13 @@
-// Whether a presentation text is accepted: the first of the refusals 11 to 15, or 0.
+// Whether a presentation text is accepted, or the first of the refusals 11 to 15.
 ghost use Rattle.definitions.specs.Answers.{Accept};
+ghost use Rattle.results.specs.Numbers.{answer};
 
-use rows::{GENERATORS, PAIRS};
+use results::Refusal;
 
-// The number that a presentation text is refused with, or 0.
-pub fn accept(text: &[u8]) -> u32
-    ensures { Accept text.now result }
+// What a presentation text is refused with, if it is.
+pub fn accept(text: &[u8]) -> Result<(), Refusal>
+    ensures { Accept text.now (answer result) }
 {
-    let mut rows = [[0u32; GENERATORS]; PAIRS];
-    let o = acceptance::accepted(text, &mut rows);
-    o.status
+    acceptance::accepted(text)?;
+    Ok(())
 }

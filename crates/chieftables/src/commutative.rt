@@ -1,16 +1,12 @@
-// Whether the group of a presentation text is commutative: 11 to 15, or 0 and a yes or no. No table is built.
+// Whether the group of a presentation text is commutative: 11 to 15, or a yes or no. No table is built.
 ghost use Rattle.definitions.specs.Answers.{Commutative};
+ghost use Rattle.results.specs.Numbers.{answer, yes};
 
-use crate::yes_or_no::Verdict;
+use results::Refusal;
 
-// The number that a presentation text is refused with and 0, or 0 and whether every representation of the top level of its
-// table has degree 1.
-pub fn commutative(text: &[u8]) -> Verdict
-    ensures { Commutative text.now result.answer result.yes }
+// Whether every representation of the top level of the table of a presentation text has degree 1, or its refusal.
+pub fn commutative(text: &[u8]) -> Result<bool, Refusal>
+    ensures { Commutative text.now (answer result) (yes result) }
 {
-    let a = commutativity::commutative(text);
-    Verdict {
-        answer: a.answer,
-        yes: a.yes,
-    }
+    commutativity::commutative(text)
 }

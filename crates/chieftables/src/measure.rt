@@ -1,15 +1,12 @@
-// How large a build of a presentation text is: 11 to 15, or 0 and the words that it wants.
+// How large a build of a presentation text is: 11 to 15, or the words that it wants.
 ghost use Rattle.definitions.specs.Answers.{Measure};
+ghost use Rattle.results.specs.Numbers.{answer, counted};
 
-use crate::counted::Counted;
+use results::Refusal;
 
-// The number that a presentation text is refused with and 0, or 0 and the words that a build of it wants.
-pub fn measure(text: &[u8]) -> Counted
-    ensures { Measure text.now result.answer result.count }
+// The words that a build of a presentation text wants, or its refusal.
+pub fn measure(text: &[u8]) -> Result<usize, Refusal>
+    ensures { Measure text.now (answer result) (counted result) }
 {
-    let a = measurement::measure(text);
-    Counted {
-        answer: a.answer,
-        count: a.words,
-    }
+    measurement::measure(text)
 }

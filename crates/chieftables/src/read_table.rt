@@ -1,15 +1,12 @@
-// Table text read into the caller's words: 16, 20, or 0 and the count of lines.
+// Table text read into the caller's words: 16, 20, or the count of lines.
 ghost use Rattle.definitions.specs.Answers.{ReadTable};
+ghost use Rattle.results.specs.Numbers.{answer, counted};
 
-use crate::counted::Counted;
+use results::Refusal;
 
-// Reads table text into the caller's words; a refusal leaves them as they were.
-pub fn read_table(text: &[u8], words: &mut [u32]) -> Counted
-    ensures { ReadTable text.now words.old result.answer result.count words.new }
+// Reads table text into the caller's words, and counts its lines; a refusal leaves the words as they were.
+pub fn read_table(text: &[u8], words: &mut [u32]) -> Result<usize, Refusal>
+    ensures { ReadTable text.now words.old (answer result) (counted result) words.new }
 {
-    let a = table_reading::read_table(text, words);
-    Counted {
-        answer: a.status,
-        count: a.count,
-    }
+    table_reading::read_table(text, words)
 }

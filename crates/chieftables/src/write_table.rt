@@ -1,15 +1,12 @@
-// The caller's words written as table text into the caller's bytes: 21, 16, or 0 and the count of bytes.
+// The caller's words written as table text into the caller's bytes: 21, 16, or the count of bytes.
 ghost use Rattle.definitions.specs.Answers.{WriteTable};
+ghost use Rattle.results.specs.Numbers.{answer, counted};
 
-use crate::counted::Counted;
+use results::Refusal;
 
-// Writes words as table text into the caller's bytes; a refusal leaves them as they were.
-pub fn write_table(words: &[u32], out: &mut [u8]) -> Counted
-    ensures { WriteTable words.now out.old result.answer result.count out.new }
+// Writes words as table text into the caller's bytes, and counts these; a refusal leaves the bytes as they were.
+pub fn write_table(words: &[u32], out: &mut [u8]) -> Result<usize, Refusal>
+    ensures { WriteTable words.now out.old (answer result) (counted result) out.new }
 {
-    let a = table_writing::write_table(words, out);
-    Counted {
-        answer: a.status,
-        count: a.count,
-    }
+    table_writing::write_table(words, out)
 }

@@ -1,22 +1,84 @@
-// The public calls, exported for C and Rust as a static library. Each is the call of the same name in `chieftables`.
+// The public calls, exported for C and Rust as a static library. Each is the call of the same name in `chieftables`, whose result is
+// handed back as a number, or as a number with a count or a yes or no.
 //
+//   Counted, Verdict                                                      an answer and a count; an answer and a yes or no
 //   chieftables_accept, chieftables_measure, chieftables_commutative      a presentation text
 //   chieftables_build, chieftables_check                                  its table
 //   chieftables_read_table, chieftables_write_table                       table text
 #![tactic(auto)]
 
-ghost use Rattle.definitions.specs.Answers.{Accept, Measure, Commutative, Build, ReadTable, WriteTable, Check};
+ghost use Rattle.std.specs.Prelude.{◌≡◌};
+ghost use Rattle.definitions.specs.Answers.{Accept, Measure, Commutative, Build, Check, ReadTable, WriteTable};
+ghost use Rattle.results.specs.Numbers.{answer, counted, yes};
 
-use chieftables::counted::Counted;
-use chieftables::yes_or_no::Verdict;
 use chieftables::{accept, build, check, commutative, measure, read_table, write_table};
+use results::Refusal;
+
+// The number of a refusal and 0, or 0 and the count of words, lines or bytes: a struct of C, which has no results.
+#[repr(C)]
+#[derive(Clone, Copy)]
+pub struct Counted {
+    pub answer: u32,
+    pub count: usize,
+}
+
+// The number of a refusal and 0, or 0 and 1 for yes, 0 for no: a struct of C.
+#[repr(C)]
+#[derive(Clone, Copy)]
+pub struct Verdict {
+    pub answer: u32,
+    pub yes: u32,
+}
+
+// The number of a result.
+fn numbered(r: Result<(), Refusal>) -> u32
+    ensures { result ≡ answer r }
+{
+    match r {
+        Ok(()) => 0,
+        Err(e) => e.number(),
+    }
+}
+
+// The number of a result, and what it counts.
+impl From<Result<usize, Refusal>> for Counted {
+    ghost from_gives = { λ r c. (c.answer ≡ answer r) × (c.count ≡ counted r) };
+
+    fn from(r: Result<usize, Refusal>) -> Counted {
+        match r {
+            Ok(count) => Counted { answer: 0, count },
+            Err(e) => Counted {
+                answer: e.number(),
+                count: 0,
+            },
+        }
+    }
+}
+
+// The number of a result, and its yes or no.
+impl From<Result<bool, Refusal>> for Verdict {
+    ghost from_gives = { λ r v. (v.answer ≡ answer r) × (v.yes ≡ yes r) };
+
+    fn from(r: Result<bool, Refusal>) -> Verdict {
+        match r {
+            Ok(yes) => Verdict {
+                answer: 0,
+                yes: u32::from(yes),
+            },
+            Err(e) => Verdict {
+                answer: e.number(),
+                yes: 0,
+            },
+        }
+    }
+}
 
 // `accept`, for C and Rust.
 #[unsafe(no_mangle)]
 pub extern "C" fn chieftables_accept(text: &[u8]) -> u32
     ensures { Accept text.now result }
 {
-    accept::accept(text)
+    numbered(accept::accept(text))
 }
 
 // `measure`, for C and Rust.
@@ -24,7 +86,7 @@ pub extern "C" fn chieftables_accept(text: &[u8]) -> u32
 pub extern "C" fn chieftables_measure(text: &[u8]) -> Counted
     ensures { Measure text.now result.answer result.count }
 {
-    measure::measure(text)
+    Counted::from(measure::measure(text))
 }
 
 // `commutative`, for C and Rust.
@@ -32,7 +94,7 @@ pub extern "C" fn chieftables_measure(text: &[u8]) -> Counted
 pub extern "C" fn chieftables_commutative(text: &[u8]) -> Verdict
     ensures { Commutative text.now result.answer result.yes }
 {
-    commutative::commutative(text)
+    Verdict::from(commutative::commutative(text))
 }
 
 // `build`, for C and Rust.
@@ -40,7 +102,7 @@ pub extern "C" fn chieftables_commutative(text: &[u8]) -> Verdict
 pub extern "C" fn chieftables_build(text: &[u8], words: &mut [u32]) -> Counted
     ensures { Build text.now words.old result.answer result.count words.new }
 {
-    build::build(text, words)
+    Counted::from(build::build(text, words))
 }
 
 // `read_table`, for C and Rust.
@@ -48,7 +110,7 @@ pub extern "C" fn chieftables_build(text: &[u8], words: &mut [u32]) -> Counted
 pub extern "C" fn chieftables_read_table(text: &[u8], words: &mut [u32]) -> Counted
     ensures { ReadTable text.now words.old result.answer result.count words.new }
 {
-    read_table::read_table(text, words)
+    Counted::from(read_table::read_table(text, words))
 }
 
 // `write_table`, for C and Rust.
@@ -56,7 +118,7 @@ pub extern "C" fn chieftables_read_table(text: &[u8], words: &mut [u32]) -> Coun
 pub extern "C" fn chieftables_write_table(words: &[u32], out: &mut [u8]) -> Counted
     ensures { WriteTable words.now out.old result.answer result.count out.new }
 {
-    write_table::write_table(words, out)
+    Counted::from(write_table::write_table(words, out))
 }
 
 // `check`, for C and Rust.
@@ -64,5 +126,5 @@ pub extern "C" fn chieftables_write_table(words: &[u32], out: &mut [u8]) -> Coun
 pub extern "C" fn chieftables_check(text: &[u8], words: &[u32]) -> u32
     ensures { Check text.now words.now result }
 {
-    check::check(text, words)
+    numbered(check::check(text, words))
 }

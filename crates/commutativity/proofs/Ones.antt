@@ -2,10 +2,8 @@
 --
 --   scan-tells               the scan tells what is read off the table
 --   commutative-told         an accepted text
-use mathlib.Core.Path.{◌≡◌, refl, sym, subst, ◌∙◌, ap}
-use mathlib.Core.Bool.{Bool, true, false, cond}
-use mathlib.Core.List.{List}
-use Prim.Native.Nat.{ℕ}
+use mathlib.Core.Path.{◌≡◌, sym, subst, ◌∙◌, ap}
+use mathlib.Core.Bool.{Bool, cond}
 use Rattle.definitions.specs.Text.{Bytes}
 use Rattle.definitions.specs.Presentation.{Relations, presentation}
 use Rattle.definitions.specs.Steps.{top_degrees_one}
@@ -14,7 +12,7 @@ use Rattle.definitions.proofs.Refusals.{leaves-finished}
 use Rattle.numbers.proofs.Bools.{same_test}
 use Rattle.group.specs.Models.{WordsEmpty}
 use Rattle.clifford.proofs.Commutative.{top-ones}
-use Rattle.std.specs.Prelude.{Result, Ok, Err}
+use Rattle.std.specs.Prelude.{Result, Ok}
 use Rattle.results.specs.declared.Refusal.{Refusal}
 use Rattle.presentation.specs.declared.ReadPresentation.{ReadPresentation}
 use Rattle.rows.specs.Rows.{Reads}

@@ -17,9 +17,9 @@ use Rattle.definitions.specs.Presentation.{Relations, line_words, order, build_w
 use Rattle.definitions.specs.Table.{line_count}
 use Rattle.definitions.specs.Steps.{table_of}
 use Rattle.definitions.specs.Answers.{says, presentation_refusals, short, over, Build}
-use Rattle.definitions.proofs.Refusals.{None, first-refused, first-behind, accept-unrefused, leaves-refused}
+use Rattle.definitions.proofs.Refusals.{None, first-behind, accept-unrefused}
 use Rattle.definitions.proofs.Rendering.{says-unique}
-use Rattle.std.specs.Prelude.{Result, Ok, Err}
+use Rattle.std.specs.Prelude.{Result, Ok}
 use Rattle.results.specs.declared.Refusal.{Refusal}
 use Rattle.presentation.specs.declared.ReadPresentation.{ReadPresentation}
 use Rattle.conditions.specs.declared.size.Size.{Size}

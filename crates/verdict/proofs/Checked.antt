@@ -9,9 +9,9 @@ use Prim.Native.Nat.{ℕ, ◌≤◌, ◌<◌}
 use native.Mathlib.Omega.{arith}
 use Rattle.definitions.specs.Text.{Bytes}
 use Rattle.definitions.specs.Presentation.{Relations, max_modulus, order, presentation}
-use Rattle.definitions.specs.Answers.{presentation_refusals, table_refusals, judgement, Check}
-use Rattle.definitions.proofs.Refusals.{first-refused, accept-unrefused, check-judged}
-use Rattle.std.specs.Prelude.{Result, Ok, Err}
+use Rattle.definitions.specs.Answers.{judgement, Check}
+use Rattle.definitions.proofs.Refusals.{accept-unrefused, check-judged}
+use Rattle.std.specs.Prelude.{Result, Ok}
 use Rattle.results.specs.declared.Refusal.{Refusal}
 use Rattle.presentation.specs.declared.ReadPresentation.{ReadPresentation}
 use Rattle.conditions.specs.declared.size.Size.{Size}
