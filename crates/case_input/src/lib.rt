@@ -2,7 +2,7 @@
 //
 //   find, behind               the first position of a byte; the position after one
 //   Case, case_at              where the text of a case begins and ends, and where the next case begins
-//   words_lent, bytes_lent     how much of a buffer is lent
+//   lent                       how much of a buffer is lent
 //   mix_words, mix_bytes       a sum over a whole buffer
 //   parse                      words in bytes
 #![tactic(auto)]
@@ -19,14 +19,12 @@ pub fn find(s: &[u8], start: usize, byte: u8) -> usize
     ensures value { result ≡ found s.now start byte }
     ensures lower_bound { (start ≤ result) × (result ≤ length s.now) }
 {
-    let mut at = start;
-    while at < s.len() {
+    for at in start..s.len() {
         if s[at] == byte {
             return at;
         }
-        at += 1;
     }
-    at
+    s.len()
 }
 
 // Returns the position after a position, or the end.
@@ -55,46 +53,25 @@ pub fn case_at(input: &[u8], at: usize) -> Case
     ensures case_at { CaseAt input.now at result }
     ensures at_lt_text { (at < result.text) × (result.text ≤ result.end) × (result.end ≤ result.next) × (result.next ≤ length input.now) }
 {
-    let line = find(input, at + 1, 10);
+    let line = find(input, at + 1, b'\n');
     let text = behind(input, line);
     let end = find(input, text, 12);
     let next = behind(input, end);
     Case { text, end, next }
 }
 
-// The number, or how many words there are if that is less.
-pub fn words_lent(a: u32, words: &[u32]) -> usize
-    ensures { Part a (length words.now) result }
+// The number, or how many elements a buffer has if that is less.
+pub fn lent<T>(a: u32, buffer: &[T]) -> usize
+    ensures { Part a (length buffer.now) result }
 {
-    let n = a as usize;
-    if n < words.len() {
-        return n;
-    }
-    words.len()
-}
-
-// The number, or how many bytes there are if that is less.
-pub fn bytes_lent(a: u32, bytes: &[u8]) -> usize
-    ensures { Part a (length bytes.now) result }
-{
-    let n = a as usize;
-    if n < bytes.len() {
-        return n;
-    }
-    bytes.len()
+    buffer.len().min(a as usize)
 }
 
 // A sum, with one more number.
 fn mix(sum: u32, more: u32) -> u32
     ensures { result ≡ mixed sum more }
 {
-    (((sum as u64) * 31 + (more as u64)) % 4294967291) as u32
-}
-
-fn up(b: u8) -> u32
-    ensures { result ≡ b }
-{
-    b as u32
+    ((u64::from(sum) * 31 + u64::from(more)) % 4294967291) as u32
 }
 
 // A sum over all of them.
@@ -102,23 +79,19 @@ pub fn mix_words(words: &[u32]) -> u32
     ensures { result ≡ mixed_to words.now (length words.now) }
 {
     let mut sum: u32 = 0;
-    let mut i: usize = 0;
-    while i < words.len() {
-        sum = mix(sum, words[i]);
-        i += 1;
+    for w in words {
+        sum = mix(sum, *w);
     }
     sum
 }
 
-// A sum over all of them.
+// The same of bytes: a sum over elements of any type would have to say which number each is.
 pub fn mix_bytes(bytes: &[u8]) -> u32
     ensures { result ≡ mixed_to bytes.now (length bytes.now) }
 {
     let mut sum: u32 = 0;
-    let mut i: usize = 0;
-    while i < bytes.len() {
-        sum = mix(sum, up(bytes[i]));
-        i += 1;
+    for b in bytes {
+        sum = mix(sum, u32::from(*b));
     }
     sum
 }
@@ -127,13 +100,13 @@ pub fn mix_bytes(bytes: &[u8]) -> u32
 fn grown(word: u32, digit: u8) -> u32
     ensures { result ≡ with_digit word digit }
 {
-    (((word as u64) * 10 + (digit as u64) % 16) % 4294967296) as u32
+    ((u64::from(word) * 10 + u64::from(digit) % 16) % 4294967296) as u32
 }
 
 fn is_digit(b: u8) -> bool
     ensures { result ≡ is_digit b }
 {
-    48 <= b && b <= 57
+    b.is_ascii_digit()
 }
 
 // The number of the word behind a byte: the next, if the byte ends word k.
@@ -141,13 +114,10 @@ fn word_behind(k: usize, b: u8) -> usize
     requires { k < 18446744073709551615 }
     ensures { result ≡ cond (ends b) (suc k) k }
 {
-    if b == 32 {
-        return k + 1;
+    match b {
+        b' ' | b'\n' => k + 1,
+        _ => k,
     }
-    if b == 10 {
-        return k + 1;
-    }
-    k
 }
 
 // Adds a digit to word k, if it is one and there is that word.
@@ -167,11 +137,8 @@ pub fn parse(s: &[u8], words: &mut [u32])
     ensures { words.new ≡ parsed s.now words.old }
 {
     let mut k: usize = 0;
-    let mut i: usize = 0;
-    while i < s.len() {
-        let b = s[i];
-        add_byte(words, k, b);
-        k = word_behind(k, b);
-        i += 1;
+    for b in s {
+        add_byte(words, k, *b);
+        k = word_behind(k, *b);
     }
 }

@@ -11,5 +11,5 @@ slice_bounds-build-end-2 c = sym (length-take-le _ _ (omega arith))
 
 pub returns : goal.returns
 returns c = let call = c.build in
-    let part = c.words_lent-n.ensures in
+    let part = c.lent-n.ensures in
     lent-first (Build c.args.text.now) part (call.auto.words ∙ length-take-le _ _ part.within) call.ensures

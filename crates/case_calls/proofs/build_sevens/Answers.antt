@@ -8,4 +8,4 @@ pub slice_bounds-build_first-end : goal.slice_bounds-build_first-end
 slice_bounds-build_first-end c = sym (length-replicate {0} {A = ℕ} 786240 7)
 
 pub slice_bounds-mix_words-end : goal.slice_bounds-mix_words-end
-slice_bounds-mix_words-end c = sym (c.build_first-a.auto.words ∙ length-replicate {0} {A = ℕ} 786240 7)
+slice_bounds-mix_words-end c = sym (c.build_first-made.auto.words ∙ length-replicate {0} {A = ℕ} 786240 7)

@@ -3,6 +3,7 @@ use mathlib.Core.Path.{sym}
 use native.Mathlib.Omega.{arith}
 use lib.Seq.{length-take-le}
 use Rattle.definitions.specs.Answers.{Check}
+use Rattle.results.specs.Numbers.{answer}
 use Rattle.case_calls.proofs.Lent.{part-words}
 use Rattle.case_calls.proofs.check_parsed.Goals as goal
 
@@ -11,4 +12,4 @@ slice_bounds-check-end c = sym (length-take-le _ _ (omega arith))
 
 pub returns : goal.returns
 returns c = let text = c.args.text.now in
-    part-words (λ T. Check text T c.check.result) c.words_lent-n.ensures c.parse.ensures c.check.ensures
+    part-words (λ T. Check text T (answer c.check.result)) c.lent-n.ensures c.parse.ensures c.check.ensures

@@ -11,5 +11,5 @@ slice_bounds-write_table-end-2 c = sym (length-take-le _ _ (omega arith))
 
 pub returns : goal.returns
 returns c = let call = c.write_table in
-    let part = c.bytes_lent-n.ensures in
+    let part = c.lent-n.ensures in
     lent-first (WriteTable c.args.words.now) part (call.auto.out ∙ length-take-le _ _ part.within) call.ensures

@@ -1,5 +1,6 @@
 -- `find`: what is found from the position on is what is found from the start on.
-use mathlib.Core.Path.{sym, ◌∙◌}
+use mathlib.Core.Path.{◌≡◌, sym, ◌∙◌}
+use lib.ListN.{length}
 use native.Mathlib.Omega.{arith}
 use Rattle.case_input.proofs.Cases.{found_here, found-on, found-end}
 use Rattle.case_input.proofs.find.Goals as goal
@@ -14,4 +15,5 @@ loop-at-preserved c = let l = c.loop-at in
 
 pub returns : goal.returns
 returns c = let l = c.loop-at in
-    record { value = sym (found-end _ l.at _ (omega arith)) ∙ l.invariant.2; lower_bound = (l.invariant.0, l.invariant.1) }
+    let e : l.at ≡ length c.args.s.now = omega (arith, l.invariant.1) in
+    record { value = sym e ∙ sym (found-end _ l.at _ e) ∙ l.invariant.2; lower_bound = (omega (arith, l.invariant), omega arith) }

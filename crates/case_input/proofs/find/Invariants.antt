@@ -7,6 +7,3 @@ use Rattle.case_input.proofs.find.Given as goal
 
 abbrev pub invariant-loop-at : goal.invariant-loop-at
 invariant-loop-at l = (l.start ≤ l.at) × (l.at ≤ length l.s) × (found l.s l.at l.byte ≡ found l.s l.start l.byte)
-
-abbrev pub decreases-loop-at : goal.decreases-loop-at
-decreases-loop-at l = length l.s - l.at

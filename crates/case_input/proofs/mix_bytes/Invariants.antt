@@ -5,8 +5,5 @@ use lib.ListN.{length}
 use Rattle.case_input.specs.Mixed.{mixed_to}
 use Rattle.case_input.proofs.mix_bytes.Given as goal
 
-abbrev pub invariant-loop-i : goal.invariant-loop-i
-invariant-loop-i l = (l.sum ≡ mixed_to l.bytes l.i) × (l.i ≤ length l.bytes)
-
-abbrev pub decreases-loop-i : goal.decreases-loop-i
-decreases-loop-i l = length l.bytes - l.i
+abbrev pub invariant-loop-b : goal.invariant-loop-b
+invariant-loop-b l = (l.sum ≡ mixed_to l.bytes l.b-index) × (l.b-index ≤ length l.bytes)
