@@ -15,7 +15,7 @@
 // fills a buffer its count and a sum over the whole buffer, what is not lent too; words and bytes are sevens before the call. Behind
 // a text that is written back stands whether it is the same. The line of the case comes last.
 //
-//   print, report, report_same      numbers and a word of the line
+//   print, report_count, report_same      numbers and a word of the line
 //   write, write_back               words written, and a text that is written back
 //   accept_case, measure_case, commutative_case, build_case, read_case, write_case, check_case     a case of each kind
 //   lent_call, call                 a case of any kind, first of those with a buffer
@@ -25,29 +25,34 @@
 ghost use Rattle.std.specs.Prelude.{◌≡◌, ◌<◌, ◌≤◌, length};
 ghost use Rattle.case_input.specs.Cases.{case_next};
 
+use results::Refusal;
+
+// Prints a number and a space. What is printed here is not answered for: a case that is answered cannot fail (`answer_at`), and
+// std's printing answers a result.
 fn print(number: u64) {
     io::print_decimal(1, number);
     io::write_all(1, b" ");
 }
 
-fn report(answer: u32, count: usize, sum: u32) {
-    print(answer as u64);
-    print(count as u64);
-    print(sum as u64);
+// The number of a refusal and 0, or 0 and a count.
+fn report_count(made: Result<usize, Refusal>) {
+    print(u64::from(results::answer(&made)));
+    print(made.unwrap_or(0) as u64);
 }
 
 fn report_same(same: bool) {
     if same {
         io::write_all(1, b"same ");
-        return;
+    } else {
+        io::write_all(1, b"other ");
     }
-    io::write_all(1, b"other ");
 }
 
 // Writes words into so many bytes, and tells whether these are the text.
 fn write(words: &[u32], room: u32, text: &[u8]) -> bool {
     let a = case_calls::write_sevens(words, room, text);
-    report(a.answer, a.count, a.sum);
+    report_count(a.made);
+    print(u64::from(a.sum));
     a.same
 }
 
@@ -59,70 +64,67 @@ fn write_back(words: &[u32], lines: usize, room: u32, text: &[u8]) {
 }
 
 fn accept_case(text: &[u8]) {
-    print(chieftables::accept::accept(text) as u64);
+    print(u64::from(results::answer(&chieftables::accept::accept(text))));
 }
 
 fn measure_case(text: &[u8]) {
-    let a = chieftables::measure::measure(text);
-    print(a.answer as u64);
-    print(a.count as u64);
+    report_count(chieftables::measure::measure(text));
 }
 
 fn commutative_case(text: &[u8]) {
-    let a = chieftables::commutative::commutative(text);
-    print(a.answer as u64);
-    print(a.yes as u64);
+    report_count(chieftables::commutative::commutative(text).map(usize::from));
 }
 
 fn build_case(text: &[u8], have: u32) {
     let a = case_calls::build_sevens(text, have);
-    report(a.answer, a.count, a.sum);
+    report_count(a.made);
+    print(u64::from(a.sum));
 }
 
 fn read_case(text: &[u8], have: u32, room: u32) {
     let mut words = [7u32; 512];
-    let a = case_calls::read_first(text, &mut words, have);
-    let answer = a.answer;
-    let count = a.count;
-    report(answer, count, case_input::mix_words(&words));
-    if answer == 0 {
-        write_back(&words, count, room, text);
+    let made = case_calls::read_first(text, &mut words, have);
+    report_count(made);
+    print(u64::from(case_input::mix_words(&words)));
+    if let Ok(lines) = made {
+        write_back(&words, lines, room, text);
     }
 }
 
 fn write_case(text: &[u8], have: u32, room: u32) {
     let mut words = [0u32; 512];
     case_input::parse(text, &mut words);
-    let n = case_input::words_lent(have, &words);
+    let n = case_input::lent(have, &words);
     write(&words[..n], room, text);
 }
 
 fn check_case(text: &[u8], have: u32) {
     let end = case_input::find(text, 0, 11);
     let start = case_input::behind(text, end);
-    print(case_calls::check_parsed(&text[..end], &text[start..], have) as u64);
+    let checked = case_calls::check_parsed(&text[..end], &text[start..], have);
+    print(u64::from(results::answer(&checked)));
 }
 
 // The call with a buffer that the kind of a case names.
 fn lent_call(line: &[u8], text: &[u8], have: u32, room: u32) {
-    if text::starts(line, 0, b"build ") {
+    if line.starts_with(b"build ") {
         build_case(text, have);
-    } else if text::starts(line, 0, b"read ") {
+    } else if line.starts_with(b"read ") {
         read_case(text, have, room);
-    } else if text::starts(line, 0, b"write ") {
+    } else if line.starts_with(b"write ") {
         write_case(text, have, room);
-    } else if text::starts(line, 0, b"check ") {
+    } else if line.starts_with(b"check ") {
         check_case(text, have);
     }
 }
 
 // The call that the kind of a case names.
 fn call(line: &[u8], text: &[u8], have: u32, room: u32) {
-    if text::starts(line, 0, b"accept ") {
+    if line.starts_with(b"accept ") {
         accept_case(text);
-    } else if text::starts(line, 0, b"measure ") {
+    } else if line.starts_with(b"measure ") {
         measure_case(text);
-    } else if text::starts(line, 0, b"commutative ") {
+    } else if line.starts_with(b"commutative ") {
         commutative_case(text);
     } else {
         lent_call(line, text, have, room);
@@ -144,8 +146,6 @@ pub fn answer_at(input: &[u8], at: usize) -> usize
     ensures lower_bound { (at < result) × (result ≤ length input.now) }
 {
     let c = case_input::case_at(input, at);
-    let text = c.text;
-    let end = c.end;
-    answer(&input[at..text], &input[text..end]);
+    answer(&input[at..c.text], &input[c.text..c.end]);
     c.next
 }

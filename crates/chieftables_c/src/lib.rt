@@ -30,16 +30,6 @@ pub struct Verdict {
     pub yes: u32,
 }
 
-// The number of a result.
-fn numbered(r: Result<(), Refusal>) -> u32
-    ensures { result ≡ answer r }
-{
-    match r {
-        Ok(()) => 0,
-        Err(e) => e.number(),
-    }
-}
-
 // The number of a result, and what it counts.
 impl From<Result<usize, Refusal>> for Counted {
     ghost from_gives = { λ r c. (c.answer ≡ answer r) × (c.count ≡ counted r) };
@@ -78,7 +68,7 @@ impl From<Result<bool, Refusal>> for Verdict {
 pub extern "C" fn chieftables_accept(text: &[u8]) -> u32
     ensures { Accept text.now result }
 {
-    numbered(accept::accept(text))
+    results::answer(&accept::accept(text))
 }
 
 // `measure`, for C and Rust.
@@ -126,5 +116,5 @@ pub extern "C" fn chieftables_write_table(words: &[u32], out: &mut [u8]) -> Coun
 pub extern "C" fn chieftables_check(text: &[u8], words: &[u32]) -> u32
     ensures { Check text.now words.now result }
 {
-    numbered(check::check(text, words))
+    results::answer(&check::check(text, words))
 }

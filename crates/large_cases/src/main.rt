@@ -14,6 +14,8 @@
 
 ghost use Rattle.std.specs.Prelude.{◌<◌, ◌≤◌, length};
 
+use results::Refusal;
+
 // Bytes of the standard input, at most.
 const INPUT: usize = 65536;
 
@@ -25,17 +27,16 @@ fn print(number: u64) {
     io::write_all(1, b" ");
 }
 
-// What a build answers and counts, a sum over all words, and the answer to the check of the counted lines.
+// What a build answers, a sum over all words, and the answer to the check of the counted lines.
 #[derive(Clone, Copy)]
 struct Told {
-    answer: u32,
-    count: usize,
+    made: Result<usize, Refusal>,
     sum: u32,
-    checked: u32,
+    checked: Result<(), Refusal>,
 }
 
 // Checks the first lines of words, or all words if there are fewer.
-fn check_first_lines(text: &[u8], words: &[u32], lines: usize) -> u32 {
+fn check_first_lines(text: &[u8], words: &[u32], lines: usize) -> Result<(), Refusal> {
     if lines <= words.len() / 8 {
         return chieftables::check::check(text, &words[..8 * lines]);
     }
@@ -45,23 +46,18 @@ fn check_first_lines(text: &[u8], words: &[u32], lines: usize) -> u32 {
 // Builds the table of a text into words that are sevens, and checks it.
 fn build_checked(text: &[u8]) -> Told {
     let mut words = [7u32; WORDS];
-    let a = chieftables::build::build(text, &mut words);
+    let made = chieftables::build::build(text, &mut words);
     let sum = case_input::mix_words(&words);
-    let checked = check_first_lines(text, &words, a.count);
-    Told {
-        answer: a.answer,
-        count: a.count,
-        sum: sum,
-        checked: checked,
-    }
+    let checked = check_first_lines(text, &words, made.unwrap_or(0));
+    Told { made, sum, checked }
 }
 
 fn answer(line: &[u8], text: &[u8]) {
     let t = build_checked(text);
-    print(t.answer as u64);
-    print(t.count as u64);
-    print(t.sum as u64);
-    print(t.checked as u64);
+    print(u64::from(results::answer(&t.made)));
+    print(t.made.unwrap_or(0) as u64);
+    print(u64::from(t.sum));
+    print(u64::from(results::answer(&t.checked)));
     io::write_all(1, b"| ");
     io::write_all(1, line);
 }
@@ -72,9 +68,7 @@ fn answer_at(input: &[u8], at: usize) -> usize
     ensures { (at < result) × (result ≤ length input.now) }
 {
     let c = case_input::case_at(input, at);
-    let text = c.text;
-    let end = c.end;
-    answer(&input[at..text], &input[text..end]);
+    answer(&input[at..c.text], &input[c.text..c.end]);
     c.next
 }
 

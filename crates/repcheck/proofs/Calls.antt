@@ -1,5 +1,6 @@
 -- From what accept, read_table and check answer and leave to what the program answers.
 --
+--   finished            a reading that is not refused
 --   lines-within        the words of a finished reading stand within the buffer
 --   refused             a refused reading
 --   checked             a finished reading, and the check of its words
@@ -11,6 +12,9 @@ use mathlib.Core.List.{List, ◌++◌}
 use Prim.Native.Nat.{ℕ, ◌*◌, ◌≤◌, ◌<◌}
 use native.Mathlib.Omega.{arith}
 use lib.ListN.{length, take}
+use Rattle.std.specs.Prelude.{Result, Ok}
+use Rattle.results.specs.declared.Refusal.{Refusal}
+use Rattle.results.specs.Numbers.{answer, counted}
 use Rattle.definitions.specs.Text.{Bytes}
 use Rattle.definitions.specs.Presentation.{order}
 use Rattle.definitions.specs.Answers.{First, presentation_refusals, table_refusals, read_refusals, Accept, Check, ReadTable}
@@ -20,6 +24,10 @@ use Rattle.table_text.proofs.Calls.{over-within, over-take, says-lines, said-fir
 use Rattle.repcheck.specs.Judged.{Replied}
 
 -- ---- The words of a finished reading
+
+-- a reading that is finished
+pub finished : {t : Bytes} {before after : List ℕ} {r : Result ℕ Refusal} {lines : ℕ} → r ≡ Ok lines → ReadTable t before (answer r) (counted r) after → ReadTable t before 0 lines after
+finished {t} {before} {after} is B = subst (λ (x : Result ℕ Refusal). ReadTable t before (answer x) (counted x) after) is B
 
 module _ {t : Bytes} {before after : List ℕ} {status count : ℕ} where
   pub lines-within : status ≡ 0 → ReadTable t before status count after → 8 * count ≤ length after

@@ -4,9 +4,11 @@
 
 ghost use Rattle.definitions.specs.Answers.{Accept};
 ghost use Rattle.definitions.specs.Programs.{Repcheck};
+ghost use Rattle.results.specs.Numbers.{answer};
 ghost use Rattle.repcheck.specs.Judged.{Replied};
 
 use program::ANSWER;
+use results::Refusal;
 
 // Bytes of a presentation text and of a table text, at most.
 const GROUP: usize = 4096;
@@ -16,42 +18,34 @@ const TABLE: usize = 24576;
 // Words that are lent to the reader of table text: those of 1,024 lines.
 const WORDS: usize = 8192;
 
-// The answer of reading a table text, then that of checking its words for a presentation text that is accepted.
-fn judge_table(group: &[u8], table: &[u8]) -> u32
+// The refusal of reading a table text, or of checking its words for a presentation text that is accepted.
+fn judge_table(group: &[u8], table: &[u8]) -> Result<(), Refusal>
     requires { Accept group.now 0 }
-    ensures { Replied group.now table.now result }
+    ensures { Replied group.now table.now (answer result) }
 {
     let mut words = [0u32; WORDS];
-    let read = chieftables::read_table::read_table(table, &mut words);
-    let number = read.answer;
-    if number != 0 {
-        return number;
-    }
-    let count = read.count;
-    chieftables::check::check(group, &words[..8 * count])
+    let lines = chieftables::read_table::read_table(table, &mut words)?;
+    chieftables::check::check(group, &words[..8 * lines])
 }
 
-// The answer to the bytes of the two files, of which there may be too many: all refusals of the group come first.
-fn judge_files(group: &[u8], table: &[u8]) -> u32
-    ensures { Repcheck group.now table.now result }
+// The refusal of the bytes of the two files, of which there may be too many: all refusals of the group come first.
+fn judge_files(group: &[u8], table: &[u8]) -> Result<(), Refusal>
+    ensures { Repcheck group.now table.now (answer result) }
 {
     if group.len() > GROUP {
-        return 11;
+        return Err(Refusal::PresentationForm);
     }
-    let number = chieftables::accept::accept(group);
-    if number != 0 {
-        return number;
-    }
+    chieftables::accept::accept(group)?;
     if table.len() > TABLE {
-        return 20;
+        return Err(Refusal::TableForm);
     }
     judge_table(group, table)
 }
 
 // Prints the text of an answer.
-fn print_answer(number: u32) {
+fn print_answer(judged: Result<(), Refusal>) {
     let mut out = [0u8; ANSWER];
-    let count = program::put_answer(&mut out, number);
+    let count = program::put_answer(&mut out, results::answer(&judged));
     io::write_all(1, &out[..count]);
 }
 

@@ -1,5 +1,6 @@
 -- From what build and write_table answer and leave to what the program makes of a text.
 --
+--   finished            a build that is not refused
 --   lines-within        the words of a finished build stand within the buffer
 --   refused             a refused build
 --   text_is, text-within     what a finished write_table leaves
@@ -13,6 +14,9 @@ use Prim.Native.Nat.{ℕ, ◌*◌, ◌≤◌, ◌<◌}
 use native.Mathlib.Nat.{div-add-mod'}
 use native.Mathlib.Omega.{arith}
 use lib.ListN.{length, take}
+use Rattle.std.specs.Prelude.{Result, Ok}
+use Rattle.results.specs.declared.Refusal.{Refusal}
+use Rattle.results.specs.Numbers.{answer, counted}
 use Rattle.io.specs.Counts.{IsPrefixLen}
 use Rattle.io.proofs.Counting.{prefix_len_of_le}
 use Rattle.definitions.specs.Text.{Bytes}
@@ -25,6 +29,10 @@ use Rattle.table_text.proofs.Calls.{over-within, over-take}
 use Rattle.definitions.specs.Programs.{lent_words, group_bytes, answer_text, reptable_refusals, Reptable}
 use Rattle.reptable.specs.Tabulated.{room, Tabulated}
 use Rattle.reptable.proofs.Finished.{accepts, never-refused}
+
+-- a build that is finished
+pub finished : {t : Bytes} {before after : List ℕ} {r : Result ℕ Refusal} {lines : ℕ} → r ≡ Ok lines → Build t before (answer r) (counted r) after → Build t before 0 lines after
+finished {t} {before} {after} is B = subst (λ (x : Result ℕ Refusal). Build t before (answer x) (counted x) after) is B
 
 pub lines-within : {t : Bytes} {before after : List ℕ} {answer count : ℕ} → answer ≡ 0 → Build t before answer count after → 8 * count ≤ length after
 unfolding line_count line_words

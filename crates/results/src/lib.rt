@@ -2,10 +2,11 @@
 //
 //   Refusal      the reasons
 //   number       the number of a refusal
+//   answer       the number of a result
 #![tactic(auto)]
 
 ghost use Rattle.std.specs.Prelude.{◌≡◌};
-ghost use Rattle.results.specs.Numbers.{number};
+ghost use Rattle.results.specs.Numbers.{number, answer};
 
 // The reasons, by rising number.
 #[derive(Clone, Copy, PartialEq, Eq, Debug)]
@@ -58,5 +59,15 @@ impl Refusal {
             Refusal::Separation => 25,
             Refusal::Squares => 26,
         }
+    }
+}
+
+// The number of a result: that of its refusal, or 0.
+pub fn answer<T>(r: &Result<T, Refusal>) -> u32
+    ensures { result ≡ answer r.now }
+{
+    match r {
+        Ok(_) => 0,
+        Err(e) => e.number(),
     }
 }

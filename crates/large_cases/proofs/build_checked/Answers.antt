@@ -8,7 +8,7 @@ pub slice_bounds-build-end : goal.slice_bounds-build-end
 slice_bounds-build-end c = sym (length-replicate {0} {A = ℕ} 3669792 7)
 
 pub slice_bounds-mix_words-end : goal.slice_bounds-mix_words-end
-slice_bounds-mix_words-end c = sym (c.build-a.auto.words ∙ length-replicate {0} {A = ℕ} 3669792 7)
+slice_bounds-mix_words-end c = sym (c.build-made.auto.words ∙ length-replicate {0} {A = ℕ} 3669792 7)
 
 pub slice_bounds-check_first_lines-end : goal.slice_bounds-check_first_lines-end
-slice_bounds-check_first_lines-end c = sym (c.build-a.auto.words ∙ length-replicate {0} {A = ℕ} 3669792 7)
+slice_bounds-check_first_lines-end c = sym (c.build-made.auto.words ∙ length-replicate {0} {A = ℕ} 3669792 7)

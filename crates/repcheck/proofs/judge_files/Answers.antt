@@ -2,21 +2,19 @@
 use mathlib.Core.Path.{subst}
 use native.Mathlib.Omega.{arith}
 use Rattle.definitions.specs.Answers.{Accept}
-use Rattle.repcheck.proofs.Calls.{group-long, group-refused, table-long, table-short}
+use Rattle.results.proofs.Numbers.{answer-ok}
+use Rattle.repcheck.proofs.Calls.{group-long, table-long, table-short}
 use Rattle.repcheck.proofs.judge_files.Goals as goal
 
 pub returns-then-group-gt-GROUP : goal.returns-then-group-gt-GROUP
 returns-then-group-gt-GROUP c = group-long c.args.group.now c.args.table.now c.if-group-gt-GROUP.true
 
-pub returns-then-number-ne0 : goal.returns-then-number-ne0
-returns-then-number-ne0 c = group-refused c.args.group.now c.args.table.now (omega arith) c.if-number-ne0.true c.accept-number.ensures
-
 pub returns-then-table-gt-TABLE : goal.returns-then-table-gt-TABLE
-returns-then-table-gt-TABLE c = table-long c.args.group.now c.args.table.now (omega arith) c.if-number-ne0.false c.accept-number.ensures
+returns-then-table-gt-TABLE c = table-long c.args.group.now c.args.table.now (omega arith) (answer-ok c.in_ok-accept.was) c.accept.ensures
     c.if-table-gt-TABLE.true
 
 pub judge_table-requires : goal.judge_table-requires
-judge_table-requires c = subst (Accept c.args.group.now) c.if-number-ne0.false c.accept-number.ensures
+judge_table-requires c = subst (Accept c.args.group.now) (answer-ok c.in_ok-accept.was) c.accept.ensures
 
 pub returns : goal.returns
-returns c = table-short c.args.group.now c.args.table.now (omega arith) c.if-number-ne0.false c.accept-number.ensures (omega arith) c.judge_table.ensures
+returns c = table-short c.args.group.now c.args.table.now (omega arith) (answer-ok c.in_ok-accept.was) c.accept.ensures (omega arith) c.judge_table.ensures
