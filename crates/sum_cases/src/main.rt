@@ -1,27 +1,14 @@
 // Runs sums and differences of exponents, and prints numbers: a line for each modulus up to 64, and eight for each of some larger ones.
 //
-//   print_line                 numbers as a line
 //   both, all_pairs, mixed     sum and difference as one number, those of all pairs of numbers below m, and a sum over them
-//   result, print_edges        m, a, and the sums or the differences of a with 0, 1, m / 2 and m - 1
+//   print_edges                m, a, and what an operation makes of a and of 0, 1, m / 2 and m - 1
 //   print_square               these with each of the four as a
 //   print_modulus              the sums, and the differences
 #![tactic(auto)]
 
-ghost use Rattle.std.specs.Prelude.{◌≡◌, ◌≤◌, ◌<◌, length};
+ghost use Rattle.std.specs.Prelude.{◌≡◌, ℕ, ◌<◌, ◌≤◌, length};
 
-use rows::wide;
-
-fn print_line(numbers: &[u32]) {
-    let mut k: usize = 0;
-    while k < numbers.len() {
-        io::print_decimal(1, wide(numbers[k]));
-        k += 1;
-        if k < numbers.len() {
-            io::write_all(1, b" ");
-        }
-    }
-    io::write_all(1, b"\n");
-}
+use std::io;
 
 // ---- All pairs, m at most 64
 
@@ -38,10 +25,8 @@ fn all_pairs(m: u32, out: &mut [u32]) -> usize
     ensures { (result ≤ 4096) × (length out.new ≡ 4096) }
 {
     let pairs = m * m;
-    let mut k: u32 = 0;
-    while k < pairs {
+    for k in 0..pairs {
         out[k as usize] = both(k / m, k % m, m);
-        k += 1;
     }
     pairs as usize
 }
@@ -56,50 +41,53 @@ fn mixed(m: u32) -> u32
 
 // ---- The edges of larger moduli
 
-fn result(less: bool, a: u32, b: u32, m: u32) -> u32
-    requires { (a < m) × (b < m) × (m ≤ 2147483648) }
+fn print_edges<F: Fn(u32, u32) -> u32>(rt: &impl Print, of: &F, a: u32, m: u32) -> io::Result<()>
+    requires callable { (x : ℕ) → (y : ℕ) → x < m → y < m → F.pre of.now x y }
+    requires within { (a < m) × (2 ≤ m) }
 {
-    if less {
-        return modular::sub_mod(a, b, m);
-    }
-    modular::add_mod(a, b, m)
+    let zero = of(a, 0);
+    let one = of(a, 1);
+    let half = of(a, m / 2);
+    let last = of(a, m - 1);
+    println!(rt; "{m} {a} {zero} {one} {half} {last}")
 }
 
-fn print_edges(less: bool, a: u32, m: u32)
-    requires { (a < m) × (2 ≤ m) × (m ≤ 2147483648) }
+fn print_square<F: Fn(u32, u32) -> u32>(rt: &impl Print, of: F, m: u32) -> io::Result<()>
+    requires callable { (x : ℕ) → (y : ℕ) → x < m → y < m → F.pre of x y }
+    requires within { 2 ≤ m }
 {
-    let low = result(less, a, 0, m);
-    let next = result(less, a, 1, m);
-    let half = result(less, a, m / 2, m);
-    let last = result(less, a, m - 1, m);
-    print_line(&[m, a, low, next, half, last]);
+    print_edges(rt, &of, 0, m)?;
+    print_edges(rt, &of, 1, m)?;
+    print_edges(rt, &of, m / 2, m)?;
+    print_edges(rt, &of, m - 1, m)
 }
 
-fn print_square(less: bool, m: u32)
+fn print_modulus(rt: &impl Print, m: u32) -> io::Result<()>
     requires { (2 ≤ m) × (m ≤ 2147483648) }
 {
-    print_edges(less, 0, m);
-    print_edges(less, 1, m);
-    print_edges(less, m / 2, m);
-    print_edges(less, m - 1, m);
+    print_square(
+        rt,
+        |a, b|
+            requires { (a < m) × (b < m) × (m ≤ 2147483648) }
+        { modular::add_mod(a, b, m) },
+        m,
+    )?;
+    print_square(
+        rt,
+        |a, b|
+            requires { (a < m) × (b < m) × (m ≤ 2147483648) }
+        { modular::sub_mod(a, b, m) },
+        m,
+    )
 }
 
-fn print_modulus(m: u32)
-    requires { (2 ≤ m) × (m ≤ 2147483648) }
-{
-    print_square(false, m);
-    print_square(true, m);
-}
-
-fn main() {
-    let mut m: u32 = 1;
-    while m <= 64 {
-        print_line(&[m, mixed(m)]);
-        m += 1;
+fn main(rt: HostRuntime) -> io::Result<()> {
+    for m in 1..=64 {
+        let sum = mixed(m);
+        println!(&rt; "{m} {sum}")?;
     }
-    print_modulus(4093);
-    print_modulus(4096);
-    print_modulus(16384);
-    print_modulus(2147483647);
-    print_modulus(2147483648);
+    for m in [4093, 4096, 16384, 2147483647, 2147483648] {
+        print_modulus(&rt, m)?;
+    }
+    Ok(())
 }

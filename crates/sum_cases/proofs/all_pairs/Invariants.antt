@@ -6,6 +6,3 @@ use Rattle.sum_cases.proofs.all_pairs.Given as goal
 
 abbrev pub invariant-loop-k : goal.invariant-loop-k
 invariant-loop-k l = (l.k ≤ l.pairs) × (l.pairs ≤ 4096) × (length l.out ≡ 4096)
-
-abbrev pub decreases-loop-k : goal.decreases-loop-k
-decreases-loop-k l = l.pairs - l.k
