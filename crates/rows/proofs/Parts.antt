@@ -1,21 +1,16 @@
--- Rows in parts: the exponents that a scan from the top passes over, and what is left of a row.
+-- Rows in parts: what climbs from one exponent to the next, and what is left of a row.
 --
---   scan-more                     what holds from k up to i holds from k - 1 on, where it holds at k - 1
 --   climb                         what holds at m and climbs step by step holds at i
 --   kept-all, kept_then, mixed-kept          what is left of a row: all; after two steps; after a copy
 --   kept-stacked, stored-kept     the same with a store
-use mathlib.Core.Path.{◌≡◌, refl, sym, ◌∙◌, subst}
-use mathlib.Core.Logic.{by_cases}
+use mathlib.Core.Path.{◌≡◌, refl, ◌∙◌, subst}
 use mathlib.Core.List.{List}
-use Prim.Native.Nat.{ℕ, zero, suc, ◌-◌, ◌≤◌, ◌<◌}
+use Prim.Native.Nat.{ℕ, zero, suc, ◌≤◌, ◌<◌}
 use native.Mathlib.Omega.{arith}
-use native.Mathlib.Decide.{dec_lt, ℕ_discrete}
+use native.Mathlib.Decide.{dec_lt}
 use lib.ListN.{length, set, length-set}
 use lib.Seq.{get_or-set_same, get_or-set_other}
 use Rattle.rows.specs.Rows.{Stacked, Mixed, Kept}
-
-pub scan-more : (Q : ℕ → Type 0) (k i : ℕ) → 0 < k → Q (k - 1) → ((q : ℕ) → k ≤ q → q < i → Q q) → (q : ℕ) → k - 1 ≤ q → q < i → Q q
-scan-more Q k i l t rest q a b = by_cases (ℕ_discrete q (k - 1)) (λ e. subst Q (sym e) t) (λ e. rest q (omega arith) b)
 
 pub climb : (Q : ℕ → Type 0) (m i : ℕ) → m ≤ i → ((k : ℕ) → m ≤ k → k < i → Q k → Q (suc k)) → Q m → Q i
 climb Q m zero l step q = let e : m ≡ 0 = omega arith in subst Q e q
