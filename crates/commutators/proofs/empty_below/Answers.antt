@@ -14,5 +14,6 @@ use Rattle.commutators.proofs.empty_below.Goals as goal
 
 pub returns : goal.returns
 returns c = let a = c.args in
-    all_from_yields_List (λ i. empty_at (suc i) (get_or a.rows.now (pair_number a.j i) [])) _ _ _ c.all.ensures.ran (YieldsList-from_range 0 a.j a.j (cc) (omega arith)) (λ x b q k. search rules)
+    all_from_yields_List (λ i. empty_at (suc i) (get_or a.rows.now (pair_number a.j i) [])) _ _ _ c.all.ensures.ran
+    (YieldsList-from_range 0 a.j a.j (cc) (omega arith)) (λ x b q k. search rules)
     ∙ all-of_range _ a.j
