@@ -2,7 +2,7 @@
 --
 --   images-none, images-more      the table of images, one more
 --   value_none, value-more        the value over the images, one exponent more
---   prepared-lower, generator-small, power-word-small    what products below i ask: the presentation, a generator, the power word
+--   generator_small, power-word-small    what products below i ask: a generator, the power word
 use mathlib.Core.Path.{◌≡◌, sym, ◌∙◌, ap, ap₂, subst}
 use mathlib.Core.List.{List, []}
 use Prim.Native.Nat.{ℕ, suc, ◌+◌, ◌<◌}
@@ -15,10 +15,9 @@ use Rattle.definitions.specs.Consistency.{mul, conj, forms, image}
 use Rattle.numbers.proofs.Lists.{below_suc}
 use Rattle.group.proofs.Values.{value-zero, value-suc}
 use Rattle.group.proofs.Rows.{to_nf-suc, to_nf-trivial}
-use Rattle.rows.specs.Rows.{Small, Generator}
+use Rattle.rows.specs.Rows.{Small, Ranged, Generator}
 use Rattle.rows.proofs.Forms.{zeros, generator-is, ready-below, reads-below, small-zeros, small-generator, word_small}
-use Rattle.collector.specs.Products.{Prepared, Conjugate, Scaled}
-use Rattle.collector.proofs.Calls.{prepared-below}
+use Rattle.collector.specs.Products.{Conjugate, Scaled}
 use Rattle.consistency.specs.Images.{Images, Value}
 
 module _ {i : ℕ} {ps : List ℕ} {rows : List (List ℕ)} where
@@ -35,9 +34,9 @@ module _ {i : ℕ} {ps : List ℕ} {rows : List (List ℕ)} where
         (ap (to_nf i) (get_or-set_same h k c [] l) ∙ q.is C R ∙ ap (conj C.P i i) (generator-is i k g gg));
   })
 
-  pub value_none : {x reach : List ℕ} → Prepared (suc i) ps rows reach → Value i ps rows 0 x (replicate max_generators 0)
-  value_none {x} P = record {
-    small = small-zeros (ready-below {m = i} (omega arith) P.ranged);
+  pub value_none : {n : ℕ} {x : List ℕ} → i < n → Ranged n ps rows → Value i ps rows 0 x (replicate max_generators 0)
+  value_none {n} {x} l r = record {
+    small = small-zeros (ready-below {m = i} (omega arith) r);
     is = λ C R. to_nf-trivial i (replicate max_generators 0) (λ m l. zeros m) ∙ sym (value-zero (forms C.P i) (image C.P i) (to_nf 0 x));
   }
 
@@ -50,12 +49,9 @@ module _ {i : ℕ} {ps : List ℕ} {rows : List (List ℕ)} where
         ∙ sym (value-suc (forms C.P i) (image C.P i) m (get_or x m 0, to_nf m x)) ∙ ap (value (forms C.P i) (image C.P i) (suc m)) (sym (to_nf-suc m x));
   })
 
-module _ {i : ℕ} {ps : List ℕ} {rows : List (List ℕ)} {reach : List ℕ} (P : Prepared (suc i) ps rows reach) where
-  pub prepared-lower : Prepared i ps rows reach
-  prepared-lower = prepared-below (omega arith) P
-
-  pub generator-small : {k : ℕ} {g : List ℕ} → Generator k g → Small i ps g
-  generator-small = small-generator prepared-lower.ranged
+module _ {n i : ℕ} {ps : List ℕ} {rows : List (List ℕ)} (l : i < n) (r : Ranged n ps rows) where
+  pub generator_small : {k : ℕ} {g : List ℕ} → Generator k g → Small i ps g
+  generator_small = small-generator (ready-below {m = i} (omega arith) r)
 
   pub power-word-small : {u : List ℕ} → u ≡ get_or rows (pair_number i i) [] → Small i ps u
-  power-word-small = word_small i i P.ranged (omega arith) (omega arith) (omega arith)
+  power-word-small = word_small i i r (omega arith) l (omega arith)
