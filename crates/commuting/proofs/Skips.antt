@@ -1,7 +1,6 @@
 -- Exponents that conjugation keeps, and generators that commute.
 --
 --   moved-reach                   from its reach on, conjugation by a generator keeps a row
---   quiet-below, central-below    reaches and rises of fewer generators
 --   keeps-empty                   an exponent 1 is kept only where the word is empty
 --   rise-first                    a generator that commutes with those below it
 use mathlib.Core.Path.{◌≡◌, sym, ◌∙◌, ap}
@@ -12,16 +11,10 @@ use native.Mathlib.Omega.{arith}
 use lib.ListN.{get_or}
 use borrow.Author.Tests.{ne_eqb}
 use Rattle.definitions.specs.Presentation.{pair_number}
-use Rattle.commuting.specs.Commuting.{empty_at, keeps, KeepsFrom, Reach, Quiet, Rise, Central}
+use Rattle.commuting.specs.Commuting.{empty_at, keeps, KeepsFrom, Reach, Rise}
 
 pub moved-reach : {rows : List (List ℕ)} {j k r : ℕ} {x : List ℕ} → k ≤ j → r ≤ k → Reach rows j r → KeepsFrom rows k j x r
 moved-reach {x = x} l a t = record { less = omega arith; rest = λ q b c. t.rest q (get_or x q 0) b (omega arith) }
-
-pub quiet-below : {m n : ℕ} {rows : List (List ℕ)} {reach : List ℕ} → m ≤ n → Quiet n rows reach → Quiet m rows reach
-quiet-below l t = record { at = λ j a. t.at j (omega arith) }
-
-pub central-below : {m n : ℕ} {rows : List (List ℕ)} {rise : List ℕ} → m ≤ n → Central n rows rise → Central m rows rise
-central-below l t = record { at = λ c a. t.at c (omega arith) }
 
 pub keeps-empty : (rows : List (List ℕ)) (j l : ℕ) → keeps rows j l 1 ≡ true → empty_at (suc l) (get_or rows (pair_number j l) []) ≡ true
 keeps-empty rows j l h = sym (ap (λ t. t || empty_at (suc l) (get_or rows (pair_number j l) [])) (ne_eqb 1 0 (λ e. omega arith))) ∙ h

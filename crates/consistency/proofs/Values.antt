@@ -2,7 +2,6 @@
 --
 --   images-none, images-more      the table of images, one more
 --   value_none, value-more        the value over the images, one exponent more
---   generator_small, power-word-small    what products below i ask: a generator, the power word
 use mathlib.Core.Path.{◌≡◌, sym, ◌∙◌, ap, ap₂, subst}
 use mathlib.Core.List.{List, []}
 use Prim.Native.Nat.{ℕ, suc, ◌+◌, ◌<◌}
@@ -10,13 +9,13 @@ use native.Mathlib.Numerals.{add-one}
 use native.Mathlib.Omega.{arith}
 use lib.ListN.{length, get_or, set, replicate}
 use lib.Seq.{get_or-set_same, get_or-set_other}
-use Rattle.definitions.specs.Presentation.{max_generators, to_nf, power, value, pair_number}
+use Rattle.definitions.specs.Presentation.{max_generators, to_nf, power, value}
 use Rattle.definitions.specs.Consistency.{mul, conj, forms, image}
 use Rattle.numbers.proofs.Lists.{below_suc}
 use Rattle.group.proofs.Values.{value-zero, value-suc}
 use Rattle.group.proofs.Rows.{to_nf-suc, to_nf-trivial}
 use Rattle.rows.specs.Rows.{Small, Ranged, Generator}
-use Rattle.rows.proofs.Forms.{zeros, generator-is, ready-below, reads-below, small-zeros, small-generator, word_small}
+use Rattle.rows.proofs.Forms.{zeros, generator-is, ready-below, reads-below, small-zeros}
 use Rattle.collector.specs.Products.{Conjugate, Scaled}
 use Rattle.consistency.specs.Images.{Images, Value}
 
@@ -48,10 +47,3 @@ module _ {i : ℕ} {ps : List ℕ} {rows : List (List ℕ)} where
         ∙ ap₂ (λ g w. mul C.P i (power (forms C.P i) g (get_or x m 0)) w) (t.is C R m l) (a.is C R)
         ∙ sym (value-suc (forms C.P i) (image C.P i) m (get_or x m 0, to_nf m x)) ∙ ap (value (forms C.P i) (image C.P i) (suc m)) (sym (to_nf-suc m x));
   })
-
-module _ {n i : ℕ} {ps : List ℕ} {rows : List (List ℕ)} (l : i < n) (r : Ranged n ps rows) where
-  pub generator_small : {k : ℕ} {g : List ℕ} → Generator k g → Small i ps g
-  generator_small = small-generator (ready-below {m = i} (omega arith) r)
-
-  pub power-word-small : {u : List ℕ} → u ≡ get_or rows (pair_number i i) [] → Small i ps u
-  power-word-small = word_small i i r (omega arith) l (omega arith)

@@ -8,7 +8,7 @@
 --   prime-fits exponents fit 32 bits
 --   small-valid valid form
 --   small_top, small-set, small-zeros  rows in range: one exponent more, a store on top, zeros
---   small-generator, word_small    rows in range: a generator, the word of a pair
+--   word_small                     rows in range: the word of a pair
 --   reads-small                    rows that a presentation has are in range
 use mathlib.Core.Path.{◌≡◌, refl, sym, ◌∙◌, ap, ap₂, subst}
 use mathlib.Core.Logic.{by_cases}
@@ -132,13 +132,6 @@ small-set k ps z a l s h =
 
 pub small-zeros : {m : ℕ} {ps : List ℕ} {rows : List (List ℕ)} → Ranged m ps rows → Small m ps (replicate max_generators 0)
 small-zeros {ps = ps} r = record { below = λ k l. subst (λ t. t < get_or ps k 0) (sym (zeros k)) (omega (arith, r.two k l)) }
-
-pub small-generator : {k m : ℕ} {ps : List ℕ} {rows : List (List ℕ)} {g : List ℕ} → Ranged m ps rows → Generator k g → Small m ps g
-small-generator {k} {m} {ps} {rows} {g} r h = record { below = λ i l. go i l (ℕ_discrete i k) }
-  where
-    go : (i : ℕ) → i < m → Dec (i ≡ k) → get_or g i 0 < get_or ps i 0
-    go i l (yes q) = subst (λ t. t < get_or ps i 0) (sym (h.at i ∙ cond-eq i k 1 0 q)) (r.two i l)
-    go i l (no q) = subst (λ t. t < get_or ps i 0) (sym (h.at i ∙ cond-ne i k 1 0 q)) (omega (arith, r.two i l))
 
 -- ---- Rows that a presentation has
 

@@ -89,7 +89,12 @@ pub fn top(i: usize, x: &Row) -> usize
     requires { i ≤ max_generators }
     ensures { Top i x.now result }
 {
-    x[..i].iter().rposition(|e| *e != 0).map_or(0, |k| k + 1)
+    for k in (0..i).rev() {
+        if x[k] != 0 {
+            return k + 1;
+        }
+    }
+    0
 }
 
 // The row of `low` below k, of s at k, and of `high` above k.
