@@ -6,7 +6,7 @@
 --   commutator-low, commutator-high, inner-central    the same where a generator commutes with every one up to i
 --   powers-all, commutators-all, inner-all     the tests of all generators or pairs as the definitions name them
 --   both-stops, both-goes, tests-all     the test of a generator: its parts, one after another, and all
---   level_of                       the same where the generator is known by an equation
+--   settled-of                     an answer, where what is read is known by equations
 use mathlib.Core.Path.{◌≡◌, refl, sym, ◌∙◌, ap, ap₂, subst}
 use mathlib.Core.Bool.{Bool, true, false, ◌&&◌}
 use mathlib.Core.List.{List, []}
@@ -170,8 +170,7 @@ module _ {i : ℕ} {ps : List ℕ} {rows : List (List ℕ)} where
   unfolding level_test
   tests-all a = record { is = a.is }
 
--- the test of a level, where its generator and what it reads are known by equations
-pub level_of : {i j : ℕ} {ps qs : List ℕ} {rows words : List (List ℕ)} {b : Bool} → i ≡ j → ps ≡ qs → rows ≡ words
-    → Settles i ps rows (λ P. level_test P i) b → Settles j qs words (λ P. level_test P j) b
-level_of {i} {j} {ps} {qs} {rows} {words} {b} e f g s = subst (λ k. Settles k qs words (λ P. level_test P k) b) e
-    (subst (λ x. Settles i x words (λ P. level_test P i) b) f (subst (λ x. Settles i ps x (λ P. level_test P i) b) g s))
+-- the same, where what is read is known by equations
+pub settled-of : {i : ℕ} {ps qs : List ℕ} {rows words : List (List ℕ)} {q : Presentation → Bool} {b : Bool} → ps ≡ qs → rows ≡ words
+    → Settles i ps rows q b → Settles i qs words q b
+settled-of {i} {ps} {qs} {rows} {words} {q} {b} f g s = subst (λ x. Settles i x words q b) f (subst (λ x. Settles i ps x q b) g s)

@@ -1,22 +1,24 @@
 // The known test of consistency, generator by generator ("Consistent" in the specification).
 //
-//   Level                        the test for a generator: the images of those below it under conjugation by it
-//     new, value                 the images; a value over them
+//   Forms, find_images           a form for each generator; the images of the generators below one, under conjugation by it
+//   Level                        the test for a generator, with these images
+//     value                      a value over them
 //     keeps_power, keeps_powers  the images keep the power relations
 //     keeps_commutator, keeps_pair, keeps_commutators_of, keeps_commutators    and the commutator relations
 //     fixes_power                conjugation by the generator fixes its power word
 //     is_inner_at, is_inner_on, is_inner    its power is conjugation by that word
 //     passes                     the whole test
-//   consistent                   the test for all generators
+//   level_passes, consistent     the test for a generator; for all
 #![tactic(auto)]
 
-ghost use Rattle.std.specs.Prelude.{◌≡◌, suc, ◌≤◌, ◌<◌};
+ghost use Rattle.std.specs.Prelude.{◌≡◌, suc, ◌≤◌, ◌<◌, length};
 ghost use Rattle.definitions.specs.Lists.{all_below};
+ghost use Rattle.definitions.specs.Presentation.{max_generators};
 ghost use Rattle.definitions.specs.Consistency.{keeps_powers, keeps_commutators, fixes_power, power_is_inner, level_test};
 ghost use Rattle.rows.specs.Rows.{Ranged};
 ghost use Rattle.commuting.specs.Commuting.{Central};
 ghost use Rattle.consistency.specs.Images.{Images, Images-prop};
-ghost use Rattle.consistency.specs.Answers.{DecidesTest, power_kept, commutator_kept, inner_at};
+ghost use Rattle.consistency.specs.Answers.{Settles, DecidesTest, power_kept, commutator_kept, inner_at};
 
 use collector::Collector;
 use commuting::{Reaches, rises};
@@ -25,38 +27,32 @@ use rows::{GENERATORS, Row, Rows, generator, same, word};
 // A normal form for each generator.
 type Forms = [[u32; GENERATORS]; GENERATORS];
 
+// The images of the generators below i under conjugation by generator i, written into rows that are lent.
+fn find_images(collector: &Collector, i: usize, images: &mut Forms)
+    requires { (i < collector.now.n) × (length images.old ≡ max_generators) }
+    ensures { Images i collector.now.primes.now collector.now.rows.now images.new i × (length images.new ≡ max_generators) }
+{
+    for k in 0..i {
+        let c = collector.conjugate(i, i, generator(k));
+        images[k] = c;
+    }
+}
+
 // The test for generator i: the images of the generators below it under conjugation by it, and how far each generator
 // commutes with every other.
-#[derive(Drop)]
+#[derive(Clone, Copy)]
 struct Level<'a> {
     collector: &'a Collector<'a>,
     rise: &'a Reaches,
     i: usize,
-    images: Forms,
+    images: &'a Forms,
     ghost within: { i < collector.now.n },
     ghost central: { Central (suc i) collector.now.rows.now rise.now },
-    ghost imaged: { Images i collector.now.primes.now collector.now.rows.now images i } by { Images-prop i collector.now.primes.now collector.now.rows.now images i },
+    ghost imaged: { Images i collector.now.primes.now collector.now.rows.now images.now i } by { Images-prop i collector.now.primes.now collector.now.rows.now images.now i },
 }
 
-impl<'a> Level<'a> {
+impl Level<'_> {
     ghost use Rattle.consistency.specs.Level.{Answers, ValueAt};
-
-    fn new(collector: &'a Collector<'a>, rise: &'a Reaches, i: usize) -> Self
-        requires { (i < collector.now.n) × Central (suc i) collector.now.rows.now rise.now }
-        ensures { (result.i ≡ i) × (result.collector.now ≡ collector.now) }
-    {
-        let mut images = [[0u32; GENERATORS]; GENERATORS];
-        for k in 0..i {
-            let c = collector.conjugate(i, i, generator(k));
-            images[k] = c;
-        }
-        Level {
-            collector,
-            rise,
-            i,
-            images,
-        }
-    }
 
     // The value over the images of the first k exponents of x.
     fn value(&self, k: usize, x: Row) -> Row
@@ -197,6 +193,22 @@ impl<'a> Level<'a> {
     }
 }
 
+// The known test for generator i, with rows that are lent for the images of those below it.
+fn level_passes(collector: &Collector, rise: &Reaches, i: usize, images: &mut Forms) -> bool
+    requires { (i < collector.now.n) × Central (suc i) collector.now.rows.now rise.now × (length images.old ≡ max_generators) }
+    ensures settles { Settles i collector.now.primes.now collector.now.rows.now (λ P. level_test P i) result }
+    ensures long { length images.new ≡ max_generators }
+{
+    find_images(collector, i, images);
+    let level = Level {
+        collector,
+        rise,
+        i,
+        images,
+    };
+    level.passes()
+}
+
 // Whether the presentation of n generators is consistent (15): the known test for each generator.
 pub fn consistent(primes: &Row, rows: &Rows, n: usize) -> bool
     requires { Ranged n primes.now rows.now }
@@ -204,9 +216,9 @@ pub fn consistent(primes: &Row, rows: &Rows, n: usize) -> bool
 {
     let collector = Collector::new(primes, rows, n);
     let rise = rises(rows, &collector.reach, n);
+    let mut images = [[0u32; GENERATORS]; GENERATORS];
     for i in 0..n {
-        let level = Level::new(&collector, &rise, i);
-        if !level.passes() {
+        if !level_passes(&collector, &rise, i, &mut images) {
             return false;
         }
     }

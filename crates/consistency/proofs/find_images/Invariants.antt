@@ -3,7 +3,7 @@ use mathlib.Core.Path.{◌≡◌}
 use lib.ListN.{length}
 use Rattle.definitions.specs.Presentation.{max_generators}
 use Rattle.consistency.specs.Images.{Images}
-use Rattle.consistency.proofs.Level.new.Given as goal
+use Rattle.consistency.proofs.find_images.Given as goal
 
 abbrev pub invariant-loop-k : goal.invariant-loop-k
 invariant-loop-k l = (length l.images ≡ max_generators) × Images l.i l.collector.primes.now l.collector.rows.now l.images l.k
