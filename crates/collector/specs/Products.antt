@@ -1,7 +1,6 @@
 -- What product and conjugation of normal forms ask, and what they return for every presentation that primes and rows read.
 --
 --   Prepared m primes rows reach  what is asked of the first m generators
---   Factors, Conjugand            what a product asks; what a conjugation asks
 --   Alone rows m x r              where r is true, x has no exponent below m - 1, and nor has the power word of generator m - 1
 --   Product, Image, Conjugate     a product; the conjugate of a generator; the conjugate of a form
 --   Remaining                     how many turns are left, once a period is known
@@ -19,18 +18,6 @@ use Rattle.commuting.specs.Commuting.{Quiet}
 pub record Prepared (m : ℕ) (primes : List ℕ) (rows : List (List ℕ)) (reach : List ℕ) : Type 0 where
   pub ranged : Ranged m primes rows
   pub quiet : Quiet m rows reach
-
--- the forms x and y of level i can be multiplied
-pub record Factors (i : ℕ) (primes : List ℕ) (rows : List (List ℕ)) (reach x y : List ℕ) : Type 0 where
-  pub prepared : Prepared i primes rows reach
-  pub left : Small i primes x
-  pub right : Small i primes y
-
--- the form x of level k can be conjugated by generator j
-pub record Conjugand (k j : ℕ) (primes : List ℕ) (rows : List (List ℕ)) (reach x : List ℕ) : Type 0 where
-  pub prepared : Prepared (suc j) primes rows reach
-  pub level : k ≤ j
-  pub small : Small k primes x
 
 pub record Alone (rows : List (List ℕ)) (m : ℕ) (x : List ℕ) (r : Bool) : Type 0 where
   pub is : r ≡ true → (0 < m) × Top (m - 1) x 0 × Top (m - 1) (get_or rows (pair_number (m - 1) (m - 1)) []) 0

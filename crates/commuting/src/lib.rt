@@ -21,11 +21,7 @@ fn stays(rows: &Rows, j: usize, l: usize, e: u32) -> bool
     requires { (l < j) × (j < max_generators) }
     ensures { result ≡ keeps rows.now j l e }
 {
-    if e == 0 {
-        return true;
-    }
-    let w = word(rows, j, l);
-    empty(l + 1, w)
+    e == 0 || empty(l + 1, word(rows, j, l))
 }
 
 // Generator j commutes with the generators from the answer up to j: their words with it are empty.
@@ -33,13 +29,10 @@ fn reached(rows: &Rows, j: usize) -> usize
     requires { j < max_generators }
     ensures { Reach rows.now j result }
 {
-    let mut m = j;
-    while m > 0 {
-        let w = word(rows, j, m - 1);
-        if !empty(m, w) {
-            return m;
+    for l in (0..j).rev() {
+        if !empty(l + 1, word(rows, j, l)) {
+            return l + 1;
         }
-        m -= 1;
     }
     0
 }
@@ -51,8 +44,7 @@ pub fn reaches(rows: &Rows, n: usize) -> Reaches
 {
     let mut r = [0usize; GENERATORS];
     for j in 0..n {
-        let m = reached(rows, j);
-        r[j] = m;
+        r[j] = reached(rows, j);
     }
     r
 }
@@ -65,13 +57,10 @@ fn risen(rows: &Rows, reach: &Reaches, n: usize, c: usize) -> usize
     if reach[c] != 0 {
         return 0;
     }
-    let mut j = c + 1;
-    while j < n {
-        let w = word(rows, j, c);
-        if !empty(c + 1, w) {
+    for j in c + 1..n {
+        if !empty(c + 1, word(rows, j, c)) {
             return j;
         }
-        j += 1;
     }
     n
 }
@@ -83,8 +72,7 @@ pub fn rises(rows: &Rows, reach: &Reaches, n: usize) -> Reaches
 {
     let mut r = [0usize; GENERATORS];
     for c in 0..n {
-        let m = risen(rows, reach, n, c);
-        r[c] = m;
+        r[c] = risen(rows, reach, n, c);
     }
     r
 }
@@ -94,13 +82,10 @@ pub fn moved(rows: &Rows, reach: &Reaches, k: usize, j: usize, x: &Row) -> usize
     requires { (k ≤ j) × (j < max_generators) × Reach rows.now j (get_or reach.now j 0) }
     ensures { KeepsFrom rows.now k j x.now result }
 {
-    let first = reach[j];
-    let mut m = if first < k { first } else { k };
-    while m > 0 {
-        if !stays(rows, j, m - 1, x[m - 1]) {
-            return m;
+    for l in (0..k.min(reach[j])).rev() {
+        if !stays(rows, j, l, x[l]) {
+            return l + 1;
         }
-        m -= 1;
     }
     0
 }

@@ -3,14 +3,12 @@
 --   product-zero, product-suc, product-order, product-mono     the product of primes
 --   product-turn, elements-turn, turn-fits     a turn of the product and of the elements; it stays below the ceiling
 --   words-fit, order-exceeds, order-within     the ceiling
---   entry-high, entry_zero, entry-power, entry-commutator     an exponent, case by case
---   p-power, p-commutator, pair-stray, pair_row     a line, by its p and its word
 --   primes-none, primes-more, primes-all      the primes of the first generators
 --   orders-none, orders-more, orders-all, orders_are     the orders of the levels
 use mathlib.Core.Path.{◌≡◌, refl, sym, ap, ap₂, subst, ◌∙◌}
-use mathlib.Core.Logic.{◌≢◌, by_cases}
-use mathlib.Core.Bool.{Bool, true, false, ◌&&◌, ◌||◌}
-use mathlib.Core.List.{List, []}
+use mathlib.Core.Logic.{by_cases}
+use mathlib.Core.Bool.{true, false}
+use mathlib.Core.List.{List}
 use Prim.Native.Nat.{ℕ, zero, suc, ◌+◌, ◌*◌, ◌<◌, ◌≤◌}
 use native.Mathlib.Nat.{mul-le-mul, mul-le-mul_right, mul_comm}
 use native.Mathlib.Numerals.{add-one}
@@ -18,13 +16,12 @@ use native.Mathlib.Decide.{ℕ_discrete}
 use native.Mathlib.Omega.{arith}
 use lib.ListN.{get_or, set, replicate, length-set, length-replicate}
 use lib.Seq.{get_or-set_same, get_or-set_other}
-use lib.Dec.{ltb, leb, eqb}
-use borrow.Author.Tests.{lt-ltb, le-ltb, le-leb, lt-leb, eq-eqb, ne_eqb}
+use lib.Dec.{leb}
+use borrow.Author.Tests.{le-leb, lt-leb}
 use Rattle.definitions.specs.Lists.{sum}
-use Rattle.definitions.specs.Presentation.{max_generators, max_order, Presentation, order, pair_number, allowed}
-use Rattle.numbers.proofs.Bools.{cond-eq, cond-ne}
+use Rattle.definitions.specs.Presentation.{max_generators, max_order, Presentation, order, pair_number}
 use Rattle.numbers.proofs.Sums.{sum-suc}
-use Rattle.conditions.specs.Conditions.{product, entry_well, row_wells, pair_well, Primes}
+use Rattle.conditions.specs.Conditions.{product, Primes}
 use Rattle.conditions.specs.Size.{LevelOrders}
 
 -- ---- The product of primes
@@ -60,8 +57,9 @@ pub product-turn : (primes : List ℕ) (j x y : ℕ) → x ≡ product primes j 
 product-turn primes j x y q r =
     mul_comm x y ∙ ap₂ (λ (a b : ℕ). a * b) r q ∙ sym (product-suc primes j) ∙ ap (product primes) (sym (add-one j))
 
-pub turn-fits : (primes : List ℕ) (n j x : ℕ) → ((k : ℕ) → k ≤ n → product primes k ≤ max_order) → j < n → x ≡ product primes j → x * get_or primes j 0 ≤ max_order
-turn-fits primes n j x b l q = omega (arith, product-turn primes j x _ q refl, b (j + 1) (omega arith))
+pub turn-fits : (primes : List ℕ) (n j x y : ℕ) → ((k : ℕ) → k ≤ n → product primes k ≤ max_order) → j < n → x ≡ product primes j → y ≡ get_or primes j 0
+    → x * y ≤ max_order
+turn-fits primes n j x y b l q r = omega (arith, product-turn primes j x y q r, b (j + 1) (omega arith))
 
 -- one level more of elements
 pub elements-turn : (primes : List ℕ) (j x y : ℕ) → x ≡ sum j (λ i. product primes (suc i)) → y ≡ product primes (j + 1)
@@ -83,58 +81,6 @@ order-exceeds primes m n x l h q b = lt-leb (product primes n) max_order (omega 
 
 pub order-within : (primes : List ℕ) (m n x : ℕ) → m ≡ n → x ≡ product primes m → x ≤ max_order → leb (product primes n) max_order ≡ true
 order-within primes m n x l q b = le-leb (product primes n) max_order (omega (arith, ap (product primes) l))
-
--- ---- An exponent
-
-or-true : (b : Bool) → (b || true) ≡ true
-or-true true = refl
-or-true false = refl
-
-or-false : (b : Bool) → (b || false) ≡ b
-or-false true = refl
-or-false false = refl
-
-module _ (e p j i k : ℕ) where
-  pub entry-high : p ≤ e → entry_well e p j i k ≡ false
-  entry-high l = ap (λ (b : Bool). b && (allowed j i k || eqb e 0)) (le-ltb e p l)
-
-  module _ (l : e < p) where
-    low : entry_well e p j i k ≡ (allowed j i k || eqb e 0)
-    low = ap (λ (b : Bool). b && (allowed j i k || eqb e 0)) (lt-ltb e p l)
-
-    pub entry_zero : e ≡ 0 → entry_well e p j i k ≡ true
-    entry_zero q = low ∙ ap (λ (b : Bool). allowed j i k || b) (eq-eqb e 0 q) ∙ or-true (allowed j i k)
-
-    module _ (n : e ≢ 0) where
-      some : entry_well e p j i k ≡ allowed j i k
-      some = low ∙ ap (λ (b : Bool). allowed j i k || b) (ne_eqb e 0 n) ∙ or-false (allowed j i k)
-
-      pub entry-power : i ≡ j → entry_well e p j i k ≡ ltb k j
-      unfolding allowed
-      entry-power q = some ∙ cond-eq i j (ltb k j) (leb k i) q
-
-      pub entry-commutator : i ≢ j → entry_well e p j i k ≡ leb k i
-      unfolding allowed
-      entry-commutator q = some ∙ cond-ne i j (ltb k j) (leb k i) q
-
--- ---- A line
-
-pub p-power : (p j i : ℕ) → i ≡ j → (eqb i j || eqb p 0) ≡ true
-p-power p j i q = ap (λ (b : Bool). b || eqb p 0) (eq-eqb i j q)
-
-pub p-commutator : (p j i : ℕ) → i ≢ j → (eqb i j || eqb p 0) ≡ eqb p 0
-p-commutator p j i q = ap (λ (b : Bool). b || eqb p 0) (ne_eqb i j q)
-
-module _ (rows : List (List ℕ)) (ps primes : List ℕ) (n j i r : ℕ) (is : r ≡ pair_number j i) where
-  tests : pair_well rows ps primes n j i ≡ ((eqb i j || eqb (get_or ps r 0) 0) && row_wells (get_or rows r []) primes n j i)
-  unfolding pair_well
-  tests = ap (λ (k : ℕ). (eqb i j || eqb (get_or ps k 0) 0) && row_wells (get_or rows k []) primes n j i) (sym is)
-
-  pub pair-stray : (eqb i j || eqb (get_or ps r 0) 0) ≡ false → pair_well rows ps primes n j i ≡ false
-  pair-stray h = tests ∙ ap (λ (b : Bool). b && row_wells (get_or rows r []) primes n j i) h
-
-  pub pair_row : (eqb i j || eqb (get_or ps r 0) 0) ≡ true → pair_well rows ps primes n j i ≡ row_wells (get_or rows r []) primes n j i
-  pair_row h = tests ∙ ap (λ (b : Bool). b && row_wells (get_or rows r []) primes n j i) h
 
 -- ---- The primes of the first j generators
 

@@ -16,11 +16,8 @@ pub fn primes_of(ps: &[u32; PAIRS], n: usize) -> Row
     ensures { Primes ps.now n result }
 {
     let mut primes = [0u32; GENERATORS];
-    let mut j: usize = 0;
-    while j < n {
-        let r = pair(j, j);
-        primes[j] = ps[r];
-        j += 1;
+    for j in 0..n {
+        primes[j] = ps[pair(j, j)];
     }
     primes
 }
@@ -32,18 +29,17 @@ pub fn order_fits(primes: &Row, n: usize) -> bool
     ensures { result ≡ leb (product primes.now n) max_order }
 {
     let mut order: u64 = 1;
-    let mut j: usize = 0;
-    while j < n {
-        order = order * wide(primes[j]);
+    for p in &primes[..n] {
+        order *= wide(*p);
         if (ORDER as u64) < order {
             return false;
         }
-        j += 1;
     }
     true
 }
 
 // Whether the word of (j, i) may have the exponent e of generator k.
+#[tactic(auto, unfolding(definitions::specs::Presentation::allowed))]
 fn entry_well(e: u32, p: u32, j: usize, i: usize, k: usize) -> bool
     ensures { result ≡ entry_well e p j i k }
 {
@@ -64,36 +60,24 @@ fn row_well(row: &Row, primes: &Row, n: usize, j: usize, i: usize) -> bool
     requires { n ≤ max_generators }
     ensures { result ≡ row_wells row.now primes.now n j i }
 {
-    let mut k: usize = 0;
-    while k < n {
-        if !entry_well(row[k], primes[k], j, i, k) {
-            return false;
-        }
-        k += 1;
-    }
-    true
+    (0..n).all(|k| entry_well(row[k], primes[k], j, i, k))
 }
 
 // Whether a p is 0 unless i = j.
 fn p_well(p: u32, j: usize, i: usize) -> bool
     ensures { result ≡ (eqb i j || eqb p 0) }
 {
-    if i == j {
-        return true;
-    }
-    p == 0
+    i == j || p == 0
 }
 
 // Whether the line of (j, i) is as it should be.
+#[tactic(auto, unfolding(crate::specs::Conditions::pair_well))]
 fn pair_well(rows: &Rows, ps: &[u32; PAIRS], primes: &Row, n: usize, j: usize, i: usize) -> bool
     requires { (n ≤ max_generators) × (j < n) × (i ≤ j) }
     ensures { result ≡ pair_well rows.now ps.now primes.now n j i }
 {
     let k = pair(j, i);
-    if !p_well(ps[k], j, i) {
-        return false;
-    }
-    row_well(&rows[k], primes, n, j, i)
+    p_well(ps[k], j, i) && row_well(&rows[k], primes, n, j, i)
 }
 
 // Whether the lines of generator j are as they should be.
@@ -101,14 +85,7 @@ fn generator_well(rows: &Rows, ps: &[u32; PAIRS], primes: &Row, n: usize, j: usi
     requires { (n ≤ max_generators) × (j < n) }
     ensures { result ≡ all_below (suc j) (λ i. pair_well rows.now ps.now primes.now n j i) }
 {
-    let mut i: usize = 0;
-    while i <= j {
-        if !pair_well(rows, ps, primes, n, j, i) {
-            return false;
-        }
-        i += 1;
-    }
-    true
+    (0..j + 1).all(|i| pair_well(rows, ps, primes, n, j, i))
 }
 
 // Whether all lines are as they should be.
@@ -116,12 +93,5 @@ pub fn well(rows: &Rows, ps: &[u32; PAIRS], primes: &Row, n: usize) -> bool
     requires { n ≤ max_generators }
     ensures { result ≡ all_well rows.now ps.now primes.now n }
 {
-    let mut j: usize = 0;
-    while j < n {
-        if !generator_well(rows, ps, primes, n, j) {
-            return false;
-        }
-        j += 1;
-    }
-    true
+    (0..n).all(|j| generator_well(rows, ps, primes, n, j))
 }

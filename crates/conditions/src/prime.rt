@@ -10,12 +10,13 @@ pub fn is_prime(p: u32) -> bool
     if p < 2 {
         return false;
     }
-    let mut d: u32 = 2;
-    while d * d <= p {
+    for d in 2..p {
+        if p < d * d {
+            return true;
+        }
         if p % d == 0 {
             return false;
         }
-        d += 1;
     }
     true
 }

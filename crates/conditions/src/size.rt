@@ -25,11 +25,9 @@ pub fn measure(primes: &Row, n: usize) -> Size
 {
     let mut order: u32 = 1;
     let mut elements: u32 = 0;
-    let mut j: usize = 0;
-    while j < n {
-        order = order * primes[j];
-        elements = elements + order;
-        j += 1;
+    for p in &primes[..n] {
+        order *= *p;
+        elements += order;
     }
     Size {
         order,
@@ -46,10 +44,8 @@ pub fn level_orders(primes: &Row, n: usize) -> Orders
     ensures { LevelOrders primes.now n result }
 {
     let mut r = [1u32; GENERATORS + 1];
-    let mut j: usize = 0;
-    while j < n {
+    for j in 0..n {
         r[j + 1] = r[j] * primes[j];
-        j += 1;
     }
     r
 }

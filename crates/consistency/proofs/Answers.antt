@@ -5,7 +5,8 @@
 --   power-kept, commutator-kept, power-fixed, inner-at     the single tests
 --   commutator-low, commutator-high, inner-central    the same where a generator commutes with every one up to i
 --   powers-all, commutators-all, inner-all     the tests of all generators or pairs as the definitions name them
---   level-first, level-second, level-third, level-last     the test of a generator, by its first part that fails
+--   both-stops, both-goes, tests-all     the test of a generator: its parts, one after another, and all
+--   settled-of                     an answer, where what is read is known by equations
 use mathlib.Core.Path.{◌≡◌, refl, sym, ◌∙◌, ap, ap₂, subst}
 use mathlib.Core.Bool.{Bool, true, false, ◌&&◌}
 use mathlib.Core.List.{List, []}
@@ -156,28 +157,20 @@ module _ {i : ℕ} {ps : List ℕ} {rows : List (List ℕ)} where
   unfolding power_is_inner inner_at
   inner-all a = record { is = a.is }
 
-  pub level-first : {a : Bool} → Settles i ps rows (λ P. keeps_powers P i) a → a ≡ false → Settles i ps rows (λ P. level_test P i) false
+  -- one test, and then another
+  module _ {q : Presentation → Bool} {a : Bool} (q' : Presentation → Bool) (t : Settles i ps rows q a) where
+    pub both-stops : {v : Bool} → v ≡ a → a ≡ false → Settles i ps rows (λ P. q P && q' P) v
+    both-stops w e = record { is = λ C R B. w ∙ e ∙ ap (λ s. s && q' C.P) (sym e ∙ t.is C R B) }
+
+    pub both-goes : {v b : Bool} → v ≡ b → a ≡ true → Settles i ps rows q' b → Settles i ps rows (λ P. q P && q' P) v
+    both-goes w e u = record { is = λ C R B. w ∙ u.is C R B ∙ ap (λ s. s && q' C.P) (sym e ∙ t.is C R B) }
+
+  pub tests-all : {b : Bool} → Settles i ps rows (λ P. keeps_powers P i && keeps_commutators P i && fixes_power P i && power_is_inner P i) b
+      → Settles i ps rows (λ P. level_test P i) b
   unfolding level_test
-  level-first qa e = record {
-    is = λ C R B. sym (ap (λ t. t && keeps_commutators C.P i && fixes_power C.P i && power_is_inner C.P i) (sym (qa.is C R B) ∙ e));
-  }
+  tests-all a = record { is = a.is }
 
-  module _ {a b : Bool} (qa : Settles i ps rows (λ P. keeps_powers P i) a) (ea : a ≡ true) (qb : Settles i ps rows (λ P. keeps_commutators P i) b) where
-    pub level-second : b ≡ false → Settles i ps rows (λ P. level_test P i) false
-    unfolding level_test
-    level-second eb = record {
-      is = λ C R B. sym (ap₂ (λ s t. s && t && fixes_power C.P i && power_is_inner C.P i) (sym (qa.is C R B) ∙ ea) (sym (qb.is C R B) ∙ eb));
-    }
-
-    module _ {c : Bool} (eb : b ≡ true) (qc : Settles i ps rows (λ P. fixes_power P i) c) where
-      rest : (C : Context) → Reads C.P (suc i) ps rows → ((j : ℕ) → j < i → level_test C.P j ≡ true)
-          → level_test C.P i ≡ (c && power_is_inner C.P i)
-      unfolding level_test
-      rest C R B = ap₂ (λ s t. s && t && fixes_power C.P i && power_is_inner C.P i) (sym (qa.is C R B) ∙ ea) (sym (qb.is C R B) ∙ eb)
-          ∙ ap (λ t. t && power_is_inner C.P i) (sym (qc.is C R B))
-
-      pub level-third : c ≡ false → Settles i ps rows (λ P. level_test P i) false
-      level-third ec = record { is = λ C R B. sym (rest C R B ∙ ap (λ t. t && power_is_inner C.P i) ec) }
-
-      pub level-last : {d : Bool} → c ≡ true → Settles i ps rows (λ P. power_is_inner P i) d → Settles i ps rows (λ P. level_test P i) d
-      level-last ec qd = record { is = λ C R B. sym (rest C R B ∙ ap (λ t. t && power_is_inner C.P i) ec ∙ sym (qd.is C R B)) }
+-- the same, where what is read is known by equations
+pub settled-of : {i : ℕ} {ps qs : List ℕ} {rows words : List (List ℕ)} {q : Presentation → Bool} {b : Bool} → ps ≡ qs → rows ≡ words
+    → Settles i ps rows q b → Settles i qs words q b
+settled-of {i} {ps} {qs} {rows} {words} {q} {b} f g s = subst (λ x. Settles i x words q b) f (subst (λ x. Settles i ps x q b) g s)

@@ -2,7 +2,6 @@
 --
 --   images-none, images-more      the table of images, one more
 --   value_none, value-more        the value over the images, one exponent more
---   prepared-lower, generator-small, power-word-small    what products below i ask: the presentation, a generator, the power word
 use mathlib.Core.Path.{◌≡◌, sym, ◌∙◌, ap, ap₂, subst}
 use mathlib.Core.List.{List, []}
 use Prim.Native.Nat.{ℕ, suc, ◌+◌, ◌<◌}
@@ -10,15 +9,14 @@ use native.Mathlib.Numerals.{add-one}
 use native.Mathlib.Omega.{arith}
 use lib.ListN.{length, get_or, set, replicate}
 use lib.Seq.{get_or-set_same, get_or-set_other}
-use Rattle.definitions.specs.Presentation.{max_generators, to_nf, power, value, pair_number}
+use Rattle.definitions.specs.Presentation.{max_generators, to_nf, power, value}
 use Rattle.definitions.specs.Consistency.{mul, conj, forms, image}
 use Rattle.numbers.proofs.Lists.{below_suc}
 use Rattle.group.proofs.Values.{value-zero, value-suc}
 use Rattle.group.proofs.Rows.{to_nf-suc, to_nf-trivial}
-use Rattle.rows.specs.Rows.{Small, Generator}
-use Rattle.rows.proofs.Forms.{zeros, generator-is, ready-below, reads-below, small-zeros, small-generator, word_small}
-use Rattle.collector.specs.Products.{Prepared, Conjugate, Scaled}
-use Rattle.collector.proofs.Calls.{prepared-below}
+use Rattle.rows.specs.Rows.{Small, Ranged, Generator}
+use Rattle.rows.proofs.Forms.{zeros, generator-is, ready-below, reads-below, small-zeros}
+use Rattle.collector.specs.Products.{Conjugate, Scaled}
 use Rattle.consistency.specs.Images.{Images, Value}
 
 module _ {i : ℕ} {ps : List ℕ} {rows : List (List ℕ)} where
@@ -35,9 +33,9 @@ module _ {i : ℕ} {ps : List ℕ} {rows : List (List ℕ)} where
         (ap (to_nf i) (get_or-set_same h k c [] l) ∙ q.is C R ∙ ap (conj C.P i i) (generator-is i k g gg));
   })
 
-  pub value_none : {x reach : List ℕ} → Prepared (suc i) ps rows reach → Value i ps rows 0 x (replicate max_generators 0)
-  value_none {x} P = record {
-    small = small-zeros (ready-below {m = i} (omega arith) P.ranged);
+  pub value_none : {n : ℕ} {x : List ℕ} → i < n → Ranged n ps rows → Value i ps rows 0 x (replicate max_generators 0)
+  value_none {n} {x} l r = record {
+    small = small-zeros (ready-below {m = i} (omega arith) r);
     is = λ C R. to_nf-trivial i (replicate max_generators 0) (λ m l. zeros m) ∙ sym (value-zero (forms C.P i) (image C.P i) (to_nf 0 x));
   }
 
@@ -49,13 +47,3 @@ module _ {i : ℕ} {ps : List ℕ} {rows : List (List ℕ)} where
         ∙ ap₂ (λ g w. mul C.P i (power (forms C.P i) g (get_or x m 0)) w) (t.is C R m l) (a.is C R)
         ∙ sym (value-suc (forms C.P i) (image C.P i) m (get_or x m 0, to_nf m x)) ∙ ap (value (forms C.P i) (image C.P i) (suc m)) (sym (to_nf-suc m x));
   })
-
-module _ {i : ℕ} {ps : List ℕ} {rows : List (List ℕ)} {reach : List ℕ} (P : Prepared (suc i) ps rows reach) where
-  pub prepared-lower : Prepared i ps rows reach
-  prepared-lower = prepared-below (omega arith) P
-
-  pub generator-small : {k : ℕ} {g : List ℕ} → Generator k g → Small i ps g
-  generator-small = small-generator prepared-lower.ranged
-
-  pub power-word-small : {u : List ℕ} → u ≡ get_or rows (pair_number i i) [] → Small i ps u
-  power-word-small = word_small i i P.ranged (omega arith) (omega arith) (omega arith)

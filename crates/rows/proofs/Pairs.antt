@@ -1,8 +1,7 @@
 -- The numbers of pairs of generators, as the code finds them.
 --
---   pair_small, pair-below         their bounds
+--   pair-below                     their bound
 --   pair-power, pair-commutator    the number of (j, j), and of (j, i) for i < j
---   pair-room                      the latter as the code finds it is in range
 use mathlib.Core.Path.{◌≡◌, sym, ◌∙◌, ap}
 use mathlib.Core.Logic.{◌≢◌}
 use Prim.Native.Nat.{ℕ, suc, ◌+◌, ◌*◌, ◌/◌, ◌≤◌, ◌<◌}
@@ -19,12 +18,6 @@ pair-below j i a b = pair_number-below max_generators j i a b
 pub pair-power : (j : ℕ) → j * (j + 1) / 2 ≡ pair_number j j
 pair-power j = triangle j ∙ sym (pair_number-power j)
 
-pub pair_small : (j : ℕ) → j < max_generators → j * (j + 1) / 2 < pair_count
-pair_small j h = omega (arith, pair-power j, pair-below j j (omega arith) h)
-
 pub pair-commutator : (j i : ℕ) → i ≤ j → i ≢ j → j * (j + 1) / 2 + i + 1 ≡ pair_number j i
 pair-commutator j i a b = let e : sum j suc + i + 1 ≡ sum j suc + suc i = omega arith in
     ap (λ t. t + i + 1) (triangle j) ∙ e ∙ sym (pair_number-commutator j i (omega arith))
-
-pub pair-room : (j i : ℕ) → i ≤ j → j < max_generators → i ≢ j → j * (j + 1) / 2 + i + 1 < pair_count
-pair-room j i a b n = omega (arith, pair-commutator j i a n, pair-below j i a b)

@@ -37,7 +37,7 @@ pub type Rows = [[u32; GENERATORS]; PAIRS];
 pub fn wide(x: u32) -> u64
     ensures { (result ≡ x) × (result < 4294967296) }
 {
-    x as u64
+    u64::from(x)
 }
 
 // The number of the pair (j, i), i ≤ j, in the order of the lines of a text.
@@ -73,14 +73,7 @@ pub fn same(i: usize, x: Row, y: Row) -> bool
     requires { i ≤ max_generators }
     ensures { result ≡ same_form i (to_nf i x) (to_nf i y) }
 {
-    let mut k = i;
-    while k > 0 {
-        k -= 1;
-        if x[k] != y[k] {
-            return false;
-        }
-    }
-    true
+    x[..i] == y[..i]
 }
 
 // The row says the trivial form of level i.
@@ -96,12 +89,10 @@ pub fn top(i: usize, x: &Row) -> usize
     requires { i ≤ max_generators }
     ensures { Top i x.now result }
 {
-    let mut k = i;
-    while k > 0 {
-        if x[k - 1] != 0 {
-            return k;
+    for k in (0..i).rev() {
+        if x[k] != 0 {
+            return k + 1;
         }
-        k -= 1;
     }
     0
 }
@@ -112,9 +103,7 @@ pub fn stacked(k: usize, low: Row, high: Row, s: u32) -> Row
     ensures { Stacked k low high s result }
 {
     let mut r = high;
-    for q in 0..k {
-        r[q] = low[q];
-    }
+    r[..k].copy_from_slice(&low[..k]);
     r[k] = s;
     r
 }
@@ -124,7 +113,5 @@ pub fn copied(k: usize, low: Row, x: &mut Row)
     requires { (k ≤ max_generators) × (length x.old ≡ max_generators) }
     ensures { Mixed low x.old k x.new }
 {
-    for q in 0..k {
-        x[q] = low[q];
-    }
+    x[..k].copy_from_slice(&low[..k]);
 }

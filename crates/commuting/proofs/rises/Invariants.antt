@@ -1,13 +1,9 @@
 -- `rises` meets its contract: the table is right below c.
 use mathlib.Core.Path.{◌≡◌}
-use Prim.Native.Nat.{◌-◌, ◌≤◌}
 use lib.ListN.{length}
 use Rattle.definitions.specs.Presentation.{max_generators}
 use Rattle.commuting.specs.Commuting.{Central}
 use Rattle.commuting.proofs.rises.Given as goal
 
 abbrev pub invariant-loop-c : goal.invariant-loop-c
-invariant-loop-c l = (l.n ≤ max_generators) × (l.c ≤ l.n) × (length l.r ≡ max_generators) × Central l.c l.rows l.r
-
-abbrev pub decreases-loop-c : goal.decreases-loop-c
-decreases-loop-c l = l.n - l.c
+invariant-loop-c l = (length l.r ≡ max_generators) × Central l.c l.rows l.r

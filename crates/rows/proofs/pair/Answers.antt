@@ -2,18 +2,9 @@
 use mathlib.Core.Path.{sym, ◌∙◌, ap}
 use Rattle.definitions.specs.Presentation.{pair_number}
 use native.Mathlib.Omega.{arith}
-use Rattle.rows.proofs.Pairs.{pair_small, pair-below, pair-power, pair-commutator, pair-room}
+use Rattle.rows.proofs.Pairs.{pair-below, pair-power, pair-commutator}
 use borrow.Author.Rules.{rules}
 use Rattle.rows.proofs.pair.Goals as goal
-
-pub overflow_mul-first : goal.overflow_mul-first
-overflow_mul-first c = omega (arith, pair_small c.args.j (search rules))
-
-pub overflow_add-result : goal.overflow_add-result
-overflow_add-result c = let a = c.args in omega (arith, pair-room a.j a.i (search rules) (search rules) (search rules))
-
-pub overflow_add-result-else-i-j : goal.overflow_add-result-else-i-j
-overflow_add-result-else-i-j c = let a = c.args in omega (arith, pair-room a.j a.i (search rules) (search rules) (search rules))
 
 pub returns-then-i-j : goal.returns-then-i-j
 returns-then-i-j c = let e = pair-power c.args.j ∙ ap (pair_number c.args.j) (sym c.if-i-j.true) in

@@ -1,19 +1,18 @@
 -- The lines are tested one by one.
-use mathlib.Core.Path.{sym, ◌∙◌}
+use mathlib.Core.Path.{◌∙◌, ap}
+use Prim.Native.Nat.{◌+◌}
+use native.Mathlib.Numerals.{add-one}
 use native.Mathlib.Omega.{arith}
-use Rattle.numbers.proofs.Tested.{tested-none, tested-more, tested-all, tested-fails}
+use borrow.Author.Rules.{rules}
+use Rattle.std.proofs.lemmas.Iterator.{YieldsList-from_range}
+use Rattle.std.proofs.lemmas.Iterator.Search.{all_from_yields_List}
+use Rattle.definitions.specs.Lists.{all_below}
+use Rattle.numbers.proofs.Tested.{all-of_range}
+use Rattle.conditions.specs.Conditions.{pair_well}
 use Rattle.conditions.proofs.judge.generator_well.Goals as goal
 
-pub loop-i-init : goal.loop-i-init
-loop-i-init c = tested-none
-
-pub returns-then-not-pair_well : goal.returns-then-not-pair_well
-returns-then-not-pair_well c = let t = c.pair_well in
-    tested-fails c.loop-i.invariant (omega arith) (sym t.ensures ∙ c.if-not-pair_well.true)
-
-pub loop-i-preserved : goal.loop-i-preserved
-loop-i-preserved c = let t = c.pair_well in
-    tested-more c.loop-i.invariant (sym t.ensures ∙ c.if-not-pair_well.false)
-
 pub returns : goal.returns
-returns c = tested-all c.loop-i.invariant (omega arith)
+returns c = let a = c.args in
+    all_from_yields_List (λ i. pair_well a.rows.now a.ps.now a.primes.now a.n a.j i) _ _ _ c.all.ensures.ran
+    (YieldsList-from_range 0 (a.j + 1) (a.j + 1) (cc) (omega arith)) (λ x b q k. search rules)
+    ∙ all-of_range _ (a.j + 1) ∙ ap (λ k. all_below k (λ i. pair_well a.rows.now a.ps.now a.primes.now a.n a.j i)) (add-one a.j)

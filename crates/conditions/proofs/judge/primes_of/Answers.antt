@@ -7,7 +7,7 @@ pub loop-j-init : goal.loop-j-init
 loop-j-init c = primes-none
 
 pub loop-j-preserved : goal.loop-j-preserved
-loop-j-preserved c = primes-more c.pair-r.result c.loop-j.invariant (omega arith) c.pair-r.ensures.0
+loop-j-preserved c = primes-more c.pair.result c.loop-j.invariant (omega arith) c.pair.ensures.0
 
 pub returns : goal.returns
 returns c = primes-all c.loop-j.invariant (omega arith)

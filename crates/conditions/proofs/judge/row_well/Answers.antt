@@ -1,22 +1,16 @@
 -- The exponents are tested one by one.
-use mathlib.Core.Path.{sym, ◌∙◌}
+use mathlib.Core.Path.{◌∙◌}
+use lib.ListN.{get_or}
 use native.Mathlib.Omega.{arith}
-use Rattle.numbers.proofs.Tested.{tested-none, tested-more, tested-all, tested-fails}
-use Rattle.conditions.specs.Conditions.{row_wells}
+use borrow.Author.Rules.{rules}
+use Rattle.std.proofs.lemmas.Iterator.{YieldsList-from_range}
+use Rattle.std.proofs.lemmas.Iterator.Search.{all_from_yields_List}
+use Rattle.numbers.proofs.Tested.{all-of_range}
+use Rattle.conditions.specs.Conditions.{row_wells, entry_well}
 use Rattle.conditions.proofs.judge.row_well.Goals as goal
-
-pub loop-k-init : goal.loop-k-init
-loop-k-init c = tested-none
-
-pub returns-then-not-entry_well : goal.returns-then-not-entry_well
-unfolding row_wells
-returns-then-not-entry_well c = let t = c.entry_well in
-    tested-fails c.loop-k.invariant (omega arith) (sym t.ensures ∙ c.if-not-entry_well.true)
-
-pub loop-k-preserved : goal.loop-k-preserved
-loop-k-preserved c = let t = c.entry_well in
-    tested-more c.loop-k.invariant (sym t.ensures ∙ c.if-not-entry_well.false)
 
 pub returns : goal.returns
 unfolding row_wells
-returns c = tested-all c.loop-k.invariant (omega arith)
+returns c = let a = c.args in
+    all_from_yields_List (λ k. entry_well (get_or a.row.now k 0) (get_or a.primes.now k 0) a.j a.i k) _ _ _ c.all.ensures.ran
+    (YieldsList-from_range 0 a.n a.n (cc) (omega arith)) (λ x b q k. search rules) ∙ all-of_range _ a.n

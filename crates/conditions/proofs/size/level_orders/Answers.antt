@@ -9,7 +9,7 @@ loop-j-init c = (orders-none, omega arith, omega arith)
 
 pub overflow_mul-r : goal.overflow_mul-r
 overflow_mul-r c = let l = c.loop-j in
-    omega (arith, turn-fits c.args.primes.now c.args.n l.j _ c.requires.by_index (omega arith) (l.invariant.0.each l.j (omega arith)))
+    omega (arith, turn-fits c.args.primes.now c.args.n l.j _ _ c.requires.by_index (omega arith) (l.invariant.0.each l.j (omega arith)) refl)
 
 pub loop-j-preserved : goal.loop-j-preserved
 loop-j-preserved c = let ps = c.args.primes.now in
