@@ -16,10 +16,11 @@ use Rattle.text.proofs.Writing.{wrote_as, wrote_none}
 use Rattle.lines.specs.Lines.{Space, Appended}
 use Rattle.lines.proofs.Appending.{Going}
 use Rattle.survey.specs.declared.Frame.{Frame}
+use Rattle.survey.specs.declared.Note.{Note}
 use Rattle.survey.specs.Below.{deg_of, target_of, leader_in, source_in, Fixed, Leads, LevelStands, Surveyed}
 use Rattle.survey.proofs.Level.{moved-many}
 use Rattle.survey.proofs.Marking.{lead-fixed}
-use Rattle.orbits.specs.Blocks.{block_width}
+use Rattle.orbits.specs.declared.Block.{Block}
 use Rattle.extend.specs.Extending.{extensions_words}
 use Rattle.induce.specs.Inducing.{induction_words}
 use Rattle.builder.specs.Above.{above_in, next_words}
@@ -39,7 +40,7 @@ module _ (f : Frame) (W : List ℕ) (rows : List (List ℕ)) where
       level-wrote f.gens (source_in f W rows) (subst (λ k. Going low (above_in f W rows) w₀ at₀ k w at) e G)
 
   -- the generator on top leads r to x
-  module _ (r : ℕ) {x : ℕ} (t : x ≡ target_of f W f.top r) {notes : List ℕ} (Y : Surveyed f W rows notes) (h : r < f.reps) where
+  module _ (r : ℕ) {x : ℕ} (t : x ≡ target_of f W f.top r) {notes : List Note} (Y : Surveyed f W rows notes) (h : r < f.reps) where
     pub extensions-asked : x ≡ r → {at : ℕ} {w : List ℕ} → Space f.end at (length (above_in f W rows r)) w
         → (Surveyed f W rows notes × (r < f.reps) × Fixed f W r) × Space f.end at (f.p * (8 * (f.gens * deg_of f W r))) w
     extensions-asked e R =
@@ -54,8 +55,8 @@ module _ (f : Frame) (W : List ℕ) (rows : List (List ℕ)) where
       moves : ¬ Fixed f W r
       moves e = v (t ∙ e)
 
-      pub induction-asked : (blocks : List ℕ) → BlocksLent f blocks → {at : ℕ} {w : List ℕ} → Space f.end at (length (above_in f W rows r)) w
-          → (Surveyed f W rows notes × Leads f W r × (block_width * f.p ≤ length blocks)) × Space f.end at (8 * (f.gens * (f.p * deg_of f W r))) w
+      pub induction-asked : (blocks : List Block) → BlocksLent f blocks → {at : ℕ} {w : List ℕ} → Space f.end at (length (above_in f W rows r)) w
+          → (Surveyed f W rows notes × Leads f W r × (f.p ≤ length blocks)) × Space f.end at (8 * (f.gens * (f.p * deg_of f W r))) w
       induction-asked blocks B R =
           let long = led-length f.gens (source_in f W rows) r (ne_eqb _ r moves) (eq-eqb _ r led) in
           let lent = B (moved-many f W Y.sound.stands r h moves) in

@@ -5,14 +5,14 @@
 use mathlib.Core.Path.{◌≡◌, refl, sym, ◌∙◌, ap, subst}
 use mathlib.Core.List.{List, []}
 use Prim.Native.Nat.{ℕ, ◌<◌}
-use native.Mathlib.Omega.{arith}
 use lib.ListN.{get_or}
 use Rattle.definitions.specs.Presentation.{pair_number}
 use Rattle.formulas.specs.Formulas.{start, made, shift}
 use Rattle.survey.specs.declared.Frame.{Frame}
-use Rattle.survey.specs.Notes.{numbers, shifts, Beside}
+use Rattle.survey.specs.declared.Note.{Note}
+use Rattle.survey.specs.Notes.{numbers, shifts, without_number, without_shift, Beside}
 use Rattle.survey.specs.Below.{source_in, number_in, closing_in, leading_in, LevelStands, Array, Leading, Sound, Orbited, Surveyed}
-use Rattle.survey.proofs.Notes.{orbited-beside}
+use Rattle.survey.proofs.Notes.{kept, orbit_of, orbits_kept}
 use Rattle.survey.proofs.Counting.{leading-least, leading-below}
 use Rattle.targets.proofs.Targets.{shift-closing}
 
@@ -31,13 +31,13 @@ module _ (f : Frame) (W : List ℕ) (rows : List (List ℕ)) (a : List ℕ) wher
     below = λ r l. subst (λ x. x < f.m) (sym (A.at r l)) (leading-below f W S.modulus.0 u r);
   }
 
-module _ {f : Frame} {W : List ℕ} {rows : List (List ℕ)} {a b c : List ℕ} where
+module _ {f : Frame} {W : List ℕ} {rows : List (List ℕ)} (a b c : List Note) where
   -- a has the orbits, b the numbers too, and c the shifts of the power word u
-  pub surveyed : Sound f W rows → Orbited f W a → Beside 3 a b → Array f W (numbers b) (number_in f W) → Beside 4 b c
+  pub surveyed : Sound f W rows → Orbited f W a → Beside without_number a b → Array f W (numbers b) (number_in f W) → Beside without_shift b c
       → {u : List ℕ} {t : ℕ} → t ≡ f.top → u ≡ get_or rows (pair_number t t) [] → Array f W (shifts c) (leading_in f W u) → Surveyed f W rows c
   surveyed S O B N B' {u} {t} e w H = record {
     sound = S;
-    orbited = orbited-beside 4 (omega arith) B' (orbited-beside 3 (omega arith) B O);
-    numbers_are = numbers-named f W rows _ (subst (λ x. Array f W x (number_in f W)) (sym (B'.kept 3 (omega arith) (λ e. omega (arith, e)))) N);
+    orbited = orbits_kept b c (kept orbit_of without_shift b c B') (orbits_kept a b (kept orbit_of without_number a b B) O);
+    numbers_are = numbers-named f W rows _ (subst (λ x. Array f W x (number_in f W)) (sym (kept (λ n. n.number) without_shift b c B')) N);
     shifts_are = shifts-named f W rows _ S.stands u (w ∙ ap (λ t. get_or rows (pair_number t t) []) e) H;
   }

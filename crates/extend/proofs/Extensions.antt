@@ -41,9 +41,11 @@ use Rattle.lines.specs.Lines.{head_line, copy_lines, block_lines, Copied, Space,
 use Rattle.lines.proofs.Written.{copy-block}
 use Rattle.lines.proofs.Appending.{Going, going_more, going-even, space-none}
 use Rattle.survey.specs.declared.Frame.{Frame}
+use Rattle.survey.specs.declared.Note.{Note}
 use Rattle.survey.specs.Below.{low_of, deg_of, matrix_of, source_in, LevelStands, Fixed, Sound, Surveyed}
 use Rattle.survey.proofs.Counting.{number_fits}
 use Rattle.survey.proofs.Level.{located-stored, located-degree}
+use Rattle.targets.specs.declared.Target.{Target}
 use Rattle.targets.specs.Reached.{starts, landings, Aimed}
 use Rattle.targets.proofs.Targets.{shift-below, root-known}
 use Rattle.extend.specs.Extending.{origin_of, factor_of, power_of, reference_of, Extends, Copies, copy_head, copy_piece, copy_words, low_words, extension_words}
@@ -78,7 +80,7 @@ module _ (f : Frame) (W : List ℕ) (rows : List (List ℕ)) (S : LevelStands f 
 
 -- ---- What is copied
 
-pub origin-extends : {f : Frame} {W : List ℕ} {rows : List (List ℕ)} {notes targets : List ℕ} {r : ℕ} {o : Origin}
+pub origin-extends : {f : Frame} {W : List ℕ} {rows : List (List ℕ)} {notes : List Note} {targets : List Target} {r : ℕ} {o : Origin}
     → Surveyed f W rows notes → r < f.reps → Fixed f W r
     → Aimed f W rows r targets → o ≡ origin_of f W notes r → Extends f W rows targets o
 origin-extends {f} {W} {rows} {notes} {targets} {r} S l e R q = subst (Extends f W rows targets) (sym q) (record {
@@ -89,7 +91,7 @@ origin-extends {f} {W} {rows} {notes} {targets} {r} S l e R q = subst (Extends f
   step_is = refl;
 })
 
-pub extends-copies : {f : Frame} {W : List ℕ} {rows : List (List ℕ)} {targets : List ℕ} {o : Origin} → Extends f W rows targets o → Copies f W o
+pub extends-copies : {f : Frame} {W : List ℕ} {rows : List (List ℕ)} {targets : List Target} {o : Origin} → Extends f W rows targets o → Copies f W o
 extends-copies {f} {W} {rows} {targets} {o} E =
     let S = E.aimed.sound.stands in
     let l = E.aimed.listed in
@@ -110,7 +112,7 @@ power-known {f} {W} {rows} S g h l {n} {a} {t} en ea et =
     ap₂ (λ i j. get_or (get_or rows i []) j 0) (en ∙ ap₂ pair_number ea et) et in
     (ap (λ x. x + 1) v ∙ add-one _, omega (arith, v, S.words.below g h l))
 
-module _ {f : Frame} {W : List ℕ} {rows : List (List ℕ)} {r : ℕ} {targets : List ℕ} (R : Aimed f W rows r targets) (g : ℕ) (l : g < f.gens) where
+module _ {f : Frame} {W : List ℕ} {rows : List (List ℕ)} {r : ℕ} {targets : List Target} (R : Aimed f W rows r targets) (g : ℕ) (l : g < f.gens) where
   pub targets-small : f.top < g → (get_or (starts targets) g 0 ≤ 268435456) × (get_or (landings targets) g 0 ≤ max_modulus)
   targets-small h = let S = R.sound.stands in (
     subst (λ x. x ≤ 268435456) (sym (R.targeted.starts_are g h l)) (start_fits f W rows S _ (omega (arith, (S.target r R.listed g (omega arith) l).0))),
@@ -187,7 +189,7 @@ unfoldable pub matrix_words : (f : Frame) (W : List ℕ) (rows : List (List ℕ)
 matrix_words f W rows r k g =
     blocks (deg_of f W r) (λ c. line_of (suc f.top) (start (source_in f W rows) r + k) (extension_at (source_in f W rows) r k) g c)
 
-module _ {f : Frame} {W : List ℕ} {rows : List (List ℕ)} {targets : List ℕ} {o : Origin} (E : Extends f W rows targets o) (k g : ℕ) where
+module _ {f : Frame} {W : List ℕ} {rows : List (List ℕ)} {targets : List Target} {o : Origin} (E : Extends f W rows targets o) (k g : ℕ) where
   copy-as : {x : ℕ} → ((y : ℕ) → x ≡ (extension_at (source_in f W rows) o.rep k).ref g y)
       → copy_words f W o k g x ≡ matrix_words f W rows o.rep k g
   unfolding copy_words block_lines matrix_words head_line line_of extension_at
@@ -247,7 +249,7 @@ pub extension-words : (f : Frame) (rows : List (List ℕ)) (r k : ℕ) {n : ℕ}
 unfolding rep_words matrix_words extension_at
 extension-words f rows r k e q = ap₂ (λ n W. blocks n (matrix_words f W rows r k)) e q
 
-module _ {f : Frame} {W : List ℕ} {rows : List (List ℕ)} {targets : List ℕ} {o : Origin} (E : Extends f W rows targets o) (k : ℕ) where
+module _ {f : Frame} {W : List ℕ} {rows : List (List ℕ)} {targets : List Target} {o : Origin} (E : Extends f W rows targets o) (k : ℕ) where
   pub matrix-length : (g : ℕ) → length (matrix_words f W rows o.rep k g) ≡ 8 * o.source.deg
   unfolding matrix_words line_of
   matrix-length g =
@@ -274,7 +276,7 @@ module _ {f : Frame} {W : List ℕ} {rows : List (List ℕ)} {targets : List ℕ
 abbrev pub Onward : (low : ℕ) (f : ℕ → List ℕ) (k : ℕ) (w₁ : List ℕ) (at₁ n : ℕ) (w : List ℕ) (at : ℕ) → Type 0
 Onward low f k w₁ at₁ n w at = (w₀ : List ℕ) (at₀ : ℕ) → Going low f w₀ at₀ k w₁ at₁ → Going low f w₀ at₀ n w at
 
-module _ {f : Frame} {w : List ℕ} {rows : List (List ℕ)} {targets : List ℕ} {o : Origin} (E : Extends f (low_of f w) rows targets o) where
+module _ {f : Frame} {w : List ℕ} {rows : List (List ℕ)} {targets : List Target} {o : Origin} (E : Extends f (low_of f w) rows targets o) where
   pub low-space : {at : ℕ} → Space f.end at (8 * (f.gens * o.source.deg)) w → Space f.end at (8 * ((f.top + 1) * o.source.deg)) w
   low-space s =
       let d = o.source.deg in

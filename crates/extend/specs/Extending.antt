@@ -18,12 +18,14 @@ use Rattle.lines.specs.declared.Head.{Head}
 use Rattle.lines.specs.declared.Piece.{Piece}
 use Rattle.lines.specs.Lines.{block_lines}
 use Rattle.survey.specs.declared.Frame.{Frame}
+use Rattle.survey.specs.declared.Note.{Note}
 use Rattle.survey.specs.Notes.{numbers, shifts}
 use Rattle.survey.specs.Below.{source_in, listed_of, Located}
+use Rattle.targets.specs.declared.Target.{Target}
 use Rattle.targets.specs.Reached.{starts, landings, Aimed}
 use Rattle.extend.specs.declared.Origin.{Origin}
 
-abbrev pub origin_of : Frame → List ℕ → List ℕ → ℕ → Origin
+abbrev pub origin_of : Frame → List ℕ → List Note → ℕ → Origin
 origin_of f W notes r = record {
   rep = r;
   source = listed_of f W r;
@@ -42,7 +44,7 @@ power_of f rows g = suc (get_or (get_or rows (pair_number g f.top) []) f.top 0)
 
 -- the reference of a generator g above the one on top in extension k, from the number of the first extension of each target and
 -- the number there
-abbrev pub reference_of : Frame → List (List ℕ) → List ℕ → ℕ → ℕ → ℕ
+abbrev pub reference_of : Frame → List (List ℕ) → List Target → ℕ → ℕ → ℕ
 reference_of f rows targets g k = get_or (starts targets) g 0 + (get_or (landings targets) g 0 + k * power_of f rows g) % f.p
 
 -- the head of the lines of generator g in extension k, with reference x
@@ -70,7 +72,7 @@ module _ (f : Frame) (W : List ℕ) (o : Origin) where
 
 module _ (f : Frame) (W : List ℕ) (rows : List (List ℕ)) where
   -- what extensions are copied from, and where their intertwiners lead
-  pub record Extends (targets : List ℕ) (o : Origin) : Type 0 where
+  pub record Extends (targets : List Target) (o : Origin) : Type 0 where
     pub aimed : Aimed f W rows o.rep targets
     pub source_is : o.source ≡ listed_of f W o.rep
     pub number_is : o.number ≡ start (source_in f W rows) o.rep

@@ -17,9 +17,9 @@ ghost use Rattle.extend.specs.Extending.{copy_head, copy_words, low_words, exten
 
 use level::Listed;
 use lines::{Head, Piece};
-use rows::Rows;
-use survey::Frame;
-use targets::{LANDING, START, TARGETS};
+use rows::{GENERATORS, Rows};
+use survey::{Frame, Note};
+use targets::Target;
 
 // What the extensions of a representation are copied from: its number and its lines; the number and the constant of
 // extension 0; and what each extension adds to the constant.
@@ -33,14 +33,14 @@ pub struct Origin {
 }
 
 // What the extensions of representation r are copied from.
-fn find_origin(low: &[u32], notes: &[u32], f: Frame, r: u32) -> Origin
+fn find_origin(low: &[u32], notes: &[Note], f: Frame, r: u32) -> Origin
     requires { ((rows : List (List ℕ)) × Surveyed f low.now rows notes.now) × (r < f.reps) }
     ensures { result ≡ origin_of f low.now notes.now r }
 {
     Origin {
         rep: r,
         source: survey::listed(low, notes, f, r),
-        number: survey::note(notes, survey::NUMBER, r),
+        number: notes[r as usize].number,
         root: targets::root(notes, f, r),
         step: f.m / f.p,
     }
@@ -51,19 +51,19 @@ fn power(rows: &Rows, f: Frame, g: u32) -> u32
     requires { ((W : List ℕ) × Sound f W rows.now) × (f.top < g) × (g < f.gens) }
     ensures { (result ≡ power_of f rows.now g) × (result ≤ f.p) }
 {
-    let t = level::up(f.top);
-    let at = rows::pair(level::up(g), t);
+    let t = f.top as usize;
+    let at = rows::pair(g as usize, t);
     rows[at][t] + 1
 }
 
 // The reference of a generator g above the one on top in extension k.
-fn reference(rows: &Rows, targets: &[u32], f: Frame, g: u32, k: u32) -> u32
+fn reference(rows: &Rows, targets: &[Target], f: Frame, g: u32, k: u32) -> u32
     requires { ((W : List ℕ) × ((r : ℕ) × Aimed f W rows.now r targets.now)) × (f.top < g) × (g < f.gens) × (k < f.p) }
     ensures { result ≡ reference_of f rows.now targets.now g k }
 {
     let a = power(rows, f, g);
-    let l = targets::target(targets, LANDING, g);
-    targets::target(targets, START, g) + (l + k * a) % f.p
+    let t = targets[g as usize];
+    t.start + (t.landing + k * a) % f.p
 }
 
 // What the lines of generator g of extension k share, with reference x.
@@ -117,8 +117,7 @@ fn append_low(words: &mut [u32], f: Frame, o: Origin, at: usize, k: u32) -> usiz
     ensures { Appended words.old at (low_words f (low_of f words.old) o k) words.new result }
 {
     let mut pos = at;
-    let top = f.top;
-    for g in 0..top {
+    for g in 0..f.top {
         pos = append_matrix(words, f, o, pos, k, g, o.rep);
     }
     append_top(words, f, o, pos, k)
@@ -128,7 +127,7 @@ fn append_low(words: &mut [u32], f: Frame, o: Origin, at: usize, k: u32) -> usiz
 fn append_extension(
     words: &mut [u32],
     rows: &Rows,
-    targets: &[u32],
+    targets: &[Target],
     f: Frame,
     o: Origin,
     at: usize,
@@ -139,9 +138,7 @@ fn append_extension(
     ensures { Appended words.old at (extension_words f (low_of f words.old) rows.now o.rep k) words.new result }
 {
     let mut pos = append_low(words, f, o, at, k);
-    let above = f.top + 1;
-    let gens = f.gens;
-    for g in above..gens {
+    for g in f.top + 1..f.gens {
         let x = reference(rows, targets, f, g, k);
         pos = append_matrix(words, f, o, pos, k, g, x);
     }
@@ -152,7 +149,7 @@ fn append_extension(
 fn append_each(
     words: &mut [u32],
     rows: &Rows,
-    targets: &[u32],
+    targets: &[Target],
     f: Frame,
     o: Origin,
     at: usize,
@@ -162,8 +159,7 @@ fn append_each(
     ensures { Appended words.old at (extensions_words f (low_of f words.old) rows.now o.rep) words.new result }
 {
     let mut pos = at;
-    let p = f.p;
-    for k in 0..p {
+    for k in 0..f.p {
         pos = append_extension(words, rows, targets, f, o, pos, k);
     }
     pos
@@ -173,7 +169,7 @@ fn append_each(
 pub fn append_extensions(
     words: &mut [u32],
     rows: &Rows,
-    notes: &[u32],
+    notes: &[Note],
     f: Frame,
     at: usize,
     r: u32,
@@ -183,7 +179,7 @@ pub fn append_extensions(
     ensures { Appended words.old at (extensions_words f (low_of f words.old) rows.now r) words.new result }
 {
     let n = 8 * f.end;
-    let mut targets = [0u32; TARGETS];
+    let mut targets = [Target::default(); GENERATORS];
     targets::find_targets(&words[..n], rows, notes, &mut targets, f, r);
     let o = find_origin(&words[..n], notes, f, r);
     append_each(words, rows, &targets, f, o, at)

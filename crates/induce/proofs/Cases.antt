@@ -12,8 +12,10 @@ use lib.ListN.{get_or}
 use Rattle.numbers.proofs.Bools.{cond-lt, cond-ge, cond-eq, cond-ne}
 use Rattle.formulas.specs.Formulas.{block_to}
 use Rattle.survey.specs.declared.Frame.{Frame}
+use Rattle.survey.specs.declared.Note.{Note}
 use Rattle.survey.specs.Notes.{shifts}
 use Rattle.survey.specs.Below.{target_of, source_in, position_in}
+use Rattle.orbits.specs.declared.Block.{Block}
 use Rattle.orbits.specs.Blocks.{scalars, member_of}
 use Rattle.induce.specs.Inducing.{factor_in}
 
@@ -30,7 +32,7 @@ module _ (f : Frame) (W : List ℕ) (r g b : ℕ) where
   unfolding block_to
   to-above h = sym (cond-ge g f.top _ _ (omega arith) ∙ cond-ne g f.top _ _ (λ e. omega (arith, e)))
 
-module _ (f : Frame) (notes blocks : List ℕ) (r g b : ℕ) where
+module _ (f : Frame) (notes : List Note) (blocks : List Block) (r g b : ℕ) where
   pub by_next : g ≡ f.top → suc b < f.p → 0 ≡ factor_in f notes blocks r g b
   unfolding factor_in
   by_next e h = sym (cond-eq g f.top _ _ e ∙ cond-lt (suc b) f.p _ _ h)

@@ -23,14 +23,16 @@ use Rattle.numbers.proofs.Blocks.{blocks-below}
 use Rattle.formulas.specs.Formulas.{Source, start, shift, leader, block_to, block_by, scalar, scalar_at, induction_at}
 use Rattle.lines.specs.Lines.{Space}
 use Rattle.survey.specs.declared.Frame.{Frame}
+use Rattle.survey.specs.declared.Note.{Note}
 use Rattle.survey.specs.Below.{deg_of, target_of, source_in, leader_in, Surveyed}
 use Rattle.survey.proofs.Marking.{lead-below}
+use Rattle.orbits.specs.declared.Block.{Block}
 use Rattle.orbits.specs.Blocks.{scalars, member_of, Inducing, BlockScalars}
 use Rattle.induce.specs.declared.Induction.{Induction}
 use Rattle.induce.specs.Inducing.{induction_of, number_above, factor_in, stills_in, still_words, cells_in, induced_words, induction_words}
 use Rattle.induce.proofs.Cells.{cell-is, induced-words}
 
-module _ (f : Frame) (W : List ℕ) (rows : List (List ℕ)) (notes b₁ : List ℕ) (i : Induction) (I : Inducing f W rows notes b₁ i.leader) (g : ℕ) where
+module _ (f : Frame) (W : List ℕ) (rows : List (List ℕ)) (notes : List Note) (b₁ : List Block) (i : Induction) (I : Inducing f W rows notes b₁ i.leader) (g : ℕ) where
   abbrev S : Source
   S = source_in f W rows
 
@@ -92,7 +94,7 @@ module _ (f : Frame) (W : List ℕ) (rows : List (List ℕ)) (notes b₁ : List 
 
 -- ---- The representation
 
-module _ (f : Frame) (W notes : List ℕ) (i : Induction) (r : ℕ) (e : i ≡ induction_of f W notes r) where
+module _ (f : Frame) (W : List ℕ) (notes : List Note) (i : Induction) (r : ℕ) (e : i ≡ induction_of f W notes r) where
   pub induced-degree : i.deg ≡ deg_of f W i.leader
   induced-degree = subst (λ (j : Induction). j.deg ≡ deg_of f W j.leader) (sym e) refl
 

@@ -19,24 +19,26 @@ use Rattle.lines.specs.declared.Head.{Head}
 use Rattle.lines.specs.declared.Piece.{Piece}
 use Rattle.lines.specs.Lines.{block_lines, Appended}
 use Rattle.survey.specs.declared.Frame.{Frame}
+use Rattle.survey.specs.declared.Note.{Note}
 use Rattle.survey.specs.Notes.{numbers, shifts}
 use Rattle.survey.specs.Below.{low_of, deg_of, target_of, matrix_of, source_in, leader_in, LevelStands}
+use Rattle.orbits.specs.declared.Block.{Block}
 use Rattle.orbits.specs.Blocks.{scalars, member_of, Listing}
 use Rattle.induce.specs.declared.Induction.{Induction}
 use Rattle.induce.specs.declared.Cell.{Cell}
 
-abbrev pub induction_of : (f : Frame) → (W notes : List ℕ) → ℕ → Induction
+abbrev pub induction_of : Frame → List ℕ → List Note → ℕ → Induction
 induction_of f W notes r = record { leader = r; number = get_or (numbers notes) r 0; deg = deg_of f W r }
 
-abbrev pub number_above : (f : Frame) → (W notes : List ℕ) → (g r : ℕ) → ℕ
+abbrev pub number_above : Frame → List ℕ → List Note → (g r : ℕ) → ℕ
 number_above f W notes g r = get_or (numbers notes) (leader_in f W (target_of f W g r)) 0
 
-pub record Writing (f : Frame) (W notes blocks : List ℕ) (i : Induction) (g : ℕ) : Type 0 where
+pub record Writing (f : Frame) (W : List ℕ) (notes : List Note) (blocks : List Block) (i : Induction) (g : ℕ) : Type 0 where
   pub listing : Listing f W notes blocks i.leader
   pub degree : i.deg ≡ deg_of f W i.leader
   pub inside : g < f.gens
 
-pub record Moving (f : Frame) (W notes blocks : List ℕ) (i : Induction) (g : ℕ) : Type 0 where
+pub record Moving (f : Frame) (W : List ℕ) (notes : List Note) (blocks : List Block) (i : Induction) (g : ℕ) : Type 0 where
   pub writing : Writing f W notes blocks i g
   pub high : f.top ≤ g
   pub scalars_below : f.top < g → (b : ℕ) → b < f.p → get_or (scalars blocks) b 0 < f.m
@@ -44,7 +46,7 @@ pub record Moving (f : Frame) (W notes blocks : List ℕ) (i : Induction) (g : �
 -- ---- A block
 
 -- the constant of block b for generator g, not below the one on top, from the shifts and the scalars
-unfoldable pub factor_in : Frame → (notes blocks : List ℕ) → (r g b : ℕ) → ℕ
+unfoldable pub factor_in : Frame → List Note → List Block → (r g b : ℕ) → ℕ
 factor_in f notes blocks r g b = cond (eqb g f.top) (cond (ltb (suc b) f.p) 0 (get_or (shifts notes) r 0)) (get_or (scalars blocks) b 0)
 
 -- block b of a generator that leaves it where it is
@@ -52,7 +54,7 @@ abbrev pub still_in : (f : Frame) → List ℕ → Induction → (g b : ℕ) →
 still_in f W i g b = let q = member_of f W i.leader b in record { src = matrix_of f W g q; from = b; to = b; by = 0; refn = q }
 
 -- block b of generator g, where x is the reference of the generators above the one on top
-abbrev pub cell_in : (f : Frame) → (W notes blocks : List ℕ) → Induction → (g x b : ℕ) → Cell
+abbrev pub cell_in : Frame → List ℕ → List Note → List Block → Induction → (g x b : ℕ) → Cell
 cell_in f W notes blocks i g x b =
     let q = member_of f W i.leader b in
     record {
@@ -88,11 +90,11 @@ stills_in f W i g b = cell_words f W i g (still_in f W i g b)
 abbrev pub still_words : (f : Frame) → List ℕ → Induction → ℕ → List ℕ
 still_words f W i g = blocks f.p (stills_in f W i g)
 
-unfoldable pub cells_in : (f : Frame) → (W notes blocks : List ℕ) → Induction → (g x : ℕ) → ℕ → List ℕ
+unfoldable pub cells_in : Frame → List ℕ → List Note → List Block → Induction → (g x : ℕ) → ℕ → List ℕ
 cells_in f W notes blocks i g x b = cell_words f W i g (cell_in f W notes blocks i g x b)
 
 -- the blocks of generator g are written from line `at` up to line y
-abbrev pub CellsWritten : (f : Frame) → (words notes blocks₁ : List ℕ) → Induction → (g x at : ℕ) → (words' : List ℕ) → (y : ℕ) → Type 0
+abbrev pub CellsWritten : Frame → List ℕ → List Note → List Block → Induction → (g x at : ℕ) → (words' : List ℕ) → (y : ℕ) → Type 0
 CellsWritten f words notes blocks₁ i g x at words' y = Appended words at (blocks f.p (cells_in f (low_of f words) notes blocks₁ i g x)) words' y
 
 -- ---- The formulas

@@ -13,13 +13,14 @@ ghost use Rattle.std.specs.Prelude.{◌≡◌, List, [], cond, ℕ, ◌*◌, ◌
 ghost use Rattle.formulas.specs.Formulas.{block_to};
 ghost use Rattle.lines.specs.Lines.{Appended, Space};
 ghost use Rattle.survey.specs.Below.{low_of, deg_of, matrix_of, source_in, LevelStands, Leads, Orbited, Surveyed};
-ghost use Rattle.orbits.specs.Blocks.{block_width, members, scalars, member_of, OrbitArray, Inducing, BlockScalars};
+ghost use Rattle.orbits.specs.Blocks.{members, scalars, member_of, OrbitArray, Inducing, BlockScalars};
 ghost use Rattle.induce.specs.Inducing.{induction_of, number_above, Writing, Moving, factor_in, still_in, cell_in, CellFits};
 ghost use Rattle.induce.specs.Inducing.{cell_words, still_words, CellsWritten, induced_words, induction_words};
 
 use lines::{Head, Piece};
+use orbits::Block;
 use rows::Rows;
-use survey::Frame;
+use survey::{Frame, Note};
 
 // What is induced from an orbit: the least representation of that, the number, and the degree of a block.
 #[derive(Clone, Copy)]
@@ -30,15 +31,15 @@ pub struct Induction {
 }
 
 // Lists the orbit of r, and finds what is induced from it.
-fn find_induction(low: &[u32], notes: &[u32], blocks: &mut [u32], f: Frame, r: u32) -> Induction
-    requires { ((rows : List (List ℕ)) × Surveyed f low.now rows notes.now) × (r < f.reps) × (block_width * f.p ≤ length blocks.old) }
+fn find_induction(low: &[u32], notes: &[Note], blocks: &mut [Block], f: Frame, r: u32) -> Induction
+    requires { ((rows : List (List ℕ)) × Surveyed f low.now rows notes.now) × (r < f.reps) × (f.p ≤ length blocks.old) }
     ensures { (result ≡ induction_of f low.now notes.now r) × OrbitArray f low.now (members blocks.new) r }
 {
     orbits::list_orbit(low, notes, blocks, f, r);
     let d = survey::listed(low, notes, f, r);
     Induction {
         leader: r,
-        number: survey::note(notes, survey::NUMBER, r),
+        number: notes[r as usize].number,
         deg: d.deg,
     }
 }
@@ -57,8 +58,8 @@ pub struct Cell {
 // Block b of a generator that leaves it where it is.
 fn find_still(
     low: &[u32],
-    notes: &[u32],
-    blocks: &[u32],
+    notes: &[Note],
+    blocks: &[Block],
     f: Frame,
     i: Induction,
     g: u32,
@@ -67,7 +68,7 @@ fn find_still(
     requires { Writing f low.now notes.now blocks.now i g × (b < f.p) }
     ensures { (result ≡ still_in f low.now i g b) × CellFits f low.now i result }
 {
-    let q = orbits::block(blocks, orbits::MEMBER, b);
+    let q = blocks[b as usize].member;
     let e = survey::member(low, notes, f, i.deg, q);
     Cell {
         src: level::matrix_line(e, g),
@@ -80,7 +81,7 @@ fn find_still(
 
 // The block to which generator g, not below the one on top, takes block b of the orbit of r: the matrix of g there begins at
 // line src.
-fn block_to(low: &[u32], notes: &[u32], f: Frame, r: u32, g: u32, b: u32, src: usize) -> u32
+fn block_to(low: &[u32], notes: &[Note], f: Frame, r: u32, g: u32, b: u32, src: usize) -> u32
     requires level_stands { LevelStands f low.now × Orbited f low.now notes.now × (r < f.reps) × (f.top ≤ g) × (g < f.gens) × (b < f.p) }
     requires src_value { src ≡ matrix_of f low.now g (member_of f low.now r b) }
     ensures { (result ≡ block_to (source_in f low.now []) r g b) × (result < f.p) }
@@ -89,21 +90,21 @@ fn block_to(low: &[u32], notes: &[u32], f: Frame, r: u32, g: u32, b: u32, src: u
         return if b + 1 < f.p { b + 1 } else { 0 };
     }
     let q = level::word_at(low, src, level::REF);
-    survey::note(notes, survey::POSITION, q)
+    notes[q as usize].position
 }
 
 // The constant of a block: the scalars are those of a generator above the one on top.
-fn block_by(notes: &[u32], blocks: &[u32], f: Frame, i: Induction, g: u32, b: u32) -> u32
+fn block_by(notes: &[Note], blocks: &[Block], f: Frame, i: Induction, g: u32, b: u32) -> u32
     requires { ((W : List ℕ) × Moving f W notes.now blocks.now i g) × (b < f.p) }
     ensures { (result ≡ factor_in f notes.now blocks.now i.leader g b) × (result < f.m) }
 {
     if g > f.top {
-        return orbits::block(blocks, orbits::SCALAR, b);
+        return blocks[b as usize].scalar;
     }
     if b + 1 < f.p {
         0
     } else {
-        survey::note(notes, survey::SHIFT, i.leader)
+        notes[i.leader as usize].shift
     }
 }
 
@@ -117,8 +118,8 @@ fn block_reference(f: Frame, g: u32, q: u32, x: u32) -> u32
 // Block b of generator g, not below the one on top; x is the reference of the generators above that.
 fn find_cell(
     low: &[u32],
-    notes: &[u32],
-    blocks: &[u32],
+    notes: &[Note],
+    blocks: &[Block],
     f: Frame,
     i: Induction,
     g: u32,
@@ -174,8 +175,8 @@ fn append_cell(words: &mut [u32], f: Frame, at: usize, i: Induction, g: u32, q: 
 // Appends the blocks of generator g, below the one on top: each stays.
 fn append_below(
     words: &mut [u32],
-    notes: &[u32],
-    blocks: &[u32],
+    notes: &[Note],
+    blocks: &[Block],
     f: Frame,
     at: usize,
     i: Induction,
@@ -186,8 +187,7 @@ fn append_below(
 {
     let n = 8 * f.end;
     let mut pos = at;
-    let p = f.p;
-    for b in 0..p {
+    for b in 0..f.p {
         let q = find_still(&words[..n], notes, blocks, f, i, g, b);
         pos = append_cell(words, f, pos, i, g, q);
     }
@@ -197,8 +197,8 @@ fn append_below(
 // Appends the blocks of generator g, not below the one on top: they may move. x is the reference of the generators above that.
 fn append_cells(
     words: &mut [u32],
-    notes: &[u32],
-    blocks: &[u32],
+    notes: &[Note],
+    blocks: &[Block],
     f: Frame,
     at: usize,
     i: Induction,
@@ -210,8 +210,7 @@ fn append_cells(
 {
     let n = 8 * f.end;
     let mut pos = at;
-    let p = f.p;
-    for b in 0..p {
+    for b in 0..f.p {
         let q = find_cell(&words[..n], notes, blocks, f, i, g, b, x);
         pos = append_cell(words, f, pos, i, g, q);
     }
@@ -222,8 +221,8 @@ fn append_cells(
 fn find_scalars(
     low: &[u32],
     rows: &Rows,
-    notes: &[u32],
-    blocks: &mut [u32],
+    notes: &[Note],
+    blocks: &mut [Block],
     f: Frame,
     r: u32,
     g: u32,
@@ -238,7 +237,7 @@ fn find_scalars(
 }
 
 // The number of the representation to which a generator above the one on top takes the one induced from r.
-fn induced_target(low: &[u32], notes: &[u32], f: Frame, r: u32, g: u32) -> u32
+fn induced_target(low: &[u32], notes: &[Note], f: Frame, r: u32, g: u32) -> u32
     requires { ((rows : List (List ℕ)) × Surveyed f low.now rows notes.now) × (r < f.reps) × (g < f.gens) }
     ensures { f.top < g → result ≡ number_above f low.now notes.now g r }
 {
@@ -247,16 +246,16 @@ fn induced_target(low: &[u32], notes: &[u32], f: Frame, r: u32, g: u32) -> u32
     }
     let d = survey::listed(low, notes, f, r);
     let q = level::target(low, d, g);
-    let l = survey::note(notes, survey::LEADER, q);
-    survey::note(notes, survey::NUMBER, l)
+    let l = notes[q as usize].leader;
+    notes[l as usize].number
 }
 
 // Appends generator g of the induced representation.
 fn append_generator(
     words: &mut [u32],
     rows: &Rows,
-    notes: &[u32],
-    blocks: &mut [u32],
+    notes: &[Note],
+    blocks: &mut [Block],
     f: Frame,
     at: usize,
     i: Induction,
@@ -280,21 +279,20 @@ fn append_generator(
 pub fn append_induction(
     words: &mut [u32],
     rows: &Rows,
-    notes: &[u32],
-    blocks: &mut [u32],
+    notes: &[Note],
+    blocks: &mut [Block],
     f: Frame,
     at: usize,
     r: u32,
 ) -> usize
-    requires surveyed { Surveyed f (low_of f words.old) rows.now notes.now × Leads f (low_of f words.old) r × (block_width * f.p ≤ length blocks.old) }
+    requires surveyed { Surveyed f (low_of f words.old) rows.now notes.now × Leads f (low_of f words.old) r × (f.p ≤ length blocks.old) }
     requires space { Space f.end at (8 * (f.gens * (f.p * deg_of f (low_of f words.old) r))) words.old }
     ensures { Appended words.old at (induction_words f (low_of f words.old) rows.now r) words.new result }
 {
     let n = 8 * f.end;
     let i = find_induction(&words[..n], notes, blocks, f, r);
     let mut pos = at;
-    let gens = f.gens;
-    for g in 0..gens {
+    for g in 0..f.gens {
         pos = append_generator(words, rows, notes, blocks, f, pos, i, g);
     }
     pos

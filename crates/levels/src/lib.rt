@@ -1,112 +1,55 @@
 // All levels, one behind the other.
 //
-//   SPARE                          rows more than an array wants
-//   noted_level                    a level behind the level below, with notes that are lent
-//   level_of_4 .. level_of_any     with arrays for so many representations; next_level chooses among them
+//   SPARE                          elements more than an array wants
+//   level_with                     a level behind the level below, with arrays of so many notes and blocks; next_level chooses
+//                                  their lengths
 //   Reached, levels_to             the first levels
 //   build_levels                   all of them
 #![tactic(auto)]
 
-ghost use Rattle.std.specs.Prelude.{◌*◌, ◌≤◌, ◌<◌, length};
+ghost use Rattle.std.specs.Prelude.{◌≤◌, ◌<◌, length};
 ghost use Rattle.clifford.specs.Accepted.{Accepted};
+ghost use Rattle.definitions.specs.Presentation.{max_order};
 ghost use Rattle.builder.specs.Level.{LevelAsked, LevelMade};
-ghost use Rattle.survey.specs.Notes.{note_width};
 ghost use Rattle.levels.specs.Given.{Given, AllWritten};
 ghost use Rattle.levels.specs.Climbing.{LevelsWritten};
 
 use builder::Written;
-use orbits::BLOCK;
+use orbits::Block;
 use rows::{DEGREES, ORDER, Row, Rows};
-use survey::{Frame, NOTE};
+use survey::{Frame, Note};
 
-// Rows more of an array, so that no two lie whole pages apart.
+// Elements more of an array, so that no two lie whole pages apart.
 const SPARE: usize = 16;
 
-// Appends the level above the one that the frame shows, with notes that are lent and with as many blocks as there are at most: where
-// an orbit moves, the square of the prime is at most the order.
-fn noted_level(words: &mut [u32], rows: &Rows, notes: &mut [u32], f: Frame) -> Written
-    requires { LevelAsked f words.old rows.now × (note_width * f.reps ≤ length notes.old) }
-    ensures { LevelMade f words.old rows.now result words.new }
-{
-    let mut blocks = [0u32; BLOCK * (DEGREES + SPARE)];
-    builder::append_level(words, rows, notes, &mut blocks, f)
-}
+// Notes or blocks for 64 representations.
+const OF_64: usize = 64 + SPARE;
 
-// Appends it with notes and blocks for 4 representations: an orbit that moves has no more blocks than there are representations.
-fn level_of_4(words: &mut [u32], rows: &Rows, f: Frame) -> Written
-    requires { LevelAsked f words.old rows.now × (f.reps ≤ 4) }
+// Notes for 512, and for 2,048.
+const OF_512: usize = 512 + SPARE;
+
+const OF_2048: usize = 2048 + SPARE;
+
+// Notes for every level: the level below has at most half the order of representations.
+const OF_ANY: usize = ORDER / 2 + SPARE;
+
+// Blocks for every orbit: where one moves, the square of the prime is at most the order.
+const OF_ORBIT: usize = DEGREES + SPARE;
+
+// Appends the level above the one that the frame shows, with so many notes, and so many blocks for an orbit that moves, which
+// has no more blocks than there are representations.
+fn level_with<const NOTES: usize, const BLOCKS: usize>(
+    words: &mut [u32],
+    rows: &Rows,
+    f: Frame,
+) -> Written
+    requires asked { LevelAsked f words.old rows.now × (f.reps ≤ NOTES) × (f.p ≤ f.reps → f.p ≤ BLOCKS) }
+    requires lengths { (NOTES ≤ max_order) × (BLOCKS ≤ max_order) }
     ensures { LevelMade f words.old rows.now result words.new }
 {
-    let mut notes = [0u32; NOTE * 4];
-    let mut blocks = [0u32; BLOCK * 4];
+    let mut notes = [Note::default(); NOTES];
+    let mut blocks = [Block::default(); BLOCKS];
     builder::append_level(words, rows, &mut notes, &mut blocks, f)
-}
-
-// Appends it with notes and blocks for 8.
-fn level_of_8(words: &mut [u32], rows: &Rows, f: Frame) -> Written
-    requires { LevelAsked f words.old rows.now × (f.reps ≤ 8) }
-    ensures { LevelMade f words.old rows.now result words.new }
-{
-    let mut notes = [0u32; NOTE * 8];
-    let mut blocks = [0u32; BLOCK * 8];
-    builder::append_level(words, rows, &mut notes, &mut blocks, f)
-}
-
-// Appends it with notes and blocks for 16.
-fn level_of_16(words: &mut [u32], rows: &Rows, f: Frame) -> Written
-    requires { LevelAsked f words.old rows.now × (f.reps ≤ 16) }
-    ensures { LevelMade f words.old rows.now result words.new }
-{
-    let mut notes = [0u32; NOTE * 16];
-    let mut blocks = [0u32; BLOCK * 16];
-    builder::append_level(words, rows, &mut notes, &mut blocks, f)
-}
-
-// Appends it with notes and blocks for 32.
-fn level_of_32(words: &mut [u32], rows: &Rows, f: Frame) -> Written
-    requires { LevelAsked f words.old rows.now × (f.reps ≤ 32) }
-    ensures { LevelMade f words.old rows.now result words.new }
-{
-    let mut notes = [0u32; NOTE * 32];
-    let mut blocks = [0u32; BLOCK * 32];
-    builder::append_level(words, rows, &mut notes, &mut blocks, f)
-}
-
-// Appends it with notes and blocks for 64.
-fn level_of_64(words: &mut [u32], rows: &Rows, f: Frame) -> Written
-    requires { LevelAsked f words.old rows.now × (f.reps ≤ 64) }
-    ensures { LevelMade f words.old rows.now result words.new }
-{
-    let mut notes = [0u32; NOTE * (64 + SPARE)];
-    let mut blocks = [0u32; BLOCK * (64 + SPARE)];
-    builder::append_level(words, rows, &mut notes, &mut blocks, f)
-}
-
-// Appends it with notes for 512 representations.
-fn level_of_512(words: &mut [u32], rows: &Rows, f: Frame) -> Written
-    requires { LevelAsked f words.old rows.now × (f.reps ≤ 512) }
-    ensures { LevelMade f words.old rows.now result words.new }
-{
-    let mut notes = [0u32; NOTE * (512 + SPARE)];
-    noted_level(words, rows, &mut notes, f)
-}
-
-// Appends it with notes for 2,048 representations.
-fn level_of_2048(words: &mut [u32], rows: &Rows, f: Frame) -> Written
-    requires { LevelAsked f words.old rows.now × (f.reps ≤ 2048) }
-    ensures { LevelMade f words.old rows.now result words.new }
-{
-    let mut notes = [0u32; NOTE * (2048 + SPARE)];
-    noted_level(words, rows, &mut notes, f)
-}
-
-// Appends it with notes that suffice for every level: the level below has at most half the order of representations.
-fn level_of_any(words: &mut [u32], rows: &Rows, f: Frame) -> Written
-    requires { LevelAsked f words.old rows.now }
-    ensures { LevelMade f words.old rows.now result words.new }
-{
-    let mut notes = [0u32; NOTE * (ORDER / 2 + SPARE)];
-    noted_level(words, rows, &mut notes, f)
 }
 
 // Appends that level with the smallest arrays that suffice.
@@ -115,27 +58,27 @@ fn next_level(words: &mut [u32], rows: &Rows, f: Frame) -> Written
     ensures { LevelMade f words.old rows.now result words.new }
 {
     if f.reps <= 4 {
-        return level_of_4(words, rows, f);
+        return level_with::<4, 4>(words, rows, f);
     }
     if f.reps <= 8 {
-        return level_of_8(words, rows, f);
+        return level_with::<8, 8>(words, rows, f);
     }
     if f.reps <= 16 {
-        return level_of_16(words, rows, f);
+        return level_with::<16, 16>(words, rows, f);
     }
     if f.reps <= 32 {
-        return level_of_32(words, rows, f);
+        return level_with::<32, 32>(words, rows, f);
     }
     if f.reps <= 64 {
-        return level_of_64(words, rows, f);
+        return level_with::<OF_64, OF_64>(words, rows, f);
     }
     if f.reps <= 512 {
-        return level_of_512(words, rows, f);
+        return level_with::<OF_512, OF_ORBIT>(words, rows, f);
     }
     if f.reps <= 2048 {
-        return level_of_2048(words, rows, f);
+        return level_with::<OF_2048, OF_ORBIT>(words, rows, f);
     }
-    level_of_any(words, rows, f)
+    level_with::<OF_ANY, OF_ORBIT>(words, rows, f)
 }
 
 // Where the level that was written last begins and ends, and how many representations it has.
@@ -154,20 +97,15 @@ fn levels_to(words: &mut [u32], rows: &Rows, primes: &Row, n: u32, m: u32, i: u3
     if i == 1 {
         let reps = primes[0];
         let end = first::first_level(words, rows, n, reps, m);
-        return Reached {
-            base: 0,
-            reps: reps,
-            end: end,
-        };
+        return Reached { base: 0, reps, end };
     }
     let top = i - 1;
     let b = levels_to(words, rows, primes, n, m, top);
-    let k = level::up(top);
     let f = Frame {
-        m: m,
-        top: top,
+        m,
+        top,
         gens: n,
-        p: primes[k],
+        p: primes[top as usize],
         base: b.base,
         reps: b.reps,
         end: b.end,
@@ -185,6 +123,5 @@ pub fn build_levels(words: &mut [u32], rows: &Rows, primes: &Row, n: u32, m: u32
     requires { (A : Accepted) × Given rows.now primes.now n m (length words.old) A }
     ensures { AllWritten rows.now primes.now n m words.old result words.new }
 {
-    let r = levels_to(words, rows, primes, n, m, n);
-    r.end
+    levels_to(words, rows, primes, n, m, n).end
 }

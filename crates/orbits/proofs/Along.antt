@@ -7,24 +7,26 @@
 use mathlib.Core.Path.{◌≡◌, refl, sym, ◌∙◌, ap, ap₂, subst}
 use mathlib.Core.Logic.{by_cases}
 use mathlib.Core.List.{List}
-use Prim.Native.Nat.{ℕ, suc, ◌+◌, ◌-◌, ◌%◌, ◌<◌}
+use Prim.Native.Nat.{ℕ, suc, ◌+◌, ◌%◌, ◌<◌}
 use native.Mathlib.Omega.{arith}
 use native.Mathlib.Numerals.{add-one}
 use native.Mathlib.Decide.{ℕ_discrete}
 use lib.Dec.{eqb}
-use lib.ListN.{length, get_or, set}
+use lib.ListN.{length, get_or, set, length-map}
 use lib.Seq.{get_or-set_same, get_or-set_other}
 use borrow.Author.Tests.{eq-eqb, eqb-true}
+use Rattle.std.proofs.lemmas.List.{map-set}
 use Rattle.definitions.specs.Monomial.{less}
 use Rattle.numbers.proofs.Searches.{least-is}
 use Rattle.formulas.specs.Formulas.{Source, conjugate_entry, left_at, right_at, block_at, scalar_at, scalar}
-use Rattle.fields.specs.Fields.{Put}
 use Rattle.survey.specs.declared.Frame.{Frame}
+use Rattle.survey.specs.declared.Note.{Note}
 use Rattle.survey.specs.Below.{source_in, Cycles}
+use Rattle.orbits.specs.declared.Block.{Block}
 use Rattle.orbits.specs.declared.BlockScalar.{BlockScalar}
 use Rattle.orbits.specs.Blocks.{scalars, Inducing, BlockScalars}
 use Rattle.orbits.specs.Sides.{NextScalar}
-use Rattle.orbits.proofs.Blocks.{scalar-inside, scalar-stored}
+use Rattle.orbits.proofs.Blocks.{block-there, scaled, scalar-stored}
 
 module _ (f : Frame) (W : List ℕ) (rows : List (List ℕ)) (j r : ℕ) where
   abbrev S : Source
@@ -34,7 +36,7 @@ module _ (f : Frame) (W : List ℕ) (rows : List (List ℕ)) (j r : ℕ) where
   Along a t = (u : ℕ) → u < t → get_or a (block_at S j r u) 0 ≡ scalar_at S j r u
 
   -- s is block k along the generator on top, and the scalars up to it are listed
-  pub record Scaling (notes blocks : List ℕ) (k : ℕ) (s : BlockScalar) : Type 0 where
+  pub record Scaling (notes : List Note) (blocks : List Block) (k : ℕ) (s : BlockScalar) : Type 0 where
     pub known : Inducing f W rows notes blocks r
     pub block_is : s.block ≡ block_at S j r k
     pub scalar_is : s.exp ≡ scalar_at S j r k
@@ -50,7 +52,7 @@ module _ (f : Frame) (W : List ℕ) (rows : List (List ℕ)) (j r : ℕ) where
   scalar-next t = ap (scalar_at S j r) (add-one t)
 
   module _ (above : f.top < j) (inside : j < f.gens) where
-    cycles : {notes blocks : List ℕ} → Inducing f W rows notes blocks r → Cycles f W rows j r
+    cycles : {notes : List Note} {blocks : List Block} → Inducing f W rows notes blocks r → Cycles f W rows j r
     cycles I = I.surveyed.sound.cycles r I.leads.listed I.leads.moves I.leads.led j above inside
 
     along-more : Cycles f W rows j r → (a : List ℕ) (t b x : ℕ) → t < f.p → b < length a → b ≡ block_at S j r t → x ≡ scalar_at S j r t
@@ -60,37 +62,38 @@ module _ (f : Frame) (W : List ℕ) (rows : List (List ℕ)) (j r : ℕ) where
         (λ q. get_or-set_other a b (block_at S j r u) x 0 (λ o. q (C.once u t (omega arith) h (o ∙ e))) ∙ A u (omega arith))
 
     -- one more scalar is stored
-    stored : {notes a b : List ℕ} (k : ℕ) (s : BlockScalar) → Inducing f W rows notes a r → Put 2 1 s.block s.exp a b → k < f.p
-        → s.block ≡ block_at S j r k → s.exp ≡ scalar_at S j r k → (s.block < f.p) × (s.exp < f.m) → Along (scalars a) k → Scaling notes b k s
-    stored {notes} {a} {b} k s I P h e v l A = record {
-      known = scalar-stored I P;
+    stored : {notes : List Note} (a : List Block) (k : ℕ) (s : BlockScalar) → Inducing f W rows notes a r → k < f.p
+        → s.block ≡ block_at S j r k → s.exp ≡ scalar_at S j r k → (s.block < f.p) × (s.exp < f.m) → Along (scalars a) k
+        → Scaling notes (scaled a s.block s.exp) k s
+    stored a k s I h e v l A = record {
+      known = scalar-stored a s.block s.exp I;
       block_is = e;
       scalar_is = v;
       below = l;
-      along = subst (λ x. Along x (k + 1)) (sym P.stored) (along-more (cycles I) (scalars a) k s.block s.exp h row e v A);
+      along = subst (λ x. Along x (k + 1)) (sym (map-set (λ (b : Block). b.scalar) a s.block _)) (along-more (cycles I) (scalars a) k s.block s.exp h row e v A);
     }
       where
         row : s.block < length (scalars a)
-        row = (scalar-inside I s.block l.0).rows
+        row = omega (arith, block-there a I.orbit_is s.block l.0, length-map a (λ (b : Block). b.scalar))
 
-    pub scaling-none : {notes a b : List ℕ} → Inducing f W rows notes a r → Put 2 1 0 0 a b → Scaling notes b 0 (record { block = 0; exp = 0 })
+    pub scaling-none : {notes : List Note} (a : List Block) → Inducing f W rows notes a r → Scaling notes (scaled a 0 0) 0 (record { block = 0; exp = 0 })
     unfolding block_at scalar_at
-    scaling-none I P =
+    scaling-none a I =
         let st = I.surveyed.sound.stands in
         let some : 0 < f.p = omega (arith, st.prime.0) in
-        stored 0 (record { block = 0; exp = 0 }) I P some refl refl (some, st.modulus.0) (λ u h. absurd (omega arith))
+        stored a 0 (record { block = 0; exp = 0 }) I some refl refl (some, st.modulus.0) (λ u h. absurd (omega arith))
 
-    pub scaling-more : {notes a b : List ℕ} {k : ℕ} {s t : BlockScalar} → Scaling notes a k s → NextScalar f W rows j r s t → Put 2 1 t.block t.exp a b
-        → suc k < f.p → Scaling notes b (k + 1) t
-    scaling-more {k = k} {s} {t} C N P h = stored (k + 1) t C.known P (omega arith)
+    pub scaling-more : {notes : List Note} (a : List Block) {k : ℕ} {s t : BlockScalar} → Scaling notes a k s → NextScalar f W rows j r s t
+        → suc k < f.p → Scaling notes (scaled a t.block t.exp) (k + 1) t
+    scaling-more a {k} {s} {t} C N h = stored a (k + 1) t C.known (omega arith)
         (N.block_is ∙ ap (λ b. (conjugate_entry S j r b).block) C.block_is ∙ sym (block-next k))
         (N.scalar_is ∙ ap₂ (λ b e. less f.m ((e + right_at S j r b) % f.m) (left_at S j r b)) C.block_is C.scalar_is ∙ sym (scalar-next k))
         (N.block_below, N.scalar_below) C.along
 
-    pub scaling-all : {notes a : List ℕ} {k : ℕ} {s : BlockScalar} → Scaling notes a k s → k + 1 ≡ f.p → BlockScalars f W rows (scalars a) j r
+    pub scaling-all : {notes : List Note} (a : List Block) {k : ℕ} {s : BlockScalar} → Scaling notes a k s → k + 1 ≡ f.p → BlockScalars f W rows (scalars a) j r
     unfolding scalar
-    scaling-all {a = a} C e = record {
-      long = omega (arith, (scalar-inside C.known (f.p - 1) (omega (arith, e))).rows, e);
+    scaling-all a C e = record {
+      long = omega (arith, C.known.orbit_is.long, length-map a (λ (b : Block). b.member), length-map a (λ (b : Block). b.scalar));
       at = λ b h.
           let D = cycles C.known in
           let (t, l, q) = D.visits b h in

@@ -19,9 +19,11 @@ use Rattle.definitions.specs.Monomial.{entry, less, act}
 use Rattle.numbers.proofs.Bools.{cond-lt, cond-ge}
 use Rattle.formulas.specs.Formulas.{Source, Moved, plus, shift, cycle_entry, conjugate_entry, left_at, right_at}
 use Rattle.survey.specs.declared.Frame.{Frame}
+use Rattle.survey.specs.declared.Note.{Note}
 use Rattle.survey.specs.Notes.{shifts}
 use Rattle.survey.specs.Below.{target_of, source_in, leader_in, position_in}
 use Rattle.survey.proofs.Marking.{orbit-inside, lead-below, lead-lead}
+use Rattle.orbits.specs.declared.Block.{Block}
 use Rattle.orbits.specs.declared.BlockEntry.{BlockEntry}
 use Rattle.orbits.specs.declared.BlockScalar.{BlockScalar}
 use Rattle.orbits.specs.Blocks.{member_of, matrix_at, Inducing}
@@ -65,7 +67,7 @@ module _ (f : Frame) (W : List ℕ) (rows : List (List ℕ)) (j r : ℕ) where
   unfolding left_in left_at
   left_is b = refl
 
-  module _ {notes blocks : List ℕ} (I : Inducing f W rows notes blocks r) (above : f.top < j) (inside : j < f.gens) where
+  module _ {notes : List Note} {blocks : List Block} (I : Inducing f W rows notes blocks r) (above : f.top < j) (inside : j < f.gens) where
     right_is : (b : ℕ) → right_in f W notes j r b ≡ right_at S j r b
     unfolding right_in right_at constant_in
     right_is b =

@@ -15,6 +15,7 @@ use Rattle.definitions.specs.Monomial.{entry, less, act}
 use Rattle.formulas.specs.Formulas.{Moved, plus, walk, conjugate_entry, left_at, right_at}
 use Rattle.level.specs.Stored.{Below}
 use Rattle.survey.specs.declared.Frame.{Frame}
+use Rattle.survey.specs.declared.Note.{Note}
 use Rattle.survey.specs.Notes.{leaders, positions, shifts}
 use Rattle.survey.specs.Below.{deg_of, target_of, source_in}
 use Rattle.orbits.specs.Blocks.{member_of, matrix_at}
@@ -47,10 +48,10 @@ module _ (f : Frame) (W : List ℕ) where
   unfoldable pub left_in : (j r : ℕ) → Moved → ℕ
   left_in j r x = (act f.m (matrix_at f W (member_of f W r x.block) j) x.at).exp
 
-unfoldable pub constant_in : Frame → List ℕ → ℕ → ℕ
+unfoldable pub constant_in : Frame → List Note → ℕ → ℕ
 constant_in f notes q = cond (ltb (suc (get_or (positions notes) q 0)) f.p) 0 (get_or (shifts notes) (get_or (leaders notes) q 0) 0)
 
-unfoldable pub right_in : (f : Frame) → (W notes : List ℕ) → (j r b : ℕ) → ℕ
+unfoldable pub right_in : (f : Frame) → List ℕ → List Note → (j r b : ℕ) → ℕ
 right_in f W notes j r b =
     let t = member_of f W r b in
     let q = target_of f W j t in

@@ -1,8 +1,6 @@
 // The blocks of an orbit of the generator on top: how that generator moves them, and the scalars of the generators above it.
-// They are listed in one array, a row of two numbers for each block.
 //
-//   MEMBER, SCALAR               the fields of a row
-//   block, put_block             reads and stores a field
+//   Block                        what is listed of a block
 //   list_orbit                   lists the representations of the blocks
 //   of_block                     the representation of a block, by its first line
 //   cycle, cycle_times           the generator on top of the induced representation on an entry in a block
@@ -11,66 +9,45 @@
 //   next_scalar, list_scalars    lists the scalars, from block to block
 #![tactic(auto)]
 
-ghost use Rattle.std.specs.Prelude.{◌≡◌, List, ℕ, ◌*◌, ◌≤◌, ◌<◌, length, get_or};
+ghost use Rattle.std.specs.Prelude.{◌≡◌, List, ℕ, ◌≤◌, ◌<◌, length, get_or};
 ghost use Rattle.definitions.specs.Lists.{iter};
-ghost use Rattle.fields.specs.Fields.{field, Inside, Put};
 ghost use Rattle.survey.specs.Notes.{firsts};
 ghost use Rattle.survey.specs.Below.{LevelStands, Located, Lines, Surveyed};
-ghost use Rattle.orbits.specs.Blocks.{block_width, members, scalars, member_of, OrbitArray, Inducing, Listing, BlockScalars};
+ghost use Rattle.orbits.specs.Blocks.{members, scalars, member_of, OrbitArray, Inducing, Listing, BlockScalars};
 ghost use Rattle.orbits.specs.Sides.{moved_of, Lies, EntryIs, cycle_in, conjugate_in, left_in, constant_in, right_in, NextScalar};
 
 use definitions::Entry;
 use level::Listed;
 use rows::{Row, Rows};
-use survey::Frame;
+use survey::{Frame, Note};
 
-// The numbers of a row of blocks.
-pub const BLOCK: usize = 2;
-
-// The representation of a block.
-pub const MEMBER: usize = 0;
-
-// Its scalar.
-pub const SCALAR: usize = 1;
-
-// Field k of block b.
-pub fn block(blocks: &[u32], k: usize, b: u32) -> u32
-    requires { Inside block_width k blocks.now b }
-    ensures { result ≡ get_or (field block_width k blocks.now) b 0 }
-{
-    fields::get(blocks, BLOCK, k, b)
-}
-
-// Stores it.
-fn put_block(blocks: &mut [u32], k: usize, b: u32, x: u32)
-    requires { Inside block_width k blocks.old b }
-    ensures { Put block_width k b x blocks.old blocks.new }
-{
-    fields::put(blocks, BLOCK, k, b, x);
+// What is listed of a block: its representation, and its scalar for a generator.
+#[derive(Clone, Copy, Default)]
+pub struct Block {
+    pub member: u32,
+    pub scalar: u32,
 }
 
 // Lists the orbit of r.
-pub fn list_orbit(low: &[u32], notes: &[u32], blocks: &mut [u32], f: Frame, r: u32)
-    requires { LevelStands f low.now × Lines f low.now (firsts notes.now) × (r < f.reps) × (block_width * f.p ≤ length blocks.old) }
+pub fn list_orbit(low: &[u32], notes: &[Note], blocks: &mut [Block], f: Frame, r: u32)
+    requires { LevelStands f low.now × Lines f low.now (firsts notes.now) × (r < f.reps) × (f.p ≤ length blocks.old) }
     ensures { OrbitArray f low.now (members blocks.new) r }
 {
     let d = survey::listed(low, notes, f, r);
     let mut q = r;
-    let p = f.p;
-    for k in 0..p {
-        put_block(blocks, MEMBER, k, q);
+    for k in 0..f.p {
+        blocks[k as usize].member = q;
         let e = survey::member(low, notes, f, d.deg, q);
         q = level::target(low, e, f.top);
     }
 }
 
 // The representation of block b of the orbit of r.
-fn of_block(low: &[u32], notes: &[u32], blocks: &[u32], f: Frame, r: u32, b: u32) -> Listed
+fn of_block(low: &[u32], notes: &[Note], blocks: &[Block], f: Frame, r: u32, b: u32) -> Listed
     requires { Listing f low.now notes.now blocks.now r × (b < f.p) }
     ensures { Located f low.now (member_of f low.now r b) result }
 {
-    let q = block(blocks, MEMBER, b);
-    survey::listed(low, notes, f, q)
+    survey::listed(low, notes, f, blocks[b as usize].member)
 }
 
 // An entry in a block of an orbit.
@@ -83,8 +60,8 @@ pub struct BlockEntry {
 // The generator on top of the induced representation on an entry in a block; c closes the orbit.
 fn cycle(
     low: &[u32],
-    notes: &[u32],
-    blocks: &[u32],
+    notes: &[Note],
+    blocks: &[Block],
     f: Frame,
     c: u32,
     r: u32,
@@ -111,8 +88,8 @@ fn cycle(
 // The generator on top of the induced representation, k times on an entry in a block.
 fn cycle_times(
     low: &[u32],
-    notes: &[u32],
-    blocks: &[u32],
+    notes: &[Note],
+    blocks: &[Block],
     f: Frame,
     c: u32,
     r: u32,
@@ -123,7 +100,7 @@ fn cycle_times(
     ensures { EntryIs f low.now r (iter (cycle_in f low.now c r) k (moved_of s)) result }
 {
     let mut t = s;
-    for i in 0..k {
+    for _ in 0..k {
         t = cycle(low, notes, blocks, f, c, r, t);
     }
     t
@@ -132,8 +109,8 @@ fn cycle_times(
 // Column 0 of block b moved by j⁻¹ g j, g the generator on top: by the word w of the two, and once more by g.
 fn conjugate(
     low: &[u32],
-    notes: &[u32],
-    blocks: &[u32],
+    notes: &[Note],
+    blocks: &[Block],
     w: &Row,
     f: Frame,
     c: u32,
@@ -144,23 +121,22 @@ fn conjugate(
     ensures { EntryIs f low.now r (conjugate_in f low.now c w.now r b) result }
 {
     let e = of_block(low, notes, blocks, f, r, b);
-    let t = level::up(f.top);
+    let t = f.top as usize;
     let x = level::walked(low, e, w, t, Entry { row: 0, exp: 0 }, f.m);
-    let k = w[t];
-    cycle_times(
-        low,
-        notes,
-        blocks,
-        f,
-        c,
-        r,
-        k + 1,
-        BlockEntry { block: b, x: x },
-    )
+    let s = BlockEntry { block: b, x };
+    cycle_times(low, notes, blocks, f, c, r, w[t] + 1, s)
 }
 
 // The exponent of an entry in a block moved by the intertwiner of generator j there.
-fn left(low: &[u32], notes: &[u32], blocks: &[u32], f: Frame, j: u32, r: u32, s: BlockEntry) -> u32
+fn left(
+    low: &[u32],
+    notes: &[Note],
+    blocks: &[Block],
+    f: Frame,
+    j: u32,
+    r: u32,
+    s: BlockEntry,
+) -> u32
     requires { Listing f low.now notes.now blocks.now r × (j < f.gens) × Lies f low.now r s }
     ensures { (result ≡ left_in f low.now j r (moved_of s)) × (result < f.m) }
 {
@@ -170,20 +146,19 @@ fn left(low: &[u32], notes: &[u32], blocks: &[u32], f: Frame, j: u32, r: u32, s:
 }
 
 // The constant of the generator on top behind representation q of an orbit: 0, and at the end of the orbit what closes it.
-fn constant(notes: &[u32], f: Frame, q: u32) -> u32
+fn constant(notes: &[Note], f: Frame, q: u32) -> u32
     requires { ((W : List ℕ) × (rows : List (List ℕ)) × Surveyed f W rows notes.now) × (q < f.reps) }
     ensures { (result ≡ constant_in f notes.now q) × (result < f.m) }
 {
-    let b = survey::note(notes, survey::POSITION, q);
-    if b + 1 < f.p {
+    let n = notes[q as usize];
+    if n.position + 1 < f.p {
         return 0;
     }
-    let l = survey::note(notes, survey::LEADER, q);
-    survey::note(notes, survey::SHIFT, l)
+    notes[n.leader as usize].shift
 }
 
 // The exponent of column 0 of block b moved by the intertwiner of generator j, and then by the generator on top.
-fn right(low: &[u32], notes: &[u32], blocks: &[u32], f: Frame, j: u32, r: u32, b: u32) -> u32
+fn right(low: &[u32], notes: &[Note], blocks: &[Block], f: Frame, j: u32, r: u32, b: u32) -> u32
     requires { Listing f low.now notes.now blocks.now r × (f.top < j) × (j < f.gens) × (b < f.p) }
     ensures { (result ≡ right_in f low.now notes.now j r b) × (result < f.m) }
 {
@@ -205,8 +180,8 @@ pub struct BlockScalar {
 fn next_scalar(
     low: &[u32],
     rows: &Rows,
-    notes: &[u32],
-    blocks: &[u32],
+    notes: &[Note],
+    blocks: &[Block],
     f: Frame,
     j: u32,
     r: u32,
@@ -215,8 +190,8 @@ fn next_scalar(
     requires { Inducing f low.now rows.now notes.now blocks.now r × (f.top < j) × (j < f.gens) × (s.block < f.p) × (s.exp < f.m) }
     ensures { NextScalar f low.now rows.now j r s result }
 {
-    let w = rows::word(rows, level::up(j), level::up(f.top));
-    let c = survey::note(notes, survey::SHIFT, r);
+    let w = rows::word(rows, j as usize, f.top as usize);
+    let c = notes[r as usize].shift;
     let a = conjugate(low, notes, blocks, &w, f, c, r, s.block);
     let l = left(low, notes, blocks, f, j, r, a);
     let y = right(low, notes, blocks, f, j, r, s.block);
@@ -231,8 +206,8 @@ fn next_scalar(
 pub fn list_scalars(
     low: &[u32],
     rows: &Rows,
-    notes: &[u32],
-    blocks: &mut [u32],
+    notes: &[Note],
+    blocks: &mut [Block],
     f: Frame,
     j: u32,
     r: u32,
@@ -242,10 +217,9 @@ pub fn list_scalars(
     ensures block_scalars { BlockScalars f low.now rows.now (scalars blocks.new) j r }
 {
     let mut s = BlockScalar { block: 0, exp: 0 };
-    put_block(blocks, SCALAR, 0, 0);
-    let last = f.p - 1;
-    for k in 0..last {
+    blocks[0].scalar = 0;
+    for _ in 1..f.p {
         s = next_scalar(low, rows, notes, blocks, f, j, r, s);
-        put_block(blocks, SCALAR, s.block, s.exp);
+        blocks[s.block as usize].scalar = s.exp;
     }
 }

@@ -2,53 +2,55 @@
 --
 --   firsts-none, firsts-all    none is noted; all are
 --   NotingRun                  a run that began with representation r has come to q
---   run_none, run_more         its beginning, and one representation more
+--   run_none, run_room, run_more      its beginning, a note that is there, and one representation more
 --   run-there, run_small       there are words at its line, and the line is small
 --   run-stops, run-all         its end: at another degree, or behind all
-use mathlib.Core.Path.{◌≡◌, refl, ap, sym, ◌∙◌}
+use mathlib.Core.Path.{◌≡◌, refl, ap, sym, ◌∙◌, subst}
 use mathlib.Core.List.{List}
 use Prim.Native.Nat.{ℕ, ◌+◌, ◌*◌, ◌≤◌, ◌<◌}
 use native.Mathlib.Omega.{arith}
-use lib.ListN.{length}
+use lib.ListN.{length, set, length-map, length-set}
 use Rattle.definitions.specs.Table.{DEG, word_at}
-use Rattle.fields.specs.Fields.{Put}
-use Rattle.fields.proofs.Rows.{field-rows, filled_none, filled_put}
 use Rattle.level.specs.declared.Listed.{Listed}
 use Rattle.survey.specs.declared.Frame.{Frame}
+use Rattle.survey.specs.declared.Note.{Note}
 use Rattle.survey.specs.Notes.{firsts}
 use Rattle.survey.specs.Below.{first_of, deg_of, Located, Lines, FirstsTo, RunNoted}
-use Rattle.survey.proofs.Notes.{rows_stay}
+use Rattle.survey.proofs.Notes.{filled_none, filled_note}
 use Rattle.survey.proofs.Level.{first_next, first-room, first_below, located-degree}
 
-pub firsts-none : (f : Frame) (W notes : List ℕ) → 5 * f.reps ≤ length notes → FirstsTo f W notes 0
-firsts-none f W notes l = record { long = field-rows 5 0 f.reps notes (omega arith) l; at = filled_none (firsts notes) (first_of f W) }
+pub firsts-none : (f : Frame) (W : List ℕ) (notes : List Note) → f.reps ≤ length notes → FirstsTo f W notes 0
+firsts-none f W notes l = record { long = omega (arith, length-map notes (λ (n : Note). n.first)); at = filled_none (firsts notes) (first_of f W) }
 
-pub firsts-all : {f : Frame} {W notes : List ℕ} {r : ℕ} → FirstsTo f W notes r → f.reps ≤ r → Lines f W (firsts notes)
+pub firsts-all : {f : Frame} {W : List ℕ} {notes : List Note} {r : ℕ} → FirstsTo f W notes r → f.reps ≤ r → Lines f W (firsts notes)
 firsts-all F l = record { long = F.long; at = λ k h. F.at k (omega arith) }
 
-module _ (f : Frame) (W notes₀ : List ℕ) (r : ℕ) where
-  pub record NotingRun (notes : List ℕ) (line q : ℕ) : Type 0 where
+module _ (f : Frame) (W : List ℕ) (notes₀ : List Note) (r : ℕ) where
+  pub record NotingRun (notes : List Note) (line q : ℕ) : Type 0 where
     pub forth : r ≤ q
     pub within : q ≤ f.reps
     pub len : length notes ≡ length notes₀
     pub noted : FirstsTo f W notes q
     pub reached : line ≡ first_of f W q
 
-module _ {f : Frame} {W notes₀ : List ℕ} {r : ℕ} {D : Listed} (L : Located f W r D) where
+module _ {f : Frame} {W : List ℕ} {notes₀ : List Note} {r : ℕ} {D : Listed} (L : Located f W r D) where
   pub run_none : FirstsTo f W notes₀ r → NotingRun f W notes₀ r notes₀ D.line r
   run_none F =
       record { forth = omega arith; within = omega (arith, L.listed); len = refl; noted = F; reached = ap (λ (E : Listed). E.line) L.is }
 
-  module _ {notes : List ℕ} {line q : ℕ} (R : NotingRun f W notes₀ r notes line q) where
-    pub run_more : {notes' : List ℕ} {step : ℕ} → q < f.reps → word_at W line DEG ≡ D.deg → step ≡ f.gens * D.deg → Put 5 0 q line notes notes'
-        → NotingRun f W notes₀ r notes' (line + step) (q + 1)
-    run_more {notes'} {step} h e s P = record {
+  module _ {notes : List Note} {line q : ℕ} (R : NotingRun f W notes₀ r notes line q) where
+    pub run_room : q < f.reps → q < length notes
+    run_room h = omega (arith, R.noted.long, length-map notes (λ (n : Note). n.first))
+
+    pub run_more : (n : Note) {step : ℕ} → q < f.reps → word_at W line DEG ≡ D.deg → step ≡ f.gens * D.deg → n.first ≡ line
+        → NotingRun f W notes₀ r (set notes q n) (line + step) (q + 1)
+    run_more n {step} h e s is = record {
       forth = omega (arith, R.forth);
       within = omega arith;
-      len = P.len ∙ R.len;
+      len = length-set notes q n ∙ R.len;
       noted = record {
-        long = rows_stay f.reps 0 0 notes notes' P.len R.noted.long;
-        at = filled_put (first_of f W) (omega (arith, R.noted.long)) R.reached P R.noted.at;
+        long = omega (arith, R.noted.long, length-map notes (λ (n : Note). n.first), length-map (set notes q n) (λ (n : Note). n.first), length-set notes q n);
+        at = filled_note (λ n. n.first) notes (first_of f W) q n (run_room h) (is ∙ R.reached) R.noted.at;
       };
       reached = ap (λ x. line + x) (s ∙ ap (λ x. f.gens * x) (sym e)) ∙ ap (λ x. x + f.gens * word_at W x DEG) R.reached ∙ sym (first_next f W q);
     }
@@ -61,8 +63,14 @@ module _ {f : Frame} {W notes₀ : List ℕ} {r : ℕ} {D : Listed} (L : Located
         let e : f.gens * D.deg ≡ f.gens * deg_of f W r = ap (λ x. f.gens * x) (located-degree L) in
         omega (arith, R.reached, first_below f W L.stands q h, first_below f W L.stands r L.listed, e, L.stands.short.1)
 
-    pub run-all : f.reps ≤ q → RunNoted f W notes₀ notes r (record { rep = q; line = line })
-    run-all l = record { forth = omega (arith, L.listed); within = R.within; len = R.len; noted = R.noted; behind = R.reached }
+    pub run-all : q ≡ f.reps → RunNoted f W notes₀ notes r (record { rep = f.reps; line = line })
+    run-all e = record {
+      forth = L.listed;
+      within = omega arith;
+      len = R.len;
+      noted = subst (FirstsTo f W notes) e R.noted;
+      behind = R.reached ∙ ap (first_of f W) e;
+    }
 
     pub run-stops : ¬ (word_at W line DEG ≡ D.deg) → RunNoted f W notes₀ notes r (record { rep = q; line = line })
     run-stops v =

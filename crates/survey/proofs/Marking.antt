@@ -2,10 +2,10 @@
 --
 --   marking-none               nothing is marked
 --   marking-next               where the orbit of r is marked, all orbits up to it are
---   marking_step               one more member of the orbit of r
---   marking-alone              the one member of an orbit that does not move
+--   marking_step, marking_put  one more member of the orbit of r; the same in notes
+--   marking-alone              the one member of an orbit that does not move is marked as it is
 --   marking-done               all members of the orbit of r, and so all orbits up to it
---   marking-skip               r is marked already, so it begins no orbit
+--   marking-skip               r is led by another, so it begins no orbit
 --   marking-all                every orbit
 use mathlib.Core.Path.{◌≡◌, refl, ap, sym, ◌∙◌, subst}
 use mathlib.Core.Logic.{by_cases}
@@ -13,19 +13,20 @@ use mathlib.Core.List.{List}
 use Prim.Native.Nat.{ℕ, ◌+◌, ◌<◌, ◌≤◌}
 use native.Mathlib.Omega.{arith}
 use native.Mathlib.Decide.{dec_lt, ℕ_discrete}
-use lib.ListN.{length, get_or}
+use lib.ListN.{length, get_or, set, length-set}
 use lib.Seq.{get_or-set_same, get_or-set_other}
 use Rattle.definitions.specs.Lists.{iter}
 use lib.Dec.{eqb}
 use borrow.Author.Tests.{eq-eqb}
 use Rattle.numbers.proofs.Lists.{iter-zero, iter-fix}
 use Rattle.numbers.proofs.Searches.{least-least}
-use Rattle.numbers.proofs.Orbits.{leader, position, leader-least, leader-iter, leader-leader, leader-fixed, position-below, position-back, iter-below}
+use Rattle.numbers.proofs.Orbits.{leader, position, leader-least, leader-iter, leader-leader, leader-fixed, position-below, position-back, iter-below, moved-distinct}
 use Rattle.survey.specs.declared.Frame.{Frame}
-use Rattle.survey.specs.Notes.{leaders, positions, Marked}
+use Rattle.survey.specs.declared.Note.{Note}
+use Rattle.survey.specs.Notes.{leaders, positions}
 use Rattle.survey.specs.Below.{target_of, leader_in, position_in, LevelStands, Array, MarkedTo}
-use Rattle.fields.proofs.Rows.{field-long}
 use Rattle.survey.proofs.Level.{orbits}
+use Rattle.survey.proofs.Notes.{marked, marked-leaders, marked-positions}
 
 module _ (f : Frame) (W : List ℕ) (S : LevelStands f W) where
   abbrev τ : ℕ → ℕ
@@ -66,6 +67,14 @@ module _ (f : Frame) (W : List ℕ) (S : LevelStands f W) where
   pub pos-least : (q k : ℕ) → iter τ k (lead q) ≡ q → pos q ≤ k
   pos-least q k e = least-least f.p (λ j. eqb (iter τ j (lead q)) q) k (eq-eqb (iter τ k (lead q)) q e)
 
+  pub pos-moved : (r k : ℕ) → r < f.reps → lead r ≡ r → ¬ (τ r ≡ r) → k < f.p → pos (iter τ k r) ≡ k
+  unfolding orbits
+  pos-moved r k l own v h =
+      let q : ℕ = iter τ k r in
+      let b : q < f.reps = iter-below (orbits f W S) k r l in
+      let e : iter τ (pos q) r ≡ iter τ k r = ap (λ z. iter τ (pos q) z) (sym (lead-of r k l ∙ own)) ∙ pos-back q b in
+      moved-distinct (orbits f W S) r l v (pos q) k (pos-below q b) h e
+
   pub orbit-inside : (r k : ℕ) → r < f.reps → iter τ k r < f.reps
   unfolding orbits
   orbit-inside r k l = iter-below (orbits f W S) k r l
@@ -75,7 +84,7 @@ module _ (f : Frame) (W : List ℕ) (S : LevelStands f W) where
 
   -- ---- The marks
 
-  pub marking-none : (a b : List ℕ) → f.reps ≤ length a → f.reps ≤ length b → ((k : ℕ) → k < f.reps → get_or a k 0 ≡ f.reps) → MarkedTo f W a b 0 0
+  pub marking-none : (a b : List ℕ) → f.reps ≤ length a → f.reps ≤ length b → ((k : ℕ) → k < f.reps → (get_or a k 0 ≡ k) × (get_or b k 0 ≡ 0)) → MarkedTo f W a b 0 0
   marking-none a b l m h = record {
     long = (l, m);
     earlier = λ q _ k. absurd (omega arith);
@@ -108,113 +117,66 @@ module _ (f : Frame) (W : List ℕ) (S : LevelStands f W) where
     at_position : (q k : ℕ) → q < f.reps → lead q ≡ r → pos q ≡ k → q ≡ iter τ k r
     at_position q k l e e' = sym (pos-back q l) ∙ ap (λ z. iter τ (pos q) z) e ∙ ap (λ z. iter τ z r) e'
 
-    pub marking_step : (k : ℕ) (n n' : List ℕ) → k < f.p → MarkedTo f W (leaders n) (positions n) r k → Marked f.reps r (iter τ k r) k n n'
-        → MarkedTo f W (leaders n') (positions n') r (k + 1)
-    marking_step k n n' hk M N = go (ℕ_discrete (get_or a (iter τ k r) 0) f.reps)
+    pub marking_step : ¬ (τ r ≡ r) → (k : ℕ) (a b : List ℕ) → k < f.p → MarkedTo f W a b r k
+        → MarkedTo f W (set a (iter τ k r) r) (set b (iter τ k r) k) r (k + 1)
+    marking_step v k a b hk M = record {
+      long = (omega (arith, length-set a q₀ r, M.long.0), omega (arith, length-set b q₀ k, M.long.1));
+      earlier = λ q l h. keep q (λ e. omega (arith, ap lead e, member k)) (M.earlier q l h);
+      these = λ q l e h. pick q l e h (ℕ_discrete (pos q) k);
+      later = λ q l e h. keep q (λ e'. omega (arith, ap pos e', here)) (M.later q l e (omega arith));
+      others = λ q l h. keep q (λ e. omega (arith, ap lead e, member k)) (M.others q l h);
+    }
       where
-        a : List ℕ
-        a = leaders n
-
-        b : List ℕ
-        b = positions n
-
-        a' : List ℕ
-        a' = leaders n'
-
-        b' : List ℕ
-        b' = positions n'
-
-        long : (f.reps ≤ length a') × (f.reps ≤ length b')
-        long = (omega (arith, field-long 5 1 1 n n' N.len, M.long.0), omega (arith, field-long 5 2 2 n n' N.len, M.long.1))
-
         q₀ : ℕ
         q₀ = iter τ k r
 
         l₀ : q₀ < f.reps
         l₀ = orbit-inside r k hr
 
-        least-position : pos q₀ ≤ k
-        least-position = pos-least q₀ k (ap (λ z. iter τ k z) (member k))
+        here : pos q₀ ≡ k
+        here = pos-moved r k hr own v hk
 
-        rest : MarkedTo f W a b r k → (q : ℕ) → q < f.reps → lead q ≡ r → pos q < k + 1 → ¬ (pos q ≡ k) → (get_or a q 0 ≡ r) × (get_or b q 0 ≡ pos q)
-        rest M q l e h n = M.these q l e (omega (arith, n))
+        keep : (q : ℕ) → ¬ (q ≡ q₀) → {x y : ℕ} → (get_or a q 0 ≡ x) × (get_or b q 0 ≡ y) → (get_or (set a q₀ r) q 0 ≡ x) × (get_or (set b q₀ k) q 0 ≡ y)
+        keep q n t = (get_or-set_other a q₀ q r 0 n ∙ t.0, get_or-set_other b q₀ q k 0 n ∙ t.1)
 
-        go : Dec (get_or a q₀ 0 ≡ f.reps) → MarkedTo f W a' b' r (k + 1)
-        go (yes u) = record {
-          long = long;
-          earlier = λ q l h. let n : ¬ (q ≡ q₀) = λ e. omega (arith, ap lead e, member k) in ((keep q n).0 ∙ (M.earlier q l h).0, (keep q n).1 ∙ (M.earlier q l h).1);
-          these = λ q l e h. pick q l e h (ℕ_discrete (pos q) k);
-          later = λ q l e h. (keep q (λ e'. omega (arith, ap pos e', here))).0 ∙ M.later q l e (omega arith);
-          others = λ q l h. (keep q (λ e. omega (arith, ap lead e, member k))).0 ∙ M.others q l h;
-        }
-          where
-            here : pos q₀ ≡ k
-            here = by_cases (dec_lt (pos q₀) k)
-                (λ h. absurd (omega (arith, (M.these q₀ l₀ (member k) h).0, u, hr)))
-                (λ h. omega (arith, least-position))
+        pick : (q : ℕ) → q < f.reps → lead q ≡ r → pos q < k + 1 → Dec (pos q ≡ k) → (get_or (set a q₀ r) q 0 ≡ r) × (get_or (set b q₀ k) q 0 ≡ pos q)
+        pick q l e h (yes z) =
+            let w = at_position q k l e z in (
+              ap (λ x. get_or (set a q₀ r) x 0) w ∙ get_or-set_same a q₀ r 0 (omega (arith, l₀, M.long.0)),
+              ap (λ x. get_or (set b q₀ k) x 0) w ∙ get_or-set_same b q₀ k 0 (omega (arith, l₀, M.long.1)) ∙ sym z,
+            )
+        pick q l e h (no z) = keep q (λ e'. z (ap pos e' ∙ here)) (M.these q l e (omega (arith, z)))
 
-            keep : (q : ℕ) → ¬ (q ≡ q₀) → (get_or a' q 0 ≡ get_or a q 0) × (get_or b' q 0 ≡ get_or b q 0)
-            keep q n = (ap (λ x. get_or x q 0) (N.fresh u).0 ∙ get_or-set_other a q₀ q r 0 n, ap (λ x. get_or x q 0) (N.fresh u).1 ∙ get_or-set_other b q₀ q k 0 n)
+    pub marking_put : ¬ (τ r ≡ r) → (k q : ℕ) (n : List Note) → k < f.p → q ≡ iter τ k r → MarkedTo f W (leaders n) (positions n) r k
+        → MarkedTo f W (leaders (marked n q r k)) (positions (marked n q r k)) r (k + 1)
+    marking_put v k q n hk e M =
+        let a = subst (λ x. leaders (marked n q r k) ≡ set (leaders n) x r) e (marked-leaders n q r k) in
+        let b = subst (λ x. positions (marked n q r k) ≡ set (positions n) x k) e (marked-positions n q r k) in
+        subst (λ x. MarkedTo f W x (positions (marked n q r k)) r (k + 1)) (sym a)
+        (subst (λ x. MarkedTo f W (set (leaders n) (iter τ k r) r) x r (k + 1)) (sym b) (marking_step v k (leaders n) (positions n) hk M))
 
-            same-a : get_or a' q₀ 0 ≡ r
-            same-a = ap (λ x. get_or x q₀ 0) (N.fresh u).0 ∙ get_or-set_same a q₀ r 0 (omega (arith, l₀, M.long.0))
-
-            same-b : get_or b' q₀ 0 ≡ k
-            same-b = ap (λ x. get_or x q₀ 0) (N.fresh u).1 ∙ get_or-set_same b q₀ k 0 (omega (arith, l₀, M.long.1))
-
-            pick : (q : ℕ) → q < f.reps → lead q ≡ r → pos q < k + 1 → Dec (pos q ≡ k) → (get_or a' q 0 ≡ r) × (get_or b' q 0 ≡ pos q)
-            pick q l e h (yes z) = let w = at_position q k l e z in (ap (λ x. get_or a' x 0) w ∙ same-a, ap (λ x. get_or b' x 0) w ∙ same-b ∙ sym z)
-            pick q l e h (no z) =
-                let t = rest M q l e h z in
-                let n : ¬ (q ≡ q₀) = λ e'. z (ap pos e' ∙ here) in
-                ((keep q n).0 ∙ t.0, (keep q n).1 ∙ t.1)
-        go (no u) = record {
-          long = long;
-          earlier = λ q l h. (is-a q ∙ (M.earlier q l h).0, is_b q ∙ (M.earlier q l h).1);
-          these = λ q l e h. let t = rest M q l e h (other q l e) in (is-a q ∙ t.0, is_b q ∙ t.1);
-          later = λ q l e h. is-a q ∙ M.later q l e (omega arith);
-          others = λ q l h. is-a q ∙ M.others q l h;
-        }
-          where
-            is-a : (q : ℕ) → get_or a' q 0 ≡ get_or a q 0
-            is-a q = ap (λ x. get_or x q 0) (N.stale u).0
-
-            is_b : (q : ℕ) → get_or b' q 0 ≡ get_or b q 0
-            is_b q = ap (λ x. get_or x q 0) (N.stale u).1
-
-            -- q₀ stands earlier
-            other : (q : ℕ) → q < f.reps → lead q ≡ r → ¬ (pos q ≡ k)
-            other q l e z =
-                let w : pos q₀ ≡ k = ap pos (sym (at_position q k l e z)) ∙ z in
-                u (M.later q₀ l₀ (member k) (omega (arith, w)))
-
-    -- an orbit of one member is marked with that
-    pub marking-alone : τ r ≡ r → (n n' : List ℕ) → MarkedTo f W (leaders n) (positions n) r 0 → Marked f.reps r r 0 n n'
-        → MarkedTo f W (leaders n') (positions n') r f.p
-    marking-alone e n n' M N = record {
-      long = one.long;
-      earlier = one.earlier;
-      these = λ q l h _. one.these q l h (first q l h);
+    -- an orbit of one member is noted as it is
+    pub marking-alone : τ r ≡ r → (a b : List ℕ) → MarkedTo f W a b r 0 → MarkedTo f W a b r f.p
+    marking-alone e a b M = record {
+      long = M.long;
+      earlier = M.earlier;
+      these = λ q l h _.
+          let w : q ≡ r = at_position q (pos q) l h refl ∙ iter-fix τ r e (pos q) in
+          let z : pos q ≤ 0 = pos-least q 0 (iter-zero τ (lead q) ∙ h ∙ sym w) in
+          let t = M.later q l h (omega arith) in
+          (t.0 ∙ w, t.1 ∙ omega arith);
       later = λ q l h k. absurd (omega (arith, pos-below q l));
-      others = one.others;
+      others = M.others;
     }
-      where
-        one : MarkedTo f W (leaders n') (positions n') r 1
-        one = marking_step 0 n n' (omega (arith, S.prime.0)) M (subst (λ q. Marked f.reps r q 0 n n') (sym (iter-zero τ r)) N)
-
-        first : (q : ℕ) → q < f.reps → lead q ≡ r → pos q < 1
-        first q l h =
-            let w : q ≡ r = at_position q (pos q) l h refl ∙ iter-fix τ r e (pos q) in
-            omega (arith, pos-least q 0 (iter-zero τ (lead q) ∙ h ∙ sym w))
 
     pub marking-done : (a b : List ℕ) → MarkedTo f W a b r f.p → MarkedTo f W a b (r + 1) 0
     marking-done a b M = marking-next r a b f.p M (λ q l e. let t = M.these q l e (pos-below q l) in (t.0 ∙ sym e, t.1))
 
-  pub marking-skip : (r : ℕ) (a b : List ℕ) → r < f.reps → ¬ (get_or a r 0 ≡ f.reps) → MarkedTo f W a b r 0 → MarkedTo f W a b (r + 1) 0
-  marking-skip r a b l n M = marking-next r a b 0 M (λ q h e. absurd (n (M.later r l (ap lead (sym e) ∙ lead-lead q h ∙ e) (omega arith))))
+  pub marking-skip : (r : ℕ) (a b : List ℕ) → r < f.reps → ¬ (get_or a r 0 ≡ r) → MarkedTo f W a b r 0 → MarkedTo f W a b (r + 1) 0
+  marking-skip r a b l n M = marking-next r a b 0 M (λ q h e. absurd (n (M.later r l (ap lead (sym e) ∙ lead-lead q h ∙ e) (omega arith)).0))
 
-  -- an unmarked r begins its orbit
-  pub marking-own : (r : ℕ) (a b : List ℕ) → r < f.reps → get_or a r 0 ≡ f.reps → MarkedTo f W a b r 0 → lead r ≡ r
+  -- if r is its own leader, it begins its orbit
+  pub marking-own : (r : ℕ) (a b : List ℕ) → r < f.reps → get_or a r 0 ≡ r → MarkedTo f W a b r 0 → lead r ≡ r
   marking-own r a b l e M = by_cases (dec_lt (lead r) r)
       (λ h. absurd (omega (arith, (M.earlier r l h).0, e)))
       (λ h. omega (arith, lead-below r l))

@@ -1,62 +1,135 @@
--- Laws of notes, an array of rows of five numbers.
+-- Laws of notes.
 --
---   rows_stay, inside-other    an array of the same length has as many rows, in every field
---   inside-below, inside-array a field of a representation that has a row
---   inside-orbited             the same where orbits are noted
---   beside_none, beside-put    nothing is stored; one more number in a field
---   orbited-beside             orbits stay noted where another field is stored
---   array-filled               a field that is stored for all representations
+--   blank                      the note of zeros, for a row that is not there
+--   there                      a row of which a number is noted
+--   noted_at, noted            a number that is noted of a representation, and what it is
 --   noted-led, noted_other     the leader that is noted is the representation itself, or another
-use mathlib.Core.Path.{◌≡◌, refl, sym, ◌∙◌, subst}
-use mathlib.Core.List.{List}
-use Prim.Native.Nat.{ℕ, ◌<◌, ◌≤◌}
+--   kept, beside-long          what is kept where something else is stored; as many notes
+--   orbit_of, orbits_kept      orbits stay noted where what they are made of does
+--   led, placed, marked        leader and position are stored
+--   marked-leaders .. marked-firsts      what is noted then
+--   Filled, filled_none, filled_more, filled_note      numbers that are noted up to a representation
+--   cleared_more               one more note that is an orbit of its own
+--   array-filled               a number that is noted of all representations
+use mathlib.Core.Path.{◌≡◌, refl, ap, sym, ◌∙◌, subst}
+use mathlib.Core.Logic.{by_cases}
+use mathlib.Core.List.{List, map}
+use Prim.Native.Nat.{ℕ, ◌+◌, ◌<◌, ◌≤◌}
 use native.Mathlib.Omega.{arith}
-use lib.ListN.{length, get_or}
-use Rattle.fields.specs.Fields.{field, Inside, Put}
-use Rattle.fields.proofs.Rows.{field-long, Filled}
+use native.Mathlib.Decide.{ℕ_discrete}
+use lib.ListN.{length, get_or, set, length-map}
+use lib.Seq.{get_or-set_same, get_or-set_other}
+use Rattle.std.proofs.Math.Seq.{map-set_same}
+use Rattle.std.proofs.lemmas.List.{get_or-map, map-set}
+use Rattle.std.proofs.lemmas.Simd.{map-map}
 use Rattle.survey.specs.declared.Frame.{Frame}
-use Rattle.survey.specs.Notes.{leaders, Beside}
+use Rattle.survey.specs.declared.Note.{Note}
+use Rattle.survey.specs.Notes.{firsts, leaders, positions, without_orbit, Beside, Cleared}
 use Rattle.survey.specs.Below.{leader_in, position_in, Array, Lines, Orbited}
 
-pub rows_stay : (n j k : ℕ) (a b : List ℕ) → length b ≡ length a → n ≤ length (field 5 j a) → n ≤ length (field 5 k b)
-rows_stay n j k a b e h = omega (arith, h, field-long 5 k j a b e)
+abbrev pub blank : Note
+blank = record { first = 0; leader = 0; position = 0; number = 0; shift = 0 }
 
-pub inside-other : (j k r : ℕ) (a b : List ℕ) → k < 5 → length b ≡ length a → Inside 5 j a r → Inside 5 k b r
-inside-other j k r a b h e I = record { fields = h; rows = omega (arith, I.rows, field-long 5 k j a b e) }
+-- ---- Numbers, read off the notes
 
-pub inside-below : (k n : ℕ) (a : List ℕ) (r : ℕ) → k < 5 → n ≤ length (field 5 k a) → r < n → Inside 5 k a r
-inside-below k n a r h l b = record { fields = h; rows = omega (arith, l, b) }
+pub there : (h : Note → ℕ) (notes : List Note) {n r : ℕ} → n ≤ length (map h notes) → r < n → r < length notes
+there h notes l b = omega (arith, length-map notes h)
 
-pub inside-array : {f : Frame} {W : List ℕ} (k : ℕ) (a : List ℕ) (g : ℕ → ℕ) → k < 5 → Array f W (field 5 k a) g → (r : ℕ) → r < f.reps → Inside 5 k a r
-inside-array {f} k a g h A r l = inside-below k f.reps a r h A.long l
+pub noted_at : (h : Note → ℕ) (notes : List Note) (r : ℕ) → r < length notes → get_or (map h notes) r 0 ≡ h (get_or notes r blank)
+noted_at h notes r l = get_or-map h notes r blank 0 l
 
-pub inside-orbited : {f : Frame} {W a b : List ℕ} (k : ℕ) → k < 5 → Orbited f W a → length b ≡ length a → (r : ℕ) → r < f.reps → Inside 5 k b r
-inside-orbited {f} {W} {a} {b} k h O e r l = record { fields = h; rows = omega (arith, l, O.lines.long, field-long 5 k 0 a b e) }
+pub noted : {f : Frame} {W : List ℕ} {g : ℕ → ℕ} (h : Note → ℕ) (notes : List Note) → Array f W (map h notes) g
+    → (r : ℕ) → r < f.reps → h (get_or notes r blank) ≡ g r
+noted h notes A r l = sym (noted_at h notes r (there h notes A.long l)) ∙ A.at r l
 
--- ---- One field is stored, the others stay
+module _ {f : Frame} {W : List ℕ} {notes : List Note} (O : Orbited f W notes) {r : ℕ} (h : r < f.reps) where
+  pub noted-led : (get_or notes r blank).leader ≡ r → leader_in f W r ≡ r
+  noted-led l = sym (noted (λ n. n.leader) notes O.leaders_are r h) ∙ l
 
-pub beside_none : (k : ℕ) (a : List ℕ) → Beside k a a
-beside_none k a = record { len = refl; kept = λ j h n. refl }
+  pub noted_other : ¬ ((get_or notes r blank).leader ≡ r) → ¬ (leader_in f W r ≡ r)
+  noted_other n l = n (noted (λ n. n.leader) notes O.leaders_are r h ∙ l)
 
-pub beside-put : {k r x : ℕ} {a b c : List ℕ} → Beside k a b → Put 5 k r x b c → Beside k a c
-beside-put B P = record { len = P.len ∙ B.len; kept = λ j h n. P.kept j h n ∙ B.kept j h n }
+-- ---- What is kept where something else is stored
 
-pub orbited-beside : {f : Frame} {W a b : List ℕ} (k : ℕ) → 2 < k → Beside k a b → Orbited f W a → Orbited f W b
-orbited-beside {f} {W} {a} {b} k h B O = record {
-  lines = subst (Lines f W) (sym (B.kept 0 (omega arith) (λ e. omega (arith, e)))) O.lines;
-  leaders_are = subst (λ x. Array f W x (leader_in f W)) (sym (B.kept 1 (omega arith) (λ e. omega (arith, e)))) O.leaders_are;
-  places_are = subst (λ x. Array f W x (position_in f W)) (sym (B.kept 2 (omega arith) (λ e. omega (arith, e)))) O.places_are;
+pub kept : {X : Type 0} (h : Note → X) (without : Note → Note) (a b : List Note) → Beside without a b
+    → map (λ n. h (without n)) b ≡ map (λ n. h (without n)) a
+kept h without a b B = sym (map-map h without b) ∙ ap (map h) B ∙ map-map h without a
+
+pub beside-long : (without : Note → Note) (a b : List Note) → Beside without a b → length b ≡ length a
+beside-long without a b B = sym (length-map b without) ∙ ap length B ∙ length-map a without
+
+-- a note as far as orbits are made of it
+abbrev pub orbit_of : Note → Note
+orbit_of n = record { first = n.first; leader = n.leader; position = n.position; number = 0; shift = 0 }
+
+pub orbits_kept : {f : Frame} {W : List ℕ} (a b : List Note) → Beside orbit_of a b → Orbited f W a → Orbited f W b
+orbits_kept {f} {W} a b B O = record {
+  lines = subst (Lines f W) (sym (kept (λ n. n.first) orbit_of a b B)) O.lines;
+  leaders_are = subst (λ x. Array f W x (leader_in f W)) (sym (kept (λ n. n.leader) orbit_of a b B)) O.leaders_are;
+  places_are = subst (λ x. Array f W x (position_in f W)) (sym (kept (λ n. n.position) orbit_of a b B)) O.places_are;
 }
 
-pub array-filled : {f : Frame} {W a b : List ℕ} {g : ℕ → ℕ} {r : ℕ} (k : ℕ) → Orbited f W a → Beside k a b → Filled (field 5 k b) g r → r ≡ f.reps
-    → Array f W (field 5 k b) g
-array-filled {a = a} {b} k O B F e = record { long = rows_stay _ 0 k a b B.len O.lines.long; at = λ j h. F j (omega (arith, e)) }
+-- ---- Leader and position are stored
 
--- ---- Leaders, read off the notes
+abbrev pub led : List Note → (q x : ℕ) → List Note
+led notes q x =
+    let n = get_or notes q blank in
+    set notes q (record { first = n.first; leader = x; position = n.position; number = n.number; shift = n.shift })
 
-module _ {f : Frame} {W notes : List ℕ} {r x : ℕ} (O : Orbited f W notes) (h : r < f.reps) (e : x ≡ get_or (leaders notes) r 0) where
-  pub noted-led : x ≡ r → leader_in f W r ≡ r
-  noted-led l = sym (O.leaders_are.at r h) ∙ sym e ∙ l
+abbrev pub placed : List Note → (q k : ℕ) → List Note
+placed notes q k =
+    let n = get_or notes q blank in
+    set notes q (record { first = n.first; leader = n.leader; position = k; number = n.number; shift = n.shift })
 
-  pub noted_other : ¬ (x ≡ r) → ¬ (leader_in f W r ≡ r)
-  noted_other n l = n (e ∙ O.leaders_are.at r h ∙ l)
+module _ (notes : List Note) (q x k : ℕ) where
+  abbrev pub marked : List Note
+  marked = placed (led notes q x) q k
+
+  pub marked-leaders : leaders marked ≡ set (leaders notes) q x
+  marked-leaders = map-set_same (λ (n : Note). n.leader) (led notes q x) q _ blank refl ∙ map-set (λ (n : Note). n.leader) notes q _
+
+  pub marked-positions : positions marked ≡ set (positions notes) q k
+  marked-positions = map-set (λ (n : Note). n.position) (led notes q x) q _
+      ∙ ap (λ a. set a q k) (map-set_same (λ (n : Note). n.position) notes q _ blank refl)
+
+  pub marked-beside : Beside without_orbit notes marked
+  marked-beside = map-set_same without_orbit (led notes q x) q _ blank refl ∙ map-set_same without_orbit notes q _ blank refl
+
+  pub marked-long : length marked ≡ length notes
+  marked-long = beside-long without_orbit notes marked marked-beside
+
+  pub marked-firsts : firsts marked ≡ firsts notes
+  marked-firsts = kept (λ n. n.first) without_orbit notes marked marked-beside
+
+-- ---- Numbers that are noted up to a representation
+
+abbrev pub Filled : List ℕ → (ℕ → ℕ) → ℕ → Type 0
+Filled a g r = (k : ℕ) → k < r → get_or a k 0 ≡ g k
+
+pub filled_none : (a : List ℕ) (g : ℕ → ℕ) → Filled a g 0
+filled_none a g k l = absurd (omega arith)
+
+pub filled_more : (a : List ℕ) (g : ℕ → ℕ) (r x : ℕ) → r < length a → x ≡ g r → Filled a g r → Filled (set a r x) g (r + 1)
+filled_more a g r x l e h k m = by_cases (ℕ_discrete k r)
+    (λ q. ap (λ z. get_or (set a r x) z 0) q ∙ get_or-set_same a r x 0 l ∙ e ∙ ap g (sym q))
+    (λ q. get_or-set_other a r k x 0 q ∙ h k (omega arith))
+
+pub filled_note : (h : Note → ℕ) (notes : List Note) (g : ℕ → ℕ) (r : ℕ) (n : Note) → r < length notes → h n ≡ g r → Filled (map h notes) g r
+    → Filled (map h (set notes r n)) g (r + 1)
+filled_note h notes g r n l e F =
+    subst (λ a. Filled a g (r + 1)) (sym (map-set h notes r n)) (filled_more (map h notes) g r (h n) (omega (arith, length-map notes h)) e F)
+
+pub cleared_more : {k : ℕ} {a : List Note} (notes : List Note) → k < length notes → Cleared k a notes → Cleared (k + 1) a (marked notes k k 0)
+cleared_more {k} {a} notes l C = record {
+  beside = marked-beside notes k k 0 ∙ C.beside;
+  alone = λ q h. (
+    ap (λ x. get_or x q 0) (marked-leaders notes k k 0)
+        ∙ filled_more (leaders notes) (λ j. j) k k (omega (arith, length-map notes (λ (n : Note). n.leader))) refl (λ j i. (C.alone j i).0) q h,
+    ap (λ x. get_or x q 0) (marked-positions notes k k 0)
+        ∙ filled_more (positions notes) (λ j. 0) k 0 (omega (arith, length-map notes (λ (n : Note). n.position))) refl (λ j i. (C.alone j i).1) q h,
+  );
+}
+
+pub array-filled : {f : Frame} {W : List ℕ} {g : ℕ → ℕ} {r : ℕ} (h : Note → ℕ) (notes : List Note) → f.reps ≤ length notes → Filled (map h notes) g r
+    → r ≡ f.reps → Array f W (map h notes) g
+array-filled h notes l F e = record { long = omega (arith, length-map notes h); at = λ j i. F j (omega (arith, e)) }

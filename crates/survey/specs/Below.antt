@@ -34,6 +34,7 @@ use Rattle.survey.specs.Notes.{firsts, leaders, positions, numbers, shifts}
 use Rattle.survey.specs.declared.Frame.{Frame}
 use Rattle.survey.specs.declared.Carried.{Carried}
 use Rattle.survey.specs.declared.NextFirst.{NextFirst}
+use Rattle.survey.specs.declared.Note.{Note}
 
 -- the lines up to the end of the level, in words that go on
 abbrev pub low_of : Frame → List ℕ → List ℕ
@@ -161,12 +162,12 @@ module _ (f : Frame) (W : List ℕ) where
   abbrev pub Lines : List ℕ → Type 0
   Lines first = Array first first_of
 
-  pub record Orbited (notes : List ℕ) : Type 0 where
+  pub record Orbited (notes : List Note) : Type 0 where
     pub lines : Lines (firsts notes)
     pub leaders_are : Array (leaders notes) leader_in
     pub places_are : Array (positions notes) position_in
 
-  pub record Surveyed (rows : List (List ℕ)) (notes : List ℕ) : Type 0 where
+  pub record Surveyed (rows : List (List ℕ)) (notes : List Note) : Type 0 where
     pub sound : Sound rows
     pub orbited : Orbited notes
     pub numbers_are : Array (numbers notes) (start (source_in rows))
@@ -175,12 +176,12 @@ module _ (f : Frame) (W : List ℕ) where
   -- ---- First lines while they are noted
 
   -- those of the representations before r are, and there is room for all
-  pub record FirstsTo (notes : List ℕ) (r : ℕ) : Type 0 where
+  pub record FirstsTo (notes : List Note) (r : ℕ) : Type 0 where
     pub long : f.reps ≤ length (firsts notes)
     pub at : (k : ℕ) → k < r → get_or (firsts notes) k 0 ≡ first_of k
 
   -- those from representation r on are noted as well, up to that which e names
-  pub record RunNoted (notes₀ notes : List ℕ) (r : ℕ) (e : NextFirst) : Type 0 where
+  pub record RunNoted (notes₀ notes : List Note) (r : ℕ) (e : NextFirst) : Type 0 where
     pub forth : r < e.rep
     pub within : e.rep ≤ f.reps
     pub len : length notes ≡ length notes₀
@@ -189,16 +190,16 @@ module _ (f : Frame) (W : List ℕ) where
 
   -- ---- Orbits while they are marked
 
-  -- every member of an orbit before that of r is marked, so are the first k members of that of r, and no others
+  -- every member of an orbit before that of r is marked, so are the first k members of that of r; each other is noted as an orbit of its own
   pub record MarkedTo (leaders places : List ℕ) (r k : ℕ) : Type 0 where
     pub long : (f.reps ≤ length leaders) × (f.reps ≤ length places)
     pub earlier : (q : ℕ) → q < f.reps → leader_in q < r → (get_or leaders q 0 ≡ leader_in q) × (get_or places q 0 ≡ position_in q)
     pub these : (q : ℕ) → q < f.reps → leader_in q ≡ r → position_in q < k → (get_or leaders q 0 ≡ r) × (get_or places q 0 ≡ position_in q)
-    pub later : (q : ℕ) → q < f.reps → leader_in q ≡ r → k ≤ position_in q → get_or leaders q 0 ≡ f.reps
-    pub others : (q : ℕ) → q < f.reps → r < leader_in q → get_or leaders q 0 ≡ f.reps
+    pub later : (q : ℕ) → q < f.reps → leader_in q ≡ r → k ≤ position_in q → (get_or leaders q 0 ≡ q) × (get_or places q 0 ≡ 0)
+    pub others : (q : ℕ) → q < f.reps → r < leader_in q → (get_or leaders q 0 ≡ q) × (get_or places q 0 ≡ 0)
 
   -- the same in notes that have kept their first lines
-  pub record Marking (notes₀ notes : List ℕ) (r k : ℕ) : Type 0 where
+  pub record Marking (notes₀ notes : List Note) (r k : ℕ) : Type 0 where
     pub marks : MarkedTo (leaders notes) (positions notes) r k
     pub lines : firsts notes ≡ firsts notes₀
     pub len : length notes ≡ length notes₀

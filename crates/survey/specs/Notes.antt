@@ -1,44 +1,42 @@
--- What is noted of the representations of a level: one array, a row of five numbers for each representation.
+-- What is noted of the representations of a level.
 --
---   note_width                  the numbers of a row
 --   firsts                     first lines
 --   leaders, positions         the least of each orbit, and the position in the orbit
 --   numbers                    numbers of the first representations above
 --   shifts                     the constants that close the orbits
---   Beside k a b               a and b differ in field k alone
---   Cleared reps a b           b is a with no orbit marked
---   Marked reps r q k a b      b is a with q marked as element k of the orbit of r, unless it was marked
-use Rattle.std.specs.Prelude.{◌≡◌, List, ℕ, ◌<◌, length, get_or, set}
-use Rattle.fields.specs.Fields.{field}
+--   without_orbit, without_number, without_shift      a note without leader and position, without the number, without the constant
+--   Beside without a b         a and b differ alone in what `without` takes away
+--   Cleared reps a b           b is a with each representation as an orbit of its own
+use Rattle.std.specs.Prelude.{◌≡◌, List, map, ℕ, ◌<◌, get_or}
+use Rattle.survey.specs.declared.Note.{Note}
 
-abbrev pub note_width : ℕ
-note_width = 5
+abbrev pub firsts : List Note → List ℕ
+firsts = map (λ n. n.first)
 
-abbrev pub firsts : List ℕ → List ℕ
-firsts = field 5 0
+abbrev pub leaders : List Note → List ℕ
+leaders = map (λ n. n.leader)
 
-abbrev pub leaders : List ℕ → List ℕ
-leaders = field 5 1
+abbrev pub positions : List Note → List ℕ
+positions = map (λ n. n.position)
 
-abbrev pub positions : List ℕ → List ℕ
-positions = field 5 2
+abbrev pub numbers : List Note → List ℕ
+numbers = map (λ n. n.number)
 
-abbrev pub numbers : List ℕ → List ℕ
-numbers = field 5 3
+abbrev pub shifts : List Note → List ℕ
+shifts = map (λ n. n.shift)
 
-abbrev pub shifts : List ℕ → List ℕ
-shifts = field 5 4
+abbrev pub without_orbit : Note → Note
+without_orbit n = record { first = n.first; leader = 0; position = 0; number = n.number; shift = n.shift }
 
-pub record Beside (k : ℕ) (a b : List ℕ) : Type 0 where
-  pub len : length b ≡ length a
-  pub kept : (j : ℕ) → j < 5 → ¬ (j ≡ k) → field 5 j b ≡ field 5 j a
+abbrev pub without_number : Note → Note
+without_number n = record { first = n.first; leader = n.leader; position = n.position; number = 0; shift = n.shift }
 
-pub record Cleared (reps : ℕ) (a b : List ℕ) : Type 0 where
-  pub beside : Beside 1 a b
-  pub unmarked : (q : ℕ) → q < reps → get_or (leaders b) q 0 ≡ reps
+abbrev pub without_shift : Note → Note
+without_shift n = record { first = n.first; leader = n.leader; position = n.position; number = n.number; shift = 0 }
 
-pub record Marked (reps r q k : ℕ) (a b : List ℕ) : Type 0 where
-  pub len : length b ≡ length a
-  pub lines : firsts b ≡ firsts a
-  pub fresh : get_or (leaders a) q 0 ≡ reps → (leaders b ≡ set (leaders a) q r) × (positions b ≡ set (positions a) q k)
-  pub stale : ¬ (get_or (leaders a) q 0 ≡ reps) → (leaders b ≡ leaders a) × (positions b ≡ positions a)
+abbrev pub Beside : (Note → Note) → List Note → List Note → Type 0
+Beside without a b = map without b ≡ map without a
+
+pub record Cleared (reps : ℕ) (a b : List Note) : Type 0 where
+  pub beside : Beside without_orbit a b
+  pub alone : (q : ℕ) → q < reps → (get_or (leaders b) q 0 ≡ q) × (get_or (positions b) q 0 ≡ 0)

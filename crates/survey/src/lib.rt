@@ -1,23 +1,20 @@
 // What is to be known of a level before the next is written: where its representations begin, the orbits of the generator
-// on top, the numbers of what they give, and the constants that close each orbit. It is noted in one array, a row of five
-// numbers for each representation.
+// on top, the numbers of what they give, and the constants that close each orbit.
 //
-//   FIRST .. SHIFT               the fields of a row of notes
+//   Note                         what is noted of a representation
 //   Frame                        what a level is made with
-//   note, put_note               reads and stores a field
 //   listed, member               a representation by its first line
 //   top_target                   where the generator on top leads it
 //   NextFirst, note_run, find_lines      note the first lines
-//   mark, mark_along, mark_orbit, mark_from, clear, mark_orbits      note leaders and positions
+//   mark_along, mark_orbit, mark_from, clear, mark_orbits      note leaders and positions
 //   made, count_numbers          note the numbers
 //   carry, carry_around, around  an entry along an orbit
 //   closing, leading, find_shifts      note the constants
 #![tactic(auto)]
 
-ghost use Rattle.std.specs.Prelude.{◌≡◌, ◌+◌, ◌*◌, ◌≤◌, ◌<◌, length, get_or};
-ghost use Rattle.fields.specs.Fields.{field, Inside, Put};
-ghost use Rattle.survey.specs.Notes.{note_width, firsts, leaders, positions, numbers, shifts, Beside, Cleared, Marked};
-ghost use Rattle.survey.specs.Below.{deg_of, target_of, leader_in, made_in, number_in, around_in, closing_in, leading_in, LevelStands, Located, Array, Lines};
+ghost use Rattle.std.specs.Prelude.{◌≡◌, ◌+◌, ◌≤◌, ◌<◌, length};
+ghost use Rattle.survey.specs.Notes.{firsts, leaders, positions, numbers, shifts, without_number, without_shift, Beside, Cleared};
+ghost use Rattle.survey.specs.Below.{deg_of, target_of, leader_in, made_in, number_in, around_in, closing_in, leading_in, LevelStands, Located, Fixed, Array, Lines};
 ghost use Rattle.survey.specs.Below.{FirstsTo, RunNoted, Orbited, MarkedTo, Marking, CarriedAt, CarriedOn};
 ghost use Rattle.level.specs.Stored.{Below};
 ghost use Rattle.rows.specs.Rows.{Top};
@@ -26,23 +23,16 @@ use definitions::Entry;
 use level::Listed;
 use rows::Row;
 
-// The numbers of a row of notes.
-pub const NOTE: usize = 5;
-
-// Its first line.
-pub const FIRST: usize = 0;
-
-// The least representation of its orbit.
-pub const LEADER: usize = 1;
-
-// Its position in the orbit, from the leader on.
-pub const POSITION: usize = 2;
-
-// The number of the first representation above it.
-pub const NUMBER: usize = 3;
-
-// The constant that closes its orbit, at the leader.
-pub const SHIFT: usize = 4;
+// What is noted of a representation: its first line; the least representation of its orbit, and its position from that on; the
+// number of the first representation above it; and, at the least of an orbit, the constant that closes that.
+#[derive(Clone, Copy, Default)]
+pub struct Note {
+    pub first: u32,
+    pub leader: u32,
+    pub position: u32,
+    pub number: u32,
+    pub shift: u32,
+}
 
 // What a level is made with: the modulus, the generator on top (from 0), how many generators there are, the prime of the
 // one on top, the first line of the level below, how many representations that has, and the line behind it.
@@ -57,45 +47,27 @@ pub struct Frame {
     pub end: usize,
 }
 
-// Field k of the notes of representation r.
-pub fn note(notes: &[u32], k: usize, r: u32) -> u32
-    requires { Inside note_width k notes.now r }
-    ensures { result ≡ get_or (field note_width k notes.now) r 0 }
-{
-    fields::get(notes, NOTE, k, r)
-}
-
-// Stores it.
-fn put_note(notes: &mut [u32], k: usize, r: u32, x: u32)
-    requires { Inside note_width k notes.old r }
-    ensures { Put note_width k r x notes.old notes.new }
-{
-    fields::put(notes, NOTE, k, r, x);
-}
-
 // Representation r, by its first line.
-pub fn listed(low: &[u32], notes: &[u32], f: Frame, r: u32) -> Listed
+pub fn listed(low: &[u32], notes: &[Note], f: Frame, r: u32) -> Listed
     requires { LevelStands f low.now × Lines f low.now (firsts notes.now) × (r < f.reps) }
     ensures { Located f low.now r result }
 {
-    let s = note(notes, FIRST, r);
-    level::representation(low, level::up(s))
+    level::representation(low, notes[r as usize].first as usize)
 }
 
 // Representation r where its degree d is known, as along an orbit.
-pub fn member(low: &[u32], notes: &[u32], f: Frame, d: u32, r: u32) -> Listed
+pub fn member(low: &[u32], notes: &[Note], f: Frame, d: u32, r: u32) -> Listed
     requires { LevelStands f low.now × Lines f low.now (firsts notes.now) × (r < f.reps) × (d ≡ deg_of f low.now r) }
     ensures { Located f low.now r result }
 {
-    let s = note(notes, FIRST, r);
     Listed {
-        line: level::up(s),
+        line: notes[r as usize].first as usize,
         deg: d,
     }
 }
 
 // Where the intertwiner of the generator on top leads representation r.
-pub fn top_target(low: &[u32], notes: &[u32], f: Frame, r: u32) -> u32
+pub fn top_target(low: &[u32], notes: &[Note], f: Frame, r: u32) -> u32
     requires { LevelStands f low.now × Lines f low.now (firsts notes.now) × (r < f.reps) }
     ensures { result ≡ target_of f low.now f.top r }
 {
@@ -111,33 +83,30 @@ pub struct NextFirst {
 }
 
 // Notes the first lines from representation r on, which is d, as long as the degree stays: no line waits for the degree before it.
-fn note_run(low: &[u32], notes: &mut [u32], f: Frame, d: Listed, r: u32) -> NextFirst
+fn note_run(low: &[u32], notes: &mut [Note], f: Frame, d: Listed, r: u32) -> NextFirst
     requires { Located f low.now r d × FirstsTo f low.now notes.old r }
     ensures { RunNoted f low.now notes.old notes.new r result }
 {
     let step = level::matrix_line(d, f.gens) - d.line;
     let mut line = d.line;
-    let mut q = r;
-    while q < f.reps {
+    for q in r..f.reps {
         if level::word_at(low, line, level::DEG) != d.deg {
             return NextFirst { rep: q, line };
         }
-        put_note(notes, FIRST, q, line as u32);
+        notes[q as usize].first = line as u32;
         line += step;
-        q += 1;
     }
-    NextFirst { rep: q, line }
+    NextFirst { rep: f.reps, line }
 }
 
 // Notes the first lines, in runs of one degree.
-pub fn find_lines(low: &[u32], notes: &mut [u32], f: Frame)
-    requires { LevelStands f low.now × (note_width * f.reps ≤ length notes.old) }
+pub fn find_lines(low: &[u32], notes: &mut [Note], f: Frame)
+    requires { LevelStands f low.now × (f.reps ≤ length notes.old) }
     ensures { Lines f low.now (firsts notes.new) × (length notes.new ≡ length notes.old) }
 {
     let mut s = f.base;
     let mut r: u32 = 0;
-    let reps = f.reps;
-    while r < reps {
+    while r < f.reps {
         let d = level::representation(low, s);
         let e = note_run(low, notes, f, d, r);
         r = e.rep;
@@ -145,85 +114,73 @@ pub fn find_lines(low: &[u32], notes: &mut [u32], f: Frame)
     }
 }
 
-// Notes representation q as element k of the orbit of r, unless it is noted; `reps` stands for that it is not.
-fn mark(notes: &mut [u32], reps: u32, r: u32, q: u32, k: u32)
-    requires { Inside note_width 1 notes.old q }
-    ensures { Marked reps r q k notes.old notes.new }
-{
-    if note(notes, LEADER, q) == reps {
-        put_note(notes, LEADER, q, r);
-        put_note(notes, POSITION, q, k);
-    }
-}
-
-// Marks the orbit of r, none of which is marked, member after member.
-fn mark_along(low: &[u32], notes: &mut [u32], f: Frame, r: u32)
+// Marks the orbit of r, which moves and none of which is marked, member after member.
+fn mark_along(low: &[u32], notes: &mut [Note], f: Frame, r: u32)
     requires level_stands { LevelStands f low.now × Lines f low.now (firsts notes.old) × (r < f.reps) × (leader_in f low.now r ≡ r) }
+    requires moves { ¬ Fixed f low.now r }
     requires marked_to { MarkedTo f low.now (leaders notes.old) (positions notes.old) r 0 }
     ensures { Marking f low.now notes.old notes.new r f.p }
 {
     let d = listed(low, notes, f, r);
     let mut q = r;
-    let p = f.p;
-    for k in 0..p {
-        mark(notes, f.reps, r, q, k);
+    for k in 0..f.p {
+        notes[q as usize].leader = r;
+        notes[q as usize].position = k;
         let e = member(low, notes, f, d.deg, q);
         q = level::target(low, e, f.top);
     }
 }
 
-// Marks the orbit of r, none of which is marked: where it does not move, r alone.
-fn mark_orbit(low: &[u32], notes: &mut [u32], f: Frame, r: u32)
+// Marks the orbit of r, none of which is marked: where it does not move, r is marked as it is.
+fn mark_orbit(low: &[u32], notes: &mut [Note], f: Frame, r: u32)
     requires level_stands { LevelStands f low.now × Lines f low.now (firsts notes.old) × (r < f.reps) × (leader_in f low.now r ≡ r) }
     requires marked_to { MarkedTo f low.now (leaders notes.old) (positions notes.old) r 0 }
     ensures { Marking f low.now notes.old notes.new r f.p }
 {
-    if top_target(low, notes, f, r) == r {
-        mark(notes, f.reps, r, r, 0);
-        return;
+    if top_target(low, notes, f, r) != r {
+        mark_along(low, notes, f, r);
     }
-    mark_along(low, notes, f, r);
 }
 
-// Marks the orbit of r if r begins one.
-fn mark_from(low: &[u32], notes: &mut [u32], f: Frame, r: u32)
+// Marks the orbit of r if r begins one: if no orbit before has it.
+fn mark_from(low: &[u32], notes: &mut [Note], f: Frame, r: u32)
     requires level_stands { LevelStands f low.now × Lines f low.now (firsts notes.old) × (r < f.reps) }
     requires marked_to { MarkedTo f low.now (leaders notes.old) (positions notes.old) r 0 }
     ensures { Marking f low.now notes.old notes.new (r + 1) 0 }
 {
-    if note(notes, LEADER, r) == f.reps {
+    if notes[r as usize].leader == r {
         mark_orbit(low, notes, f, r);
     }
 }
 
-// Notes that no orbit is marked.
-fn clear(notes: &mut [u32], reps: u32)
-    requires { reps ≤ length (leaders notes.old) }
+// Notes each representation as an orbit of its own, which it is until the orbit is marked that has it.
+fn clear(notes: &mut [Note], reps: u32)
+    requires { reps ≤ length notes.old }
     ensures { Cleared reps notes.old notes.new }
 {
     for k in 0..reps {
-        put_note(notes, LEADER, k, reps);
+        notes[k as usize].leader = k;
+        notes[k as usize].position = 0;
     }
 }
 
 // Notes leaders and positions.
-pub fn mark_orbits(low: &[u32], notes: &mut [u32], f: Frame)
+pub fn mark_orbits(low: &[u32], notes: &mut [Note], f: Frame)
     requires { LevelStands f low.now × Lines f low.now (firsts notes.old) }
     ensures { Orbited f low.now notes.new × (length notes.new ≡ length notes.old) }
 {
-    let reps = f.reps;
-    clear(notes, reps);
-    for r in 0..reps {
+    clear(notes, f.reps);
+    for r in 0..f.reps {
         mark_from(low, notes, f, r);
     }
 }
 
 // How many representations r gives.
-fn made(low: &[u32], notes: &[u32], f: Frame, r: u32) -> u32
+fn made(low: &[u32], notes: &[Note], f: Frame, r: u32) -> u32
     requires { LevelStands f low.now × Orbited f low.now notes.now × (r < f.reps) }
     ensures { result ≡ made_in f low.now r }
 {
-    if note(notes, LEADER, r) != r {
+    if notes[r as usize].leader != r {
         return 0;
     }
     if top_target(low, notes, f, r) == r {
@@ -233,15 +190,14 @@ fn made(low: &[u32], notes: &[u32], f: Frame, r: u32) -> u32
 }
 
 // Notes the numbers: of the first representation that each gives. Returns how many all give.
-pub fn count_numbers(low: &[u32], notes: &mut [u32], f: Frame) -> u32
+pub fn count_numbers(low: &[u32], notes: &mut [Note], f: Frame) -> u32
     requires { LevelStands f low.now × Orbited f low.now notes.old }
-    ensures value { (result ≡ number_in f low.now f.reps) × Beside 3 notes.old notes.new }
+    ensures value { (result ≡ number_in f low.now f.reps) × Beside without_number notes.old notes.new }
     ensures array { Array f low.now (numbers notes.new) (number_in f low.now) }
 {
-    let mut c: u32 = 0;
-    let reps = f.reps;
-    for r in 0..reps {
-        put_note(notes, NUMBER, r, c);
+    let mut c = 0;
+    for r in 0..f.reps {
+        notes[r as usize].number = c;
         c += made(low, notes, f, r);
     }
     c
@@ -255,7 +211,7 @@ pub struct Carried {
 }
 
 // An entry taken one step along the orbit.
-fn carry(low: &[u32], notes: &[u32], f: Frame, d: u32, s: Carried) -> Carried
+fn carry(low: &[u32], notes: &[Note], f: Frame, d: u32, s: Carried) -> Carried
     requires { LevelStands f low.now × Lines f low.now (firsts notes.now) × CarriedAt f low.now d s }
     ensures { CarriedOn f low.now d s result }
 {
@@ -267,7 +223,7 @@ fn carry(low: &[u32], notes: &[u32], f: Frame, d: u32, s: Carried) -> Carried
 }
 
 // Column 0 of representation r taken around its orbit, step by step.
-fn carry_around(low: &[u32], notes: &[u32], f: Frame, d: Listed, r: u32) -> Entry
+fn carry_around(low: &[u32], notes: &[Note], f: Frame, d: Listed, r: u32) -> Entry
     requires { Located f low.now r d × Lines f low.now (firsts notes.now) }
     ensures { (result ≡ around_in f low.now r f.p) × Below f.m (deg_of f low.now r) result }
 {
@@ -275,8 +231,7 @@ fn carry_around(low: &[u32], notes: &[u32], f: Frame, d: Listed, r: u32) -> Entr
         rep: r,
         x: Entry { row: 0, exp: 0 },
     };
-    let p = f.p;
-    for k in 0..p {
+    for _ in 0..f.p {
         s = carry(low, notes, f, d.deg, s);
     }
     s.x
@@ -284,7 +239,7 @@ fn carry_around(low: &[u32], notes: &[u32], f: Frame, d: Listed, r: u32) -> Entr
 
 // Column 0 of representation r taken around its orbit: where that does not move, by a power of one intertwiner. A square is two
 // steps, which are quicker.
-fn around(low: &[u32], notes: &[u32], f: Frame, d: Listed, r: u32) -> Entry
+fn around(low: &[u32], notes: &[Note], f: Frame, d: Listed, r: u32) -> Entry
     requires { Located f low.now r d × Lines f low.now (firsts notes.now) }
     ensures { (result ≡ around_in f low.now r f.p) × Below f.m (deg_of f low.now r) result }
 {
@@ -296,7 +251,7 @@ fn around(low: &[u32], notes: &[u32], f: Frame, d: Listed, r: u32) -> Entry
 
 // The constant that closes the orbit of r: an exponent of the power word u, which ends before generator n, less that of the
 // intertwiners around it.
-fn closing(low: &[u32], notes: &[u32], u: &Row, n: usize, f: Frame, r: u32) -> u32
+fn closing(low: &[u32], notes: &[Note], u: &Row, n: usize, f: Frame, r: u32) -> u32
     requires { LevelStands f low.now × Lines f low.now (firsts notes.now) × (r < f.reps) × Top f.top u.now n }
     ensures { (result ≡ closing_in f low.now u.now r) × (result < f.m) }
 {
@@ -310,25 +265,23 @@ fn closing(low: &[u32], notes: &[u32], u: &Row, n: usize, f: Frame, r: u32) -> u
 }
 
 // This constant if r is the least of its orbit, and 0 else.
-fn leading(low: &[u32], notes: &[u32], u: &Row, n: usize, f: Frame, r: u32) -> u32
+fn leading(low: &[u32], notes: &[Note], u: &Row, n: usize, f: Frame, r: u32) -> u32
     requires { LevelStands f low.now × Orbited f low.now notes.now × (r < f.reps) × Top f.top u.now n }
     ensures { (result ≡ leading_in f low.now u.now r) × (result < f.m) }
 {
-    if note(notes, LEADER, r) != r {
+    if notes[r as usize].leader != r {
         return 0;
     }
     closing(low, notes, u, n, f, r)
 }
 
 // Notes these constants.
-pub fn find_shifts(low: &[u32], notes: &mut [u32], u: &Row, n: usize, f: Frame)
+pub fn find_shifts(low: &[u32], notes: &mut [Note], u: &Row, n: usize, f: Frame)
     requires { LevelStands f low.now × Orbited f low.now notes.old × Top f.top u.now n }
     ensures array { Array f low.now (shifts notes.new) (leading_in f low.now u.now) }
-    ensures beside { Beside 4 notes.old notes.new }
+    ensures beside { Beside without_shift notes.old notes.new }
 {
-    let reps = f.reps;
-    for r in 0..reps {
-        let x = leading(low, notes, u, n, f, r);
-        put_note(notes, SHIFT, r, x);
+    for r in 0..f.reps {
+        notes[r as usize].shift = leading(low, notes, u, n, f, r);
     }
 }

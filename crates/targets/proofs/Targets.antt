@@ -8,32 +8,32 @@
 --   target-known               where an intertwiner leads a representation
 --   word-known, word_below     the word of a generator with the one on top; the exponent of that is below its prime
 --   landing-known              the number that an intertwiner's exponents tell
---   inside-targets             a field of a generator that has a row
---   targeted-none, targeted-more     the array of targets, filled row by row
+--   targeted-none, targeted-more     the targets, one after the other
 use mathlib.Core.Path.{◌≡◌, refl, ap, ap₂, sym, ◌∙◌, subst}
 use mathlib.Core.Logic.{by_cases}
 use mathlib.Core.List.{List, []}
-use Prim.Native.Nat.{ℕ, zero, suc, ◌+◌, ◌*◌, ◌/◌, ◌≤◌, ◌<◌}
+use Prim.Native.Nat.{ℕ, zero, suc, ◌+◌, ◌*◌, ◌/◌, ◌<◌}
 use native.Mathlib.Omega.{arith}
 use native.Mathlib.Nat.{mod-lt, div-le_self}
 use native.Mathlib.Decide.{ℕ_discrete}
-use lib.ListN.{length, get_or, set}
+use lib.ListN.{length, get_or, set, length-map}
 use lib.Seq.{get_or-set_same, get_or-set_other}
+use Rattle.std.proofs.lemmas.List.{map-set}
 use Rattle.definitions.specs.declared.Entry.{Entry}
 use Rattle.definitions.specs.Lists.{iter}
 use Rattle.definitions.specs.Presentation.{to_nf, pair_number}
 use Rattle.definitions.specs.Monomial.{entry, less, act}
 use Rattle.formulas.specs.Formulas.{around, shift, start, top_entry, landing, walk}
-use Rattle.fields.specs.Fields.{Inside, Put}
-use Rattle.fields.proofs.Rows.{field-rows}
 use Rattle.level.specs.declared.Listed.{Listed}
 use Rattle.level.specs.Stored.{generator_in, target_in, through_in}
 use Rattle.survey.specs.declared.Frame.{Frame}
+use Rattle.survey.specs.declared.Note.{Note}
 use Rattle.survey.specs.Notes.{shifts}
 use Rattle.survey.specs.Below.{deg_of, listed_of, source_in, target_of, closing_in, LevelStands, Located, Fixed, Surveyed}
 use Rattle.survey.proofs.Level.{located-target}
 use Rattle.survey.proofs.Marking.{lead-fixed}
-use Rattle.survey.proofs.Notes.{inside-below}
+use Rattle.survey.proofs.Notes.{there}
+use Rattle.targets.specs.declared.Target.{Target}
 use Rattle.targets.specs.Reached.{conjugated_in, starts, landings, Lands, Targeted}
 
 module _ (f : Frame) (W : List ℕ) (rows : List (List ℕ)) where
@@ -73,15 +73,14 @@ step-positive f W S = go (f.m / f.p) S.whole
 
 -- ---- Constants and numbers of a level that is surveyed
 
-module _ {f : Frame} {W : List ℕ} {rows : List (List ℕ)} {notes : List ℕ} (S : Surveyed f W rows notes) (r : ℕ) (l : r < f.reps) where
-  pub root-asked : Inside 5 4 notes r × (0 < f.p) × (get_or (shifts notes) r 0 < f.m)
-  root-asked =
-      (inside-below 4 f.reps notes r (omega arith) S.shifts_are.long l, omega (arith, S.sound.stands.prime.0), S.shifts_are.below r l)
+module _ {f : Frame} {W : List ℕ} {rows : List (List ℕ)} {notes : List Note} (S : Surveyed f W rows notes) (r : ℕ) (l : r < f.reps) where
+  pub root-asked : (r < length notes) × (0 < f.p) × (get_or (shifts notes) r 0 < f.m)
+  root-asked = (there (λ n. n.shift) notes S.shifts_are.long l, omega (arith, S.sound.stands.prime.0), S.shifts_are.below r l)
 
   pub root-known : Fixed f W r → get_or (shifts notes) r 0 / f.p ≡ shift (source_in f W rows) r / f.p
   root-known e = ap (λ x. x / f.p) (S.shifts_are.at r l (lead-fixed f W S.sound.stands r l e))
 
-module _ {f : Frame} {W : List ℕ} {rows : List (List ℕ)} {notes : List ℕ} {r : ℕ} {D : Listed} {j : ℕ} (A : Lands f W rows notes r D j) where
+module _ {f : Frame} {W : List ℕ} {rows : List (List ℕ)} {notes : List Note} {r : ℕ} {D : Listed} {j : ℕ} (A : Lands f W rows notes r D j) where
   pub target-known : {q : ℕ} → q ≡ target_in W D j → (q ≡ target_of f W j r) × (q < f.reps) × (D.deg ≡ deg_of f W q)
   target-known {q} e = located-target A.located j q (omega (arith, A.above)) A.inside e
 
@@ -114,11 +113,8 @@ module _ {f : Frame} {W : List ℕ} {rows : List (List ℕ)} {notes : List ℕ} 
 
 -- ---- The array of targets
 
-pub inside-targets : {j : ℕ} {a : List ℕ} (n k : ℕ) → k < 2 → 2 * n ≤ length a → j < n → Inside 2 k a j
-inside-targets {j} {a} n k h long l = record { fields = h; rows = omega (arith, field-rows 2 k n a (omega arith) long) }
-
 module _ (f : Frame) (W : List ℕ) (rows : List (List ℕ)) (r : ℕ) where
-  pub targeted-none : (a : List ℕ) → Targeted f W rows r a (f.top + 1)
+  pub targeted-none : (a : List Target) → Targeted f W rows r a (f.top + 1)
   targeted-none a = record { starts_are = λ k h l. absurd (omega arith); landings_are = λ k h l. absurd (omega arith) }
 
   -- a list filled above the generator on top, and one more number
@@ -130,18 +126,11 @@ module _ (f : Frame) (W : List ℕ) (rows : List (List ℕ)) (r : ℕ) where
       (λ q. ap (λ z. get_or (set a j x) z 0) q ∙ get_or-set_same a j x 0 l ∙ e ∙ ap g (sym q))
       (λ q. get_or-set_other a j k x 0 q ∙ h k u (omega arith))
 
-  pub targeted-more : {j x y : ℕ} {a b c : List ℕ} → 2 * f.gens ≤ length a → j < f.gens
-      → Put 2 0 j x a b → x ≡ start (source_in f W rows) (target_of f W j r) → Put 2 1 j y b c → y ≡ landing (source_in f W rows) j r
-      → Targeted f W rows r a j → Targeted f W rows r c (j + 1)
-  targeted-more {j} {x} {y} {a} {b} {c} long l P e Q e' T = record {
-    starts_are = subst (λ s. Between s first (j + 1)) (sym (Q.kept 0 (omega arith) (λ z. omega arith) ∙ P.stored))
-        (between_more (starts a) first j x (inside-targets f.gens 0 (omega arith) long l).rows e T.starts_are);
-    landings_are = subst (λ s. Between s there (j + 1)) (sym (Q.stored ∙ ap (λ s. set s j y) (P.kept 1 (omega arith) (λ z. omega arith))))
-        (between_more (landings a) there j y (inside-targets f.gens 1 (omega arith) long l).rows e' T.landings_are);
+  pub targeted-more : {j : ℕ} (t : Target) (a : List Target) → j < length a → t.start ≡ start (source_in f W rows) (target_of f W j r)
+      → t.landing ≡ landing (source_in f W rows) j r → Targeted f W rows r a j → Targeted f W rows r (set a j t) (j + 1)
+  targeted-more {j} t a l e e' T = record {
+    starts_are = subst (λ s. Between s (λ k. start (source_in f W rows) (target_of f W k r)) (j + 1)) (sym (map-set (λ t. t.start) a j t))
+        (between_more (starts a) _ j t.start (omega (arith, length-map a (λ (t : Target). t.start))) e T.starts_are);
+    landings_are = subst (λ s. Between s (λ k. landing (source_in f W rows) k r) (j + 1)) (sym (map-set (λ t. t.landing) a j t))
+        (between_more (landings a) _ j t.landing (omega (arith, length-map a (λ (t : Target). t.landing))) e' T.landings_are);
   }
-    where
-      first : ℕ → ℕ
-      first k = start (source_in f W rows) (target_of f W k r)
-
-      there : ℕ → ℕ
-      there k = landing (source_in f W rows) k r

@@ -1,46 +1,31 @@
-// Where the intertwiners lead the extensions of a representation that the generator on top fixes. It is held in one array, a
-// row of two numbers for each generator.
+// Where the intertwiners lead the extensions of a representation that the generator on top fixes.
 //
-//   START, LANDING               the fields of a row
-//   target                       reads a field
+//   Target                       where that of one generator leads
 //   conjugated                   column 0 moved by a conjugate of a generator
 //   root                         the constant of extension 0
 //   landing                      the number of the extension to which extension 0 goes
 //   find_targets                 this, and the first extension of each target, for all generators above the one on top
 #![tactic(auto)]
 
-ghost use Rattle.std.specs.Prelude.{◌≡◌, suc, ◌*◌, ◌/◌, ◌≤◌, ◌<◌, length, get_or};
+ghost use Rattle.std.specs.Prelude.{◌≡◌, suc, ◌/◌, ◌≤◌, ◌<◌, length, get_or};
 ghost use Rattle.definitions.specs.Presentation.{max_generators, max_order};
 ghost use Rattle.formulas.specs.Formulas.{landing};
-ghost use Rattle.fields.specs.Fields.{field, Inside};
 ghost use Rattle.level.specs.Stored.{Below, Stored};
-ghost use Rattle.survey.specs.Notes.{note_width, shifts};
+ghost use Rattle.survey.specs.Notes.{shifts};
 ghost use Rattle.survey.specs.Below.{source_in, Surveyed, Fixed};
-ghost use Rattle.targets.specs.Reached.{target_width, conjugated_in, Lands, Aimed};
+ghost use Rattle.targets.specs.Reached.{conjugated_in, Lands, Aimed};
 
 use definitions::Entry;
 use level::Listed;
-use rows::{GENERATORS, Row, Rows};
-use survey::Frame;
+use rows::{Row, Rows};
+use survey::{Frame, Note};
 
-// The numbers of a row.
-const TARGET: usize = 2;
-
-// The numbers of an array with a row for each generator.
-pub const TARGETS: usize = TARGET * GENERATORS;
-
-// The number of the first extension of the target.
-pub const START: usize = 0;
-
-// The number, among the extensions of the target, to which extension 0 goes.
-pub const LANDING: usize = 1;
-
-// Field k of the row of generator j.
-pub fn target(targets: &[u32], k: usize, j: u32) -> u32
-    requires { Inside target_width k targets.now j }
-    ensures { result ≡ get_or (field target_width k targets.now) j 0 }
-{
-    fields::get(targets, TARGET, k, j)
+// Where the intertwiner of a generator leads extension 0: to the first extension of the target, by its number, and so many
+// behind it.
+#[derive(Clone, Copy, Default)]
+pub struct Target {
+    pub start: u32,
+    pub landing: u32,
 }
 
 // Column 0 of d moved by j⁻¹ g j in extension 0: by the word w of the two, the part of g scaled by c, and once more by g.
@@ -48,26 +33,25 @@ fn conjugated(low: &[u32], w: &Row, d: Listed, g: u32, c: u32, m: u32) -> Entry
     requires { Stored m (suc g) low.now d × (g < max_generators) × (c < m) × (get_or w.now g 0 < max_order) }
     ensures { (result ≡ conjugated_in m g low.now d w.now c) × Below m d.deg result }
 {
-    let t = level::up(g);
+    let t = g as usize;
     let x = level::walked(low, d, w, t, Entry { row: 0, exp: 0 }, m);
-    let k = w[t];
-    level::scaled_times(low, d, g, c, k + 1, x, m)
+    level::scaled_times(low, d, g, c, w[t] + 1, x, m)
 }
 
 // The constant of extension 0.
-pub fn root(notes: &[u32], f: Frame, r: u32) -> u32
-    requires { Inside note_width 4 notes.now r × (0 < f.p) × (get_or (shifts notes.now) r 0 < f.m) }
+pub fn root(notes: &[Note], f: Frame, r: u32) -> u32
+    requires { (r < length notes.now) × (0 < f.p) × (get_or (shifts notes.now) r 0 < f.m) }
     ensures { (result ≡ get_or (shifts notes.now) r 0 / f.p) × (result < f.m) }
 {
-    survey::note(notes, survey::SHIFT, r) / f.p
+    notes[r as usize].shift / f.p
 }
 
 // The number among the extensions of the target to which the intertwiner of generator j leads extension 0 of r.
-fn landing(low: &[u32], rows: &Rows, notes: &[u32], f: Frame, d: Listed, j: u32, r: u32) -> u32
+fn landing(low: &[u32], rows: &Rows, notes: &[Note], f: Frame, d: Listed, j: u32, r: u32) -> u32
     requires { Lands f low.now rows.now notes.now r d j }
     ensures { result ≡ landing (source_in f low.now rows.now) j r }
 {
-    let w = rows::word(rows, level::up(j), level::up(f.top));
+    let w = rows::word(rows, j as usize, f.top as usize);
     let c = root(notes, f, r);
     let x = conjugated(low, &w, d, f.top, c, f.m);
     let y = level::moved(low, d, j, x, f.m);
@@ -80,18 +64,23 @@ fn landing(low: &[u32], rows: &Rows, notes: &[u32], f: Frame, d: Listed, j: u32,
 
 // Fills, for each generator above the one on top, the number of the first extension of the target of r, and the number
 // among them to which extension 0 goes.
-pub fn find_targets(low: &[u32], rows: &Rows, notes: &[u32], targets: &mut [u32], f: Frame, r: u32)
-    requires { Surveyed f low.now rows.now notes.now × (r < f.reps) × Fixed f low.now r × (2 * f.gens ≤ length targets.old) }
+pub fn find_targets(
+    low: &[u32],
+    rows: &Rows,
+    notes: &[Note],
+    targets: &mut [Target],
+    f: Frame,
+    r: u32,
+)
+    requires { Surveyed f low.now rows.now notes.now × (r < f.reps) × Fixed f low.now r × (f.gens ≤ length targets.old) }
     ensures { Aimed f low.now rows.now r targets.new }
 {
     let d = survey::listed(low, notes, f, r);
-    let lo = f.top + 1;
-    let gens = f.gens;
-    for j in lo..gens {
+    for j in f.top + 1..f.gens {
         let q = level::target(low, d, j);
-        let x = survey::note(notes, survey::NUMBER, q);
-        fields::put(targets, TARGET, START, j, x);
-        let l = landing(low, rows, notes, f, d, j, r);
-        fields::put(targets, TARGET, LANDING, j, l);
+        targets[j as usize] = Target {
+            start: notes[q as usize].number,
+            landing: landing(low, rows, notes, f, d, j, r),
+        };
     }
 }

@@ -1,8 +1,8 @@
 -- `survey_level` notes one field behind the other.
-use mathlib.Core.Path.{subst}
+use mathlib.Core.Path.{refl}
 use native.Mathlib.Omega.{arith}
-use Rattle.rows.specs.Rows.{Top}
-use Rattle.survey.proofs.Notes.{orbited-beside}
+use Rattle.survey.specs.Notes.{without_number}
+use Rattle.survey.proofs.Notes.{kept, orbit_of, orbits_kept}
 use Rattle.builder.proofs.Named.{surveyed}
 use Rattle.builder.proofs.survey_level.Goals as goal
 
@@ -16,16 +16,16 @@ pub count_numbers-x-requires : goal.count_numbers-x-requires
 count_numbers-x-requires c = (c.requires.0.stands, c.mark_orbits.ensures.0)
 
 pub word-u-requires : goal.word-u-requires
-word-u-requires c = (omega (arith, c.up-t.ensures), omega (arith, c.up-t.ensures, c.requires.0.stands.gens))
+word-u-requires c = (omega arith, omega (arith, c.requires.0.stands.gens))
 
 pub top-n-requires : goal.top-n-requires
-top-n-requires c = omega (arith, c.up-t.ensures, c.requires.0.stands.gens)
+top-n-requires c = omega (arith, c.requires.0.stands.gens)
 
 pub find_shifts-requires : goal.find_shifts-requires
 find_shifts-requires c = (
   c.requires.0.stands,
-  orbited-beside 3 (omega arith) c.count_numbers-x.ensures.value.1 c.mark_orbits.ensures.0,
-  subst (λ i. Top i c.word-u.result c.top-n.result) c.up-t.ensures c.top-n.ensures,
+  orbits_kept _ _ (kept orbit_of without_number _ _ c.count_numbers-x.ensures.value.1) c.mark_orbits.ensures.0,
+  c.top-n.ensures,
 )
 
 pub returns : goal.returns
@@ -33,6 +33,6 @@ returns c =
     let N = c.count_numbers-x.ensures in
     record {
       value = N.value.0;
-      surveyed = surveyed c.requires.0 c.mark_orbits.ensures.0 N.value.1 N.array c.find_shifts.ensures.beside
-          c.up-t.ensures c.word-u.ensures c.find_shifts.ensures.array;
+      surveyed = surveyed _ _ _ c.requires.0 c.mark_orbits.ensures.0 N.value.1 N.array c.find_shifts.ensures.beside
+          refl c.word-u.ensures c.find_shifts.ensures.array;
     }

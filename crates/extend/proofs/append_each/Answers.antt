@@ -9,11 +9,11 @@ use Rattle.extend.proofs.Extensions.{extension-length}
 use Rattle.extend.proofs.append_each.Goals as goal
 
 pub loop-k-init : goal.loop-k-init
-loop-k-init c = (search rules, search rules, space-none c.requires.space)
+loop-k-init c = space-none c.requires.space
 
 pub append_extension-pos-requires : goal.append_extension-pos-requires
 append_extension-pos-requires c = let l = c.loop-k in
-    let f = c.args.f in let E = c.requires.extends in let G = l.invariant.2 in
+    let f = c.args.f in let E = c.requires.extends in let G = l.invariant in
     let less : l.k < f.p = search rules in
     record {
       extends = (subst (λ W. Extends f W c.args.rows.now c.args.targets.now c.args.o) (sym G.below) E, less);
@@ -21,12 +21,9 @@ append_extension-pos-requires c = let l = c.loop-k in
     }
 
 pub loop-k-preserved : goal.loop-k-preserved
-loop-k-preserved c = let G = c.loop-k.invariant.2 in
-    (search rules, search rules, going_more G (rw G.below at c.append_extension-pos.ensures))
-
-pub shape_of-words : goal.shape_of-words
-shape_of-words c = c.loop-k.invariant.2.len
+loop-k-preserved c = let G = c.loop-k.invariant in
+    going_more G (rw G.below at c.append_extension-pos.ensures)
 
 pub returns : goal.returns
 unfolding extensions_words
-returns c = let e : c.loop-k.k ≡ c.args.f.p = omega arith in rw e at c.loop-k.invariant.2.wrote
+returns c = let e : c.loop-k.k ≡ c.args.f.p = omega arith in rw e at c.loop-k.invariant.wrote

@@ -1,14 +1,8 @@
 -- `append_each` appends the extensions one behind the other.
-use mathlib.Core.Path.{◌≡◌}
-use Prim.Native.Nat.{◌-◌, ◌≤◌}
 use Rattle.lines.proofs.Appending.{Going}
 use Rattle.survey.specs.Below.{low_of}
 use Rattle.extend.specs.Extending.{extension_words}
 use Rattle.extend.proofs.append_each.Given as goal
 
 abbrev pub invariant-loop-k : goal.invariant-loop-k
-invariant-loop-k l = (l.k ≤ l.p) × (l.p ≡ l.f.p) ×
-    Going l.f.end (extension_words l.f (low_of l.f l.initial.words) l.rows l.o.rep) l.initial.words l.at l.k l.words l.pos
-
-abbrev pub decreases-loop-k : goal.decreases-loop-k
-decreases-loop-k l = l.p - l.k
+invariant-loop-k l = Going l.f.end (extension_words l.f (low_of l.f l.initial.words) l.rows l.o.rep) l.initial.words l.at l.k l.words l.pos

@@ -12,11 +12,8 @@ use Rattle.extend.proofs.append_extension.Goals as goal
 pub append_low-pos-requires : goal.append_low-pos-requires
 append_low-pos-requires c = let E = c.requires.extends.0 in record { copies = (extends-copies E, c.requires.extends.1); space = low-space E c.requires.space }
 
-pub overflow_add-above : goal.overflow_add-above
-overflow_add-above c = omega (arith, c.requires.extends.0.aimed.sound.stands.gens)
-
 pub loop-g-init : goal.loop-g-init
-loop-g-init c = (search rules, omega (arith, c.requires.extends.0.aimed.sound.stands.gens), search rules, λ w a G. G)
+loop-g-init c = (search rules, λ w a G. G)
 
 pub reference-x-requires : goal.reference-x-requires
 reference-x-requires c = ((_, (_, c.requires.extends.0.aimed)), c.loop-g.invariant.0, search rules, c.requires.extends.1)
@@ -25,7 +22,7 @@ pub append_matrix-pos-requires : goal.append_matrix-pos-requires
 append_matrix-pos-requires c = let l = c.loop-g in
     let f = c.args.f in let o = c.args.o in let E = c.requires.extends.0 in
     let L = low-done E _ c.requires.space c.append_low-pos.ensures in
-    let G = l.invariant.3 _ _ L.1 in
+    let G = l.invariant.1 _ _ L.1 in
     let less : l.g < f.gens = search rules in
     record {
       copies = (
@@ -41,17 +38,13 @@ append_matrix-pos-requires c = let l = c.loop-g in
 pub loop-g-preserved : goal.loop-g-preserved
 loop-g-preserved c = let l = c.loop-g in
     let L = low-done c.requires.extends.0 _ c.requires.space c.append_low-pos.ensures in
-    let G = l.invariant.3 _ _ L.1 in
+    let G = l.invariant.1 _ _ L.1 in
     let less : l.g < c.args.f.gens = search rules in
     let copy = copy-above L.0 _ _ l.invariant.0 less c.reference-x.ensures in
     let written = wrote_as (rw (G.below ∙ sym L.1.below) at c.append_matrix-pos.ensures) copy in
-    (search rules, search rules, search rules, λ w a K. going_more (l.invariant.3 w a K) written)
-
-pub shape_of-words : goal.shape_of-words
-shape_of-words c = let L = low-done c.requires.extends.0 _ c.requires.space c.append_low-pos.ensures in
-    (c.loop-g.invariant.3 _ _ L.1).len
+    (search rules, λ w a K. going_more (l.invariant.1 w a K) written)
 
 pub returns : goal.returns
 returns c = let l = c.loop-g in let L = low-done c.requires.extends.0 _ c.requires.space c.append_low-pos.ensures in
-    let e : l.g ≡ c.args.f.gens = omega arith in
-    wrote_as (l.invariant.3 _ _ L.1).wrote (extension-words _ _ _ _ e L.1.below)
+    let e : l.g ≡ c.args.f.gens = omega (arith, c.requires.extends.0.aimed.sound.stands.gens) in
+    wrote_as (l.invariant.1 _ _ L.1).wrote (extension-words _ _ _ _ e L.1.below)

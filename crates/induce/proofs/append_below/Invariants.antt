@@ -1,14 +1,8 @@
 -- `append_below` appends the blocks of a generator one behind the other.
-use mathlib.Core.Path.{◌≡◌}
-use Prim.Native.Nat.{◌-◌, ◌≤◌}
 use Rattle.lines.proofs.Appending.{Going}
 use Rattle.survey.specs.Below.{low_of}
 use Rattle.induce.specs.Inducing.{stills_in}
 use Rattle.induce.proofs.append_below.Given as goal
 
 abbrev pub invariant-loop-b : goal.invariant-loop-b
-invariant-loop-b l = (l.b ≤ l.p) × (l.p ≡ l.f.p)
-    × Going l.f.end (stills_in l.f (low_of l.f l.initial.words) l.i l.g) l.initial.words l.at l.b l.words l.pos
-
-abbrev pub decreases-loop-b : goal.decreases-loop-b
-decreases-loop-b l = l.p - l.b
+invariant-loop-b l = Going l.f.end (stills_in l.f (low_of l.f l.initial.words) l.i l.g) l.initial.words l.at l.b l.words l.pos

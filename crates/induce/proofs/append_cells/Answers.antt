@@ -14,37 +14,34 @@ pub overflow_mul-n : goal.overflow_mul-n
 overflow_mul-n c = omega (arith, space-low c.requires.1)
 
 pub loop-b-init : goal.loop-b-init
-loop-b-init c = (search rules, search rules, space-none c.requires.1)
+loop-b-init c = space-none c.requires.1
 
 pub slice_bounds-find_cell-end : goal.slice_bounds-find_cell-end
-slice_bounds-find_cell-end c = going-low c.loop-b.invariant.2
+slice_bounds-find_cell-end c = going-low c.loop-b.invariant
 
 pub slice_bounds-find_cell-end-in-loop-b : goal.slice_bounds-find_cell-end-in-loop-b
-slice_bounds-find_cell-end-in-loop-b c = let l = c.loop-b in sym (length-take-le _ _ (going-low l.invariant.2))
+slice_bounds-find_cell-end-in-loop-b c = let l = c.loop-b in sym (length-take-le _ _ (going-low l.invariant))
 
 pub find_cell-q-requires : goal.find_cell-q-requires
 find_cell-q-requires c = let l = c.loop-b in
     let less-than : l.b < c.args.f.p = search rules in
-    rw l.invariant.2.below (c.requires.0, less-than)
+    rw l.invariant.below (c.requires.0, less-than)
 
 pub append_cell-pos-requires : goal.append_cell-pos-requires
 unfolding cells_in
 append_cell-pos-requires c = let l = c.loop-b in let f = c.args.f in let i = c.args.i in
-    let less-than : l.b < f.p = omega (arith, c.loop-b-test.true, l.invariant.1) in
+    let less-than : l.b < f.p = search rules in
     let W = low_of f c.args.words.now in
     let cell = cell_in f W c.args.notes.now c.args.blocks.now i c.args.g c.args.x in
-    let space = going-even f.p (8 * i.deg) (λ b. cell-length f W i c.args.g (cell b)) l.invariant.2 less-than c.requires.1.room in
+    let space = going-even f.p (8 * i.deg) (λ b. cell-length f W i c.args.g (cell b)) l.invariant less-than c.requires.1.room in
     (c.find_cell-q.ensures.1, c.requires.0.writing.inside, space)
 
 pub loop-b-preserved : goal.loop-b-preserved
 unfolding cells_in
-loop-b-preserved c = let G = c.loop-b.invariant.2 in
+loop-b-preserved c = let G = c.loop-b.invariant in
     let E = c.find_cell-q.ensures.0 in
-    (search rules, search rules, going_more G (rw (E, G.below) at c.append_cell-pos.ensures))
-
-pub shape_of-words : goal.shape_of-words
-shape_of-words c = c.loop-b.invariant.2.len
+    going_more G (rw (E, G.below) at c.append_cell-pos.ensures)
 
 pub returns : goal.returns
 returns c = let e : c.loop-b.b ≡ c.args.f.p = omega arith in
-    rw e at c.loop-b.invariant.2.wrote
+    rw e at c.loop-b.invariant.wrote

@@ -1,7 +1,4 @@
 -- `append_induction` appends its generators one behind the other.
-use mathlib.Core.Path.{◌≡◌}
-use Prim.Native.Nat.{◌-◌, ◌≤◌}
-use lib.ListN.{length}
 use Rattle.lines.proofs.Appending.{Going}
 use Rattle.survey.specs.Below.{low_of}
 use Rattle.orbits.specs.Blocks.{Inducing}
@@ -9,9 +6,5 @@ use Rattle.induce.specs.Inducing.{induced_words}
 use Rattle.induce.proofs.append_induction.Given as goal
 
 abbrev pub invariant-loop-g : goal.invariant-loop-g
-invariant-loop-g l = (l.g ≤ l.gens) × (l.gens ≡ l.f.gens) × (length l.blocks ≡ length l.initial.blocks)
-    × Inducing l.f (low_of l.f l.initial.words) l.rows l.notes l.blocks l.i.leader ×
-    Going l.f.end (induced_words l.f (low_of l.f l.initial.words) l.rows l.i) l.initial.words l.at l.g l.words l.pos
-
-abbrev pub decreases-loop-g : goal.decreases-loop-g
-decreases-loop-g l = l.gens - l.g
+invariant-loop-g l = Inducing l.f (low_of l.f l.initial.words) l.rows l.notes l.blocks l.i.leader
+    × Going l.f.end (induced_words l.f (low_of l.f l.initial.words) l.rows l.i) l.initial.words l.at l.g l.words l.pos

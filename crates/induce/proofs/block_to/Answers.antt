@@ -7,6 +7,7 @@ use Rattle.definitions.specs.Table.{REF, word_at}
 use Rattle.survey.specs.Below.{target_of, position_in}
 use Rattle.survey.proofs.Level.{matrix-room}
 use Rattle.survey.proofs.Marking.{orbit-inside, pos-below}
+use Rattle.survey.proofs.Notes.{there, noted}
 use Rattle.orbits.specs.Blocks.{member_of}
 use Rattle.induce.proofs.Cases.{to-next, to_last, to-above}
 use Rattle.induce.proofs.block_to.Goals as goal
@@ -24,13 +25,13 @@ word_at-q-requires c = let W = c.args.low.now in let p = c.requires.level_stands
     let room = matrix-room _ _ p.0 _ (member_of c.args.f W c.args.r c.args.b) p.4 (orbit-inside _ _ p.0 _ _ p.2) in
     (omega (arith, c.requires.src_value, room), omega arith)
 
-pub note-requires : goal.note-requires
-note-requires c = let f = c.args.f in let W = c.args.low.now in
+pub bounds-notes-q : goal.bounds-notes-q
+bounds-notes-q c = let f = c.args.f in let W = c.args.low.now in
     let p = c.requires.level_stands in
     let q = member_of f W c.args.r c.args.b in
     let e : c.word_at-q.result ≡ target_of f W c.args.g q = c.word_at-q.ensures ∙ ap (λ s. word_at W s REF) c.requires.src_value in
     let t = (p.0.target q (orbit-inside _ _ p.0 _ _ p.2) _ p.3 p.4).0 in
-    record { fields = omega arith; rows = omega (arith, e, t, p.1.places_are.long) }
+    there (λ n. n.position) _ p.1.places_are.long (subst (λ x. x < f.reps) (sym e) t)
 
 pub returns : goal.returns
 returns c = let f = c.args.f in
@@ -39,5 +40,5 @@ returns c = let f = c.args.f in
     let above : f.top < g = omega (arith, c.if-g-f.false, p.3) in
     let e : c.word_at-q.result ≡ target_of f W g q = c.word_at-q.ensures ∙ ap (λ s. word_at W s REF) c.requires.src_value in
     let t = subst (λ x. x < f.reps) (sym e) (p.0.target q (orbit-inside _ _ p.0 _ _ p.2) _ p.3 p.4).0 in
-    let k = c.note.ensures ∙ p.1.places_are.at _ t in
+    let k = noted (λ n. n.position) c.args.notes.now p.1.places_are _ t in
     (k ∙ ap (position_in f W) e ∙ to-above _ _ _ _ _ above, subst (λ x. x < f.p) (sym k) (pos-below _ _ p.0 _ t))

@@ -7,17 +7,17 @@ use Rattle.level.specs.Stored.{line_in}
 use Rattle.survey.specs.Below.{deg_of, Located}
 use Rattle.survey.proofs.Level.{located-line}
 use Rattle.orbits.specs.Blocks.{member_of}
-use Rattle.orbits.proofs.Blocks.{orbit-degree, listing-stands, member-inside, block-member, block-degree}
+use Rattle.orbits.proofs.Blocks.{orbit-degree, listing-stands, block-there, block-member, block-degree}
 use Rattle.induce.proofs.Cells.{cell-held}
 use Rattle.induce.proofs.find_still.Goals as goal
 
-pub block-q-requires : goal.block-q-requires
-block-q-requires c = member-inside c.requires.0.listing _ c.requires.1
+pub bounds-blocks-b : goal.bounds-blocks-b
+bounds-blocks-b c = block-there _ c.requires.0.listing.known.orbit_is _ c.requires.1
 
 pub member-e-requires : goal.member-e-requires
 member-e-requires c = let W = c.args.low.now in let R = c.requires.0 in
     let L = R.listing in
-    let o = block-member L _ _ c.requires.1 c.block-q.ensures in
+    let o = block-member L _ c.requires.1 in
     let same = orbit-degree _ _ (listing-stands L) _ _ L.known.leads.listed in
     let degree = R.degree ∙ sym (ap (deg_of c.args.f W) o.0 ∙ same) in
     (listing-stands L, L.known.surveyed.orbited.lines, o.1, degree)
@@ -28,7 +28,7 @@ matrix_line-requires c = located-line c.member-e.ensures _ (omega (arith, c.requ
 pub returns : goal.returns
 returns c = let f = c.args.f in let W = c.args.low.now in
     let R = c.requires.0 in let L = R.listing in let r = c.args.i.leader in let E = c.member-e.result in
-    let q = (block-member L _ _ c.requires.1 c.block-q.ensures).0 in
+    let q = (block-member L _ c.requires.1).0 in
     let M : Located f W (member_of f W r c.args.b) E = subst (λ q. Located f W q E) q c.member-e.ensures in
     let line = c.matrix_line.ensures in
     let src = line ∙ ap (λ (D : Listed). line_in D c.args.g) M.is in (

@@ -1,9 +1,8 @@
 -- `levels_to`: the levels below stand by its own contract, and the next is written behind them. The measure is the count of levels.
-use mathlib.Core.Path.{◌≡◌, refl, sym, ap}
+use mathlib.Core.Path.{◌≡◌, refl, sym}
 use Prim.Native.Nat.{◌+◌, ◌-◌, ◌<◌}
 use native.Mathlib.Omega.{arith}
 use native.Mathlib.Nat.{le_refl}
-use lib.ListN.{get_or}
 use Rattle.levels.proofs.Stages.{built-as, first-asks, stage-one, stage-asks, stage-next}
 use Rattle.levels.proofs.+levels_to.Goals as goal
 
@@ -18,13 +17,11 @@ next_level-t-requires t c =
     let (A, G) = c.requires.0 in
     let some : 0 < c.args.i - 1 = omega (arith, c.requires.1, c.if-i-eq1.false) in
     let below : c.args.i - 1 < c.args.n = omega (arith, c.requires.1, c.requires.2) in
-    let p = ap (λ k. get_or c.args.primes.now k 0) c.up-k.ensures in
-    stage-asks G some below p (c.levels_to-b.ensures A G) (le_refl _)
+    stage-asks G some below refl (c.levels_to-b.ensures A G) (le_refl _)
 
 pub returns : goal.returns
 returns t c =
     let some : 0 < c.args.i - 1 = omega (arith, c.requires.1, c.if-i-eq1.false) in
     let below : c.args.i - 1 < c.args.n = omega (arith, c.requires.1, c.requires.2) in
-    let p = ap (λ k. get_or c.args.primes.now k 0) c.up-k.ensures in
     let same : c.args.i - 1 + 1 ≡ c.args.i = omega (arith, c.requires.1) in
-    λ A G. built-as same (stage-next G some below p (c.levels_to-b.ensures A G) _ _ c.next_level-t.ensures)
+    λ A G. built-as same (stage-next G some below refl (c.levels_to-b.ensures A G) _ _ c.next_level-t.ensures)

@@ -1,9 +1,7 @@
 -- `conjugate` walks the word within a block, and turns by the generator on top.
-use mathlib.Core.Path.{ap, ap₂, ◌∙◌, subst}
-use Prim.Native.Nat.{◌+◌}
+use mathlib.Core.Path.{ap₂, ◌∙◌, subst}
 use native.Mathlib.Omega.{arith}
 use native.Mathlib.Numerals.{add-one}
-use lib.ListN.{get_or}
 use Rattle.definitions.specs.Lists.{iter}
 use Rattle.definitions.specs.Presentation.{to_nf}
 use Rattle.definitions.specs.Monomial.{entry}
@@ -20,11 +18,7 @@ of_block-e-requires c = (c.requires.0, c.requires.1)
 pub walked-x-requires : goal.walked-x-requires
 walked-x-requires c = let D = c.of_block-e.ensures in
     let gens = (listing-stands c.requires.0).gens in
-    let e = c.up-t.ensures in
-    (omega (arith, e, gens), located-stored D c.up-t.result (omega (arith, e, gens)), located-column D)
-
-pub overflow_add-k : goal.overflow_add-k
-overflow_add-k c = omega (arith, ap (λ t. get_or c.args.w.now t 0) c.up-t.ensures, c.requires.3, (listing-stands c.requires.0).prime.1)
+    (omega (arith, gens), located-stored D c.args.f.top (omega (arith, gens)), located-column D)
 
 pub cycle_times-requires : goal.cycle_times-requires
 cycle_times-requires c = let d = block-degree c.requires.0 _ c.of_block-e.ensures in
@@ -35,9 +29,7 @@ pub returns : goal.returns
 unfolding conjugate_in
 returns c = let f = c.args.f in
     let W = c.args.low.now in let v = c.args.w.now in let D = c.of_block-e.ensures in
-    let n = c.up-t.ensures in
     let step = cycle_in f W c.args.c c.args.r in
-    let k = ap (λ t. get_or v t 0 + 1) n ∙ add-one _ in
-    let x = c.walked-x.ensures.0 ∙ (λ i. walk f.m (generator_in W (D.is i)) (n i) (to_nf (n i) v) (entry 0 0)) in
-    let e = ap₂ (λ n y. iter step n (record { block = c.args.b; at = y })) k x in
+    let x = c.walked-x.ensures.0 ∙ (λ i. walk f.m (generator_in W (D.is i)) f.top (to_nf f.top v) (entry 0 0)) in
+    let e = ap₂ (λ n y. iter step n (record { block = c.args.b; at = y })) (add-one _) x in
     subst (λ y. EntryIs f W c.args.r y c.cycle_times.result) e c.cycle_times.ensures

@@ -1,16 +1,15 @@
 -- `of_block` reads which representation stands at a block.
 use mathlib.Core.Path.{subst}
 use Rattle.survey.specs.Below.{Located}
-use Rattle.orbits.proofs.Blocks.{listing-stands, member-inside, block-member}
+use Rattle.orbits.proofs.Blocks.{listing-stands, block-there, block-member}
 use Rattle.orbits.proofs.of_block.Goals as goal
 
-pub block-q-requires : goal.block-q-requires
-block-q-requires c = member-inside c.requires.0 c.args.b c.requires.1
+pub bounds-blocks-b : goal.bounds-blocks-b
+bounds-blocks-b c = block-there _ c.requires.0.known.orbit_is _ c.requires.1
 
 pub listed-requires : goal.listed-requires
 listed-requires c = let L = c.requires.0 in
-    (listing-stands L, L.known.surveyed.orbited.lines, (block-member L _ _ c.requires.1 c.block-q.ensures).1)
+    (listing-stands L, L.known.surveyed.orbited.lines, (block-member L _ c.requires.1).1)
 
 pub returns : goal.returns
-returns c = let o = (block-member c.requires.0 _ _ c.requires.1 c.block-q.ensures).0 in
-    subst (λ q. Located c.args.f c.args.low.now q c.listed.result) o c.listed.ensures
+returns c = subst (λ q. Located c.args.f c.args.low.now q c.listed.result) (block-member c.requires.0 _ c.requires.1).0 c.listed.ensures

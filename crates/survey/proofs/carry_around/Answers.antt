@@ -1,4 +1,4 @@
--- `carry_around`: after k steps the entry is that of the formulas.
+-- `carry_around`: after so many steps the entry is that of the formulas.
 use mathlib.Core.Path.{◌≡◌, sym, ap, ap₂, ◌∙◌, subst}
 use mathlib.Core.List.{[]}
 use Prim.Native.Nat.{ℕ}
@@ -11,36 +11,28 @@ use Rattle.level.proofs.Columns.{iter-next}
 use Rattle.survey.specs.Below.{target_of, source_in, around_in}
 use Rattle.survey.proofs.Level.{located-degree, located-column}
 use Rattle.survey.proofs.Counting.{around-zero, around-next}
-use borrow.Author.Rules.{rules}
 use Rattle.survey.proofs.carry_around.Goals as goal
 
-pub loop-k-init : goal.loop-k-init
-loop-k-init c = let L = c.requires.0 in (
-  search rules,
-  search rules,
-  sym (iter-zero _ _),
-  around-zero _ _ _,
-  record { rep_below = L.listed; same_degree = located-degree L; entry_below = located-column L },
-)
+pub loop-init : goal.loop-init
+loop-init c = let L = c.requires.0 in
+    (sym (iter-zero _ _), around-zero _ _ _, record { rep_below = L.listed; same_degree = located-degree L; entry_below = located-column L })
 
 pub carry-s-requires : goal.carry-s-requires
-carry-s-requires c = (c.requires.0.stands, c.requires.1, c.loop-k.invariant.4)
+carry-s-requires c = (c.requires.0.stands, c.requires.1, c.loop.invariant.2)
 
-pub loop-k-preserved : goal.loop-k-preserved
-loop-k-preserved c = let l = c.loop-k in
+pub loop-preserved : goal.loop-preserved
+loop-preserved c = let l = c.loop in
     let t = c.carry-s.ensures in
     let τ = target_of c.args.f c.args.low.now c.args.f.top in
     let F : ℕ → Entry → Entry = λ q x. act c.args.f.m ((source_in c.args.f c.args.low.now []).matrix q c.args.f.top) x in (
-      search rules,
-      search rules,
-      t.rep_is ∙ ap τ l.invariant.2 ∙ sym (iter-next τ _ _),
-      t.entry_is ∙ ap₂ F l.invariant.2 l.invariant.3 ∙ sym (around-next _ _ _ _),
+      t.rep_is ∙ ap τ l.invariant.0 ∙ sym (iter-next τ _ _),
+      t.entry_is ∙ ap₂ F l.invariant.0 l.invariant.1 ∙ sym (around-next _ _ _ _),
       t.carried,
     )
 
 pub returns : goal.returns
-returns c = let l = c.loop-k in
-    let e : l.k ≡ c.args.f.p = omega arith in (
-      l.invariant.3 ∙ ap (around_in c.args.f c.args.low.now c.args.r) e,
-      subst (λ d. Below c.args.f.m d l.s.x) (located-degree c.requires.0) l.invariant.4.entry_below,
+returns c = let l = c.loop in
+    let e : l.counter ≡ c.args.f.p = omega arith in (
+      l.invariant.1 ∙ ap (around_in c.args.f c.args.low.now c.args.r) e,
+      subst (λ d. Below c.args.f.m d l.s.x) (located-degree c.requires.0) l.invariant.2.entry_below,
     )

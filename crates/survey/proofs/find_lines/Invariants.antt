@@ -9,4 +9,4 @@ abbrev pub invariant-loop-r : goal.invariant-loop-r
 invariant-loop-r l = (length l.notes ≡ length l.initial.notes) × (l.s ≡ first_of l.f l.low l.r) × FirstsTo l.f l.low l.notes l.r
 
 abbrev pub decreases-loop-r : goal.decreases-loop-r
-decreases-loop-r l = l.reps - l.r
+decreases-loop-r l = l.f.reps - l.r

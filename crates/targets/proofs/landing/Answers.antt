@@ -1,5 +1,5 @@
 -- `landing` compares two exponents at column 0.
-use mathlib.Core.Path.{sym, ap, ◌∙◌}
+use mathlib.Core.Path.{refl, sym, ap, ◌∙◌}
 use Prim.Native.Nat.{suc, ◌/◌}
 use native.Mathlib.Omega.{arith}
 use Rattle.survey.proofs.Level.{located-stored, located-degree}
@@ -8,7 +8,7 @@ use Rattle.targets.proofs.landing.Goals as goal
 
 pub word-w-requires : goal.word-w-requires
 word-w-requires c = let A = c.requires in
-    omega (arith, c.up.ensures, c.up-2.ensures, A.surveyed.sound.stands.gens, A.above, A.inside)
+    omega (arith, A.surveyed.sound.stands.gens, A.above, A.inside)
 
 pub root-c-requires : goal.root-c-requires
 root-c-requires c = root-asked c.requires.surveyed _ c.requires.located.listed
@@ -16,7 +16,7 @@ root-c-requires c = root-asked c.requires.surveyed _ c.requires.located.listed
 pub conjugated-x-requires : goal.conjugated-x-requires
 conjugated-x-requires c = let A = c.requires in
     let S = A.surveyed.sound.stands in
-    let w = word-known A c.word-w.ensures c.up.ensures c.up-2.ensures in
+    let w = word-known A c.word-w.ensures refl refl in
     let L = located-stored A.located (suc c.args.f.top) S.gens.0 in
     (L, omega (arith, S.gens), c.root-c.ensures.1, omega (arith, word_below A w, S.prime))
 
@@ -60,12 +60,11 @@ nonzero_div-result-2 c = step-positive _ _ c.requires.surveyed.sound.stands
 
 pub returns : goal.returns
 returns c = let f = c.args.f in
-    let up' = c.up.ensures in
     let word' = c.word-w.ensures in
     let root' = c.root-c.ensures.0 in let moved' = c.moved-y.ensures.0 in
     let target' = c.target-q.ensures in
     let member' = c.member-e.ensures in
     let root2' = c.root-b.ensures.0 in let through' = c.through-z.ensures.0 in
-    let w = word-known c.requires word' up' c.up-2.ensures in
+    let w = word-known c.requires word' refl refl in
     let read = landing-known c.requires w root' c.conjugated-x.ensures.0 moved' target' member' root2' through' in
     ap (λ t. t / (f.m / f.p)) c.sub_mod.ensures.0 ∙ read

@@ -1,2 +1,0 @@
--- Laws of rows of numbers in one array.
-pub mod Rows

@@ -1,2 +1,0 @@
--- What rows of numbers in one array hold.
-pub mod Fields
