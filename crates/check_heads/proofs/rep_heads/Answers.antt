@@ -9,17 +9,17 @@ use Rattle.check_heads.proofs.rep_heads.Goals as goal
 pub word_at-requires : goal.word_at-requires
 word_at-requires c = (omega (arith, c.requires.0, mul-pos c.requires.1 c.requires.2), omega arith)
 
-pub returns-then-wide-p : goal.returns-then-wide-p
-returns-then-wide-p c = let a = c.args in
+pub returns-then-up-p : goal.returns-then-up-p
+returns-then-up-p c = let a = c.args in
     first-other a.words.now a.p a.d.line a.d.deg a.n c.requires.1 c.requires.2
-    (c.wide.ensures.0 ∙ c.word_at.ensures) c.if-wide-p.true
+    (c.up.ensures ∙ c.word_at.ensures) c.if-up-p.true
 
 pub loop-c-init : goal.loop-c-init
 loop-c-init c = (omega arith, tested-none)
 
 pub column_heads-requires : goal.column_heads-requires
 column_heads-requires c = let a = c.args in (
-  omega (arith, c.wide.ensures.1, c.if-wide-p.false),
+  omega (arith, c.up.ensures, c.if-up-p.false),
   column-room a.words.now a.p a.d.line a.d.deg a.n c.requires.0 c.loop-c.invariant.0 c.loop-c-test.true,
 )
 
