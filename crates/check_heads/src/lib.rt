@@ -59,11 +59,9 @@ fn column_heads(words: &[u32], p: Place, first: usize, d: u32, c: u32, n: u32) -
     let place = level::up(p.level) + p.rep * check_lines::HIGH;
     let deg = level::up(d);
     let end = deg + level::up(n) * check_lines::HIGH;
-    let mut kind = deg;
     let mut at = first;
-    while kind < end {
-        kind += check_lines::HIGH;
-        if !head_is(words, at, place, kind, c) {
+    for kind in (deg..end).step_by(check_lines::HIGH) {
+        if !head_is(words, at, place, kind + check_lines::HIGH, c) {
             return false;
         }
         at += deg;
@@ -79,12 +77,10 @@ fn rep_heads(words: &[u32], p: Place, d: Listed, n: u32) -> bool
     if level::up(level::word_at(words, d.line, level::REP)) != p.rep {
         return false;
     }
-    let mut at = d.line;
     for c in 0..d.deg {
-        if !column_heads(words, p, at, d.deg, c, n) {
+        if !column_heads(words, p, d.line + level::up(c), d.deg, c, n) {
             return false;
         }
-        at += 1;
     }
     true
 }

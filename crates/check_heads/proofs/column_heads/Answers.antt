@@ -1,5 +1,6 @@
 -- `column_heads` meets its contract: line after line, each d behind the one before.
 use mathlib.Core.Path.{refl}
+use Prim.Native.Nat.{◌+◌}
 use native.Mathlib.Omega.{arith}
 use Rattle.check_heads.proofs.Places.{columned-none, columned-room, columned-more, columned-fails, columned-all}
 use Rattle.check_heads.proofs.column_heads.Goals as goal
@@ -49,3 +50,9 @@ returns c = let a = c.args in
     let up = c.up.ensures in
     columned-all c.loop-kind.invariant a.p (omega (arith, up)) (omega (arith, up)) a.n
     (omega (arith, c.up-2.ensures, c.up-deg.ensures, c.loop-kind-test.false))
+
+pub returns-else-not-head_is : goal.returns-else-not-head_is
+returns-else-not-head_is c = let a = c.args in
+    let more = columned-more c.loop-kind.invariant (omega (arith, c.up-deg.ensures)) c.head_is.ensures refl
+    c.if-not-head_is.false {at' = c.loop-kind.at + a.d} refl in
+    columned-all more a.p (omega arith) (omega arith) a.n (omega arith)
