@@ -14,7 +14,7 @@ ghost use Rattle.check_relations.specs.Asked.{asked, OfRep, OnLevel, Everywhere}
 
 use level::Listed;
 use rows::{Row, Rows};
-use seek::Scope;
+use seek::{Reps, Scope};
 
 // What is asked of each representation.
 #[derive(Clone, Copy)]
@@ -52,19 +52,12 @@ fn holds_on(words: &[u32], rows: &Rows, primes: &Row, s: Scope, q: Condition, i:
     requires { ((P : Presentation) × Posed P s rows.now primes.now words.now) × (0 < i) × (i ≤ s.gens) }
     ensures { OnLevel (asked q) s rows.now primes.now words.now i result }
 {
-    let reps = seek::count_of(words, s, i);
-    let mut d = seek::found(words, s, i, 0);
-    let mut r: usize = 0;
-    loop {
+    for d in Reps::of(words, s, i) {
         if !holds(words, rows, primes, s, q, i, d) {
             return false;
         }
-        r += 1;
-        if r == reps {
-            return true;
-        }
-        d = seek::following(words, s, d);
     }
+    true
 }
 
 // It holds of every representation of every level, where it does on the first `from` levels.
