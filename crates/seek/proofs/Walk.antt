@@ -62,13 +62,13 @@ module _ {s : Scope} {T : List ℕ} {i : ℕ} {Q : ℕ → Type 0} where
         let (F, H) = subst (λ x. Gives a x b) e g in
         rw (sym G.scope, sym G.words, sym G.level) F
 
-    pub walked-more : {b : Reps} {x : Option Listed} {D : Listed} → x ≡ Some D → Gives a x b → Q (a.rep + 1) → Walked s T i Q b
-    walked-more {b} {x} {D} e g q =
+    pub walked-more : {Q' : ℕ → Type 0} {b : Reps} {x : Option Listed} {D : Listed} → x ≡ Some D → Gives a x b → Q' (a.rep + 1) → Walked s T i Q' b
+    walked-more {Q'} {b} {x} {D} e g q =
         let G = W.going in
         let (F, H) = subst (λ x. Gives a x b) e g in
         record {
           going = record { scope = H.scope ∙ G.scope; words = H.words ∙ G.words; level = H.level ∙ G.level; rep = refl };
-          known = subst Q (sym H.rep) q;
+          known = subst Q' (sym H.rep) q;
         }
 
     pub walked-all : (b : Reps) {x : Option Listed} → x ≡ None → Gives a x b → Q (length (level_at s.gens T i))
