@@ -2,7 +2,7 @@
 --
 --   walk-found, walk-more     the representation that is next, and the walk behind it
 --   Walked                    a walk, with what is known of the representations before the next
---   walked-none, walked-found, walked-more, walked-all     its steps
+--   walked-none, walked-found, walked-more, walked-end, walked-all     its steps
 use mathlib.Core.Path.{◌≡◌, refl, sym, ◌∙◌, ap, subst}
 use mathlib.Core.List.{List}
 use Prim.Native.Nat.{ℕ, ◌+◌, ◌*◌, ◌<◌}
@@ -71,9 +71,11 @@ module _ {s : Scope} {T : List ℕ} {i : ℕ} {Q : ℕ → Type 0} where
           known = subst Q' (sym H.rep) q;
         }
 
-    pub walked-all : (b : Reps) {x : Option Listed} → x ≡ None → Gives a x b → Q (length (level_at s.gens T i))
-    walked-all b {x} e g =
+    pub walked-end : (b : Reps) {x : Option Listed} → x ≡ None → Gives a x b → a.rep ≡ length (level_at s.gens T i)
+    walked-end b {x} e g =
         let G = W.going in
         let n : a.rep ≡ length (level_at a.scope.gens a.words.now a.level) = subst (λ x. Gives a x b) e g in
-        let n' : a.rep ≡ length (level_at s.gens T i) = rw (sym G.scope, sym G.words, sym G.level) n in
-        subst Q n' W.known
+        rw (sym G.scope, sym G.words, sym G.level) n
+
+    pub walked-all : (b : Reps) {x : Option Listed} → x ≡ None → Gives a x b → Q (length (level_at s.gens T i))
+    walked-all b e g = subst Q (walked-end b e g) W.known
