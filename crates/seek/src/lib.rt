@@ -8,7 +8,6 @@
 //   ends_at, find_near, found_near   a representation whose line a guess may tell
 //   found            a representation by level and number
 //   start_of         the first line of a level
-//   following        the next of its level
 //   Reps             the representations of a level, one after the other
 //   degree_of        the degree of a representation, of level 0 too
 //   count_of         how many representations a level has, level 0 too
@@ -19,7 +18,7 @@ ghost use Rattle.definitions.specs.Presentation.{max_generators, max_order};
 ghost use Rattle.definitions.specs.Monomial.{rep_of};
 ghost use Rattle.definitions.specs.Table.{REP, word_at, line_count, level_at, first_line};
 ghost use Rattle.heads.specs.Order.{before, Split, Splits};
-ghost use Rattle.seek.specs.Seek.{Whole, Found, Follows, NextOf};
+ghost use Rattle.seek.specs.Seek.{Whole, Found};
 ghost use Rattle.seek.specs.Walk.{Walks};
 ghost use Rattle.std.specs.Iterator.{at_most};
 
@@ -164,14 +163,6 @@ pub fn start_of(words: &[u32], s: Scope, i: u32) -> usize
     }
     let d = found(words, s, i, 0);
     d.line
-}
-
-// The representation behind d on its level.
-pub fn following(words: &[u32], s: Scope, d: Listed) -> Listed
-    requires { Whole s words.now × Follows s.gens words.now d }
-    ensures { NextOf s.gens words.now d result }
-{
-    level::representation(words, level::matrix_line(d, s.gens))
 }
 
 // The degree of representation r of level i, looked for where `near` tells.
