@@ -1,6 +1,6 @@
 -- The blocks of a representation, column by column and one behind the other.
 --
---   column-row, column-exp          a column, by its row and by its exponent
+--   acts-is                         a column, by its row and its exponent
 --   among-within                    a block that is referred to has room, and its lines hold matrices
 --   column-there                    the lines of the first generator are there
 --   whole-listed, whole-refers      what a whole block refers to is listed, and has room
@@ -8,7 +8,6 @@
 --   CutTo                           the test of the blocks from column o on says what the whole test says
 --   going-none, going-whole, going_more, going-fails, going-all      the steps of the loop
 use mathlib.Core.Path.{◌≡◌, sym, ◌∙◌, ap, ap₂, subst}
-use mathlib.Core.Logic.{◌≢◌}
 use mathlib.Core.Bool.{Bool, true, false, ◌&&◌}
 use mathlib.Core.List.{List}
 use Prim.Native.Nat.{ℕ, suc, ◌+◌, ◌*◌, ◌%◌, ◌≤◌, ◌<◌}
@@ -16,7 +15,6 @@ use native.Mathlib.Nat.{mod-eq_of_lt, mul-le-mul_right}
 use native.Mathlib.Omega.{arith}
 use lib.Dec.{eqb}
 use lib.ListN.{length}
-use borrow.Author.Tests.{eq-eqb, ne_eqb}
 use Rattle.definitions.specs.declared.Entry.{Entry}
 use Rattle.definitions.specs.Lists.{all_below}
 use Rattle.definitions.specs.Presentation.{Presentation}
@@ -40,15 +38,9 @@ use Rattle.check_blocks.specs.Blocks.{Within, column_acts, Refers}
 
 module _ (T : List ℕ) (D : Listed) (o : ℕ) (F : Listed) (k c : ℕ) (x y : Entry)
     (first : x ≡ entry_in T (line_in D k + (o + c))) (second : y ≡ entry_in T (line_in F k + c)) where
-  acts-is : column_acts T D o F k c ≡ (eqb x.row (o + y.row) && eqb x.exp y.exp)
+  pub acts-is : column_acts T D o F k c ≡ (eqb x.row (o + y.row) && eqb x.exp y.exp)
   unfolding column_acts
   acts-is = sym (ap₂ (λ (x y : Entry). eqb x.row (o + y.row) && eqb x.exp y.exp) first second)
-
-  pub column-row : x.row ≢ o + y.row → false ≡ column_acts T D o F k c
-  column-row h = sym (acts-is ∙ ap (λ b. b && eqb x.exp y.exp) (ne_eqb x.row (o + y.row) h))
-
-  pub column-exp : x.row ≡ o + y.row → eqb x.exp y.exp ≡ column_acts T D o F k c
-  column-exp e = sym (acts-is ∙ ap (λ b. b && eqb x.exp y.exp) (eq-eqb x.row (o + y.row) e))
 
 module _ {s : Scope} {T : List ℕ} {D : Listed} {o : ℕ} {F : Listed} (W : Within s T D o F) where
   -- exponents below the modulus are equal modulo it only if they are equal

@@ -5,12 +5,12 @@
 //   column_acts, generator_acts, block_acts      a block, by columns and generators
 //   block_at                                     what the block from a column refers to
 //   blocks_act, level_acts                       all blocks of a representation, and of a level
-//   restricted, restrictions_hold                refusal 23
+//   restrictions_hold                            refusal 23
 //   square, level_adds_up                        the squares of the degrees of a level
 //   squares_hold                                 refusal 26
 #![tactic(auto)]
 
-ghost use Rattle.std.specs.Prelude.{◌≡◌, ◌⊎◌, true, suc, ◌*◌, ◌≤◌, ◌<◌, eqb};
+ghost use Rattle.std.specs.Prelude.{◌≡◌, true, suc, ◌*◌, ◌≤◌, ◌<◌, eqb};
 ghost use Rattle.definitions.specs.Lists.{all_below};
 ghost use Rattle.definitions.specs.Presentation.{Presentation};
 ghost use Rattle.definitions.specs.Table.{level_at};
@@ -21,9 +21,10 @@ ghost use Rattle.seek.specs.Among.{rep_in, Among, on_level};
 ghost use Rattle.check_blocks.specs.Blocks.{Within, column_acts, Refers, Restricted};
 ghost use Rattle.check_blocks.specs.Squares.{squares_in, AddsUp};
 
+use definitions::Entry;
 use level::Listed;
 use rows::GENERATORS;
-use seek::Scope;
+use seek::{Reps, Scope};
 
 // ---- One block
 
@@ -34,10 +35,10 @@ fn column_acts(words: &[u32], s: Scope, d: Listed, o: u32, f: Listed, k: u32, c:
 {
     let x = level::column(words, level::matrix_line(d, k), d.deg, o + c, s.m);
     let y = level::column(words, level::matrix_line(f, k), f.deg, c, s.m);
-    if x.row != o + y.row {
-        return false;
+    x == Entry {
+        row: o + y.row,
+        exp: y.exp,
     }
-    x.exp == y.exp
 }
 
 // Every column of generator k.
@@ -102,40 +103,22 @@ fn level_acts(words: &[u32], s: Scope, i: u32) -> bool
     ensures { Tells s words.now (λ P. on_level s.gens words.now (restricts P s.m words.now) (suc i)) result }
 {
     let near = seek::start_of(words, s, i);
-    let reps = seek::count_of(words, s, i + 1);
-    let mut d = seek::found(words, s, i + 1, 0);
-    let mut r: usize = 0;
-    loop {
+    for d in Reps::of(words, s, i + 1) {
         if !blocks_act(words, s, i, near, d) {
             return false;
         }
-        r += 1;
-        if r == reps {
-            return true;
-        }
-        d = seek::following(words, s, d);
     }
-}
-
-// How many of the first levels need not be looked at, where `from` levels restrict: no generator is below the top of level 1.
-fn restricted(from: u32) -> u32
-    ensures { (0 < result) × ((result ≡ from) ⊎ (result ≡ 1)) }
-{
-    if from == 0 {
-        return 1;
-    }
-    from
+    true
 }
 
 // Whether each generator below the top acts on every block as in what the block refers to, where it does so on the first `from`
-// levels: refusal 23.
+// levels: refusal 23. No generator is below the top of level 1.
 pub fn restrictions_hold(words: &[u32], s: Scope, from: u32) -> bool
     requires { (P : Presentation) × Formed P s words.now }
     ensures { Restricted s words.now from result }
 {
     let gens = s.gens;
-    let first = restricted(from);
-    for i in first..gens {
+    for i in from.max(1)..gens {
         if !level_acts(words, s, i) {
             return false;
         }
@@ -157,22 +140,14 @@ fn level_adds_up(words: &[u32], s: Scope, i: u32, order: u32) -> bool
     requires { Whole s words.now × (0 < i) × (i ≤ s.gens) }
     ensures { result ≡ eqb (squares_in s.gens words.now i) order }
 {
-    let reps = seek::count_of(words, s, i);
-    let mut d = seek::found(words, s, i, 0);
     let mut left = level::up(order);
-    let mut r: usize = 0;
-    loop {
-        let q = square(d.deg);
-        if left < q {
+    for d in Reps::of(words, s, i) {
+        let Some(rest) = left.checked_sub(square(d.deg)) else {
             return false;
-        }
-        left -= q;
-        r += 1;
-        if r == reps {
-            return left == 0;
-        }
-        d = seek::following(words, s, d);
+        };
+        left = rest;
     }
+    left == 0
 }
 
 // Whether the squares of the degrees of every level add up to its order, where they do on the first `from` levels: refusal 26.

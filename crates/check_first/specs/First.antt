@@ -2,8 +2,8 @@
 --
 --   word_on rows j                  the exponent of generator 0 in the word of generators 0 and j
 --   exponent_of n T r               the exponent of generator 0 in representation r
---   Allowed k p part M             of k numbers only the first p multiples of part are marked
---   Takes e M N                    e is marked in M; in N it is not, and the other marks stay
+--   Allowed k p part M             of k numbers only the first p multiples of part are free
+--   Takes e M N                    e is free in M; in N it is not, and the others stay as they are
 --   LineOne T at r g               line `at` is of generator g of representation r of level 1, of degree 1
 --   LedTo T at n p a e m           line `at` leads to one of p representations, in which generator 0 has a times the exponent e
 --   RootImage s T rows p r j           the line of generator j, above generator 0
@@ -15,7 +15,7 @@
 --   TakesCharacter                 the same, and its exponent is taken from the marks
 --   Characters s T rows p          the first p representations, which differ in the exponent of generator 0
 --   FirstLevel s T rows orders p   the heads of the table are in order, and these are its level 1
-use Rattle.std.specs.Prelude.{◌≡◌, true, List, [], ℕ, suc, ◌+◌, ◌*◌, ◌%◌, ◌≤◌, ◌<◌, length, get_or}
+use Rattle.std.specs.Prelude.{◌≡◌, Bool, true, false, List, [], ℕ, suc, ◌+◌, ◌*◌, ◌%◌, ◌≤◌, ◌<◌, length, get_or}
 use Rattle.definitions.specs.Presentation.{max_order, pair_number}
 use Rattle.definitions.specs.Table.{LEVEL, REP, DEG, GEN, REF, COL, ROW, EXP, word_at, line_count, level_at}
 use Rattle.seek.specs.declared.Scope.{Scope}
@@ -31,16 +31,16 @@ exponent_of n T r = word_at T (r * n) EXP
 
 -- ---- Marks
 
-pub record Allowed (k p part : ℕ) (M : List ℕ) : Type 0 where
+pub record Allowed (k p part : ℕ) (M : List Bool) : Type 0 where
   pub size : length M ≡ k
-  pub only : (e : ℕ) → ¬ (get_or M e 0 ≡ 0) → (q : ℕ) × (q < p) × (e ≡ q * part)
+  pub only : (e : ℕ) → get_or M e false ≡ true → (q : ℕ) × (q < p) × (e ≡ q * part)
 
-pub record Takes (e : ℕ) (M N : List ℕ) : Type 0 where
+pub record Takes (e : ℕ) (M N : List Bool) : Type 0 where
   pub inside : e < length M
   pub size : length N ≡ length M
-  pub free : get_or M e 0 ≡ 1
-  pub taken : get_or N e 0 ≡ 0
-  pub others : (f : ℕ) → ¬ (f ≡ e) → get_or N f 0 ≡ get_or M f 0
+  pub free : get_or M e false ≡ true
+  pub taken : get_or N e false ≡ false
+  pub others : (f : ℕ) → ¬ (f ≡ e) → get_or N f false ≡ get_or M f false
 
 -- ---- Lines
 
@@ -80,7 +80,7 @@ pub record CharacterPlaced (s : Scope) (T : List ℕ) (p r : ℕ) : Type 0 where
   pub small : s.m ≤ max_order
 
 -- the exponents that are free are multiples of the part
-pub record SlotsMarked (s : Scope) (T : List ℕ) (p : ℕ) (M : List ℕ) : Type 0 where
+pub record SlotsMarked (s : Scope) (T : List ℕ) (p : ℕ) (M : List Bool) : Type 0 where
   pub part : ℕ
   pub parted : Parted s T p part
   pub allowed : Allowed (length M) p part M
@@ -95,7 +95,7 @@ pub record Character (s : Scope) (T : List ℕ) (rows : List (List ℕ)) (p r : 
   pub row : word_at T (r * s.gens) ROW ≡ 0
   pub images : RootImages s T rows p r
 
-pub record TakesCharacter (s : Scope) (T : List ℕ) (rows : List (List ℕ)) (p r : ℕ) (M N : List ℕ) : Type 0 where
+pub record TakesCharacter (s : Scope) (T : List ℕ) (rows : List (List ℕ)) (p r : ℕ) (M N : List Bool) : Type 0 where
   pub is : Character s T rows p r
   pub takes : Takes (exponent_of s.gens T r) M N
 

@@ -2,16 +2,15 @@
 // of that generator. The tests are part of the fast acceptance test, and by design sound but not complete: `true` implies the condition,
 // `false` implies nothing. `checker::judge` is exact.
 //
-//   TAKEN, FREE                  the marks of an exponent
-//   set_first, set_free, mark, take     the exponents that the power relation of generator 0 allows, and one of them
+//   mark, take                   the exponents that the power relation of generator 0 allows, and one of them
 //   line_is                      a line of a representation of degree 1 on level 1
 //   conjugate, led_to            a generator above generator 0
 //   images_ok                    all of them
-//   character, all_characters, small_characters, characters     a representation, and all of level 1
+//   character, all_characters, characters     a representation, and all of level 1
 //   level_one                    the heads of the table, and level 1
 #![tactic(auto)]
 
-ghost use Rattle.std.specs.Prelude.{◌≡◌, true, suc, ◌+◌, ◌*◌, ◌≤◌, ◌<◌, length};
+ghost use Rattle.std.specs.Prelude.{◌≡◌, true, suc, ◌+◌, ◌*◌, ◌≤◌, ◌<◌, length, IfSome};
 ghost use Rattle.definitions.specs.Presentation.{max_generators, max_order};
 ghost use Rattle.check_heads.specs.Places.{Scoped};
 ghost use Rattle.check_first.specs.First.{word_on, exponent_of, Allowed, Takes, LineOne, LedTo};
@@ -21,58 +20,34 @@ use conditions::size::Orders;
 use rows::{ORDER, Rows};
 use seek::Scope;
 
-// The marks of an exponent: no representation may have it, or none has it yet.
-const TAKEN: u8 = 0;
-
-const FREE: u8 = 1;
-
 // ---- Exponents of generator 0
 
-// Marks the first p numbers.
-fn set_first(free: &mut [u8], p: usize)
-    requires { Allowed (length free.old) 0 1 free.old × (p ≤ length free.old) }
-    ensures { Allowed (length free.old) p 1 free.new }
-{
-    for e in 0..p {
-        free[e] = FREE;
-    }
-}
-
-// Marks the first p multiples of a number.
-fn set_free(free: &mut [u8], p: usize, part: usize)
-    requires { Allowed (length free.old) 0 part free.old × (0 < part) × (p * part ≤ length free.old) }
+// Frees the first p multiples of a number, and nothing else; where that number is 1 they are freed at once.
+fn mark(free: &mut [bool], p: usize, part: usize)
+    requires { (0 < part) × (p * part ≤ length free.old) }
     ensures { Allowed (length free.old) p part free.new }
 {
-    let mut e: usize = 0;
-    for k in 0..p {
-        free[e] = FREE;
-        e += part;
-    }
-}
-
-// Marks the first p multiples of a number; where that number is 1 they are marked at once.
-fn mark(free: &mut [u8], p: usize, part: usize)
-    requires { Allowed (length free.old) 0 part free.old × (0 < part) × (p * part ≤ length free.old) }
-    ensures { Allowed (length free.old) p part free.new }
-{
+    free.fill(false);
     if part == 1 {
-        set_first(free, p);
+        free[..p].fill(true);
         return;
     }
-    set_free(free, p, part);
+    for e in (0..p * part).step_by(part) {
+        free[e] = true;
+    }
 }
 
 // Takes an exponent that is free.
-fn take(free: &mut [u8], e: usize) -> bool
+fn take(free: &mut [bool], e: usize) -> bool
     ensures { result ≡ true → Takes e free.old free.new }
 {
     if free.len() <= e {
         return false;
     }
-    if free[e] != FREE {
+    if !free[e] {
         return false;
     }
-    free[e] = TAKEN;
+    free[e] = false;
     true
 }
 
@@ -86,20 +61,20 @@ fn line_is(words: &[u32], at: usize, k: usize, g: u32) -> bool
     if check_lines::two_at(words, at, level::LEVEL) != 1 + k * check_lines::HIGH {
         return false;
     }
-    check_lines::two_at(words, at, level::DEG) == 1 + check_lines::wide(g + 1) * check_lines::HIGH
+    check_lines::two_at(words, at, level::DEG) == 1 + level::up(g + 1) * check_lines::HIGH
 }
 
-// The exponent of generator 0 in its conjugate by generator j, and 0 where it is above every order.
-fn conjugate(rows: &Rows, j: u32) -> u32
+// The exponent of generator 0 in its conjugate by generator j, unless it is above every order.
+fn conjugate(rows: &Rows, j: u32) -> Option<u32>
     requires { (0 < j) × (j < max_generators) }
-    ensures { (result ≤ max_order) × (¬ (result ≡ 0) → result ≡ suc (word_on rows.now j)) }
+    ensures { IfSome result (λ a. (a ≤ max_order) × (a ≡ suc (word_on rows.now j))) }
 {
     let at = rows::pair(level::up(j), 0);
     let w = rows[at][0];
     if level::up(w) >= ORDER {
-        return 0;
+        return None;
     }
-    w + 1
+    Some(w + 1)
 }
 
 // The line leads to one of p representations of n lines each, in which generator 0 has a times the exponent e.
@@ -139,10 +114,9 @@ fn images_ok(words: &[u32], rows: &Rows, s: Scope, p: usize, k: usize, e: u32) -
         if s.m <= level::word_at(words, l, level::EXP) {
             return false;
         }
-        let a = conjugate(rows, j);
-        if a == 0 {
+        let Some(a) = conjugate(rows, j) else {
             return false;
-        }
+        };
         if !led_to(words, l, n, p, a, e, s.m) {
             return false;
         }
@@ -151,7 +125,7 @@ fn images_ok(words: &[u32], rows: &Rows, s: Scope, p: usize, k: usize, e: u32) -
 }
 
 // The lines of representation k; its exponent of generator 0 is free, and is taken.
-fn character(words: &[u32], rows: &Rows, s: Scope, p: usize, k: usize, free: &mut [u8]) -> bool
+fn character(words: &[u32], rows: &Rows, s: Scope, p: usize, k: usize, free: &mut [bool]) -> bool
     requires { SlotsMarked s words.now p free.old × (k < p) }
     ensures { result ≡ true → TakesCharacter s words.now rows.now p k free.old free.new }
 {
@@ -179,12 +153,11 @@ fn all_characters(
     s: Scope,
     p: usize,
     part: usize,
-    free: &mut [u8],
+    free: &mut [bool],
 ) -> bool
     requires { Parted s words.now p part × (s.m ≤ length free.old) }
     ensures { result ≡ true → Characters s words.now rows.now p }
 {
-    claims::clear(free);
     mark(free, p, part);
     for k in 0..p {
         if !character(words, rows, s, p, k, free) {
@@ -194,17 +167,8 @@ fn all_characters(
     true
 }
 
-// The first p representations are right, with marks for moduli up to 64.
-fn small_characters(words: &[u32], rows: &Rows, s: Scope, p: usize, part: usize) -> bool
-    requires { Parted s words.now p part × (s.m ≤ 64) }
-    ensures { result ≡ true → Characters s words.now rows.now p }
-{
-    let mut free = [TAKEN; 64];
-    all_characters(words, rows, s, p, part, &mut free)
-}
-
 // The first p representations are those of a right level 1, where p is the prime of generator 0 and there are marks for all exponents.
-fn characters(words: &[u32], rows: &Rows, s: Scope, p: u32, free: &mut [u8]) -> bool
+fn characters(words: &[u32], rows: &Rows, s: Scope, p: u32, free: &mut [bool]) -> bool
     requires { Scoped s words.now × (0 < s.m) }
     ensures { result ≡ true → Characters s words.now rows.now p }
 {
@@ -217,16 +181,13 @@ fn characters(words: &[u32], rows: &Rows, s: Scope, p: u32, free: &mut [u8]) -> 
     if level::up(s.m) > free.len() {
         return false;
     }
-    let many = check_lines::wide(p);
-    let part = check_lines::wide(s.m / p);
+    let many = level::up(p);
+    let part = level::up(s.m / p);
     if many * part != level::up(s.m) {
         return false;
     }
-    if many * check_lines::wide(s.gens) > s.lines {
+    if many * level::up(s.gens) > s.lines {
         return false;
-    }
-    if s.m <= 64 {
-        return small_characters(words, rows, s, many, part);
     }
     all_characters(words, rows, s, many, part, free)
 }
@@ -238,7 +199,7 @@ pub fn level_one(
     orders: &Orders,
     s: Scope,
     p: u32,
-    free: &mut [u8],
+    free: &mut [bool],
 ) -> bool
     requires { Scoped s words.now × (0 < s.m) }
     ensures { result ≡ true → FirstLevel s words.now rows.now orders.now p }

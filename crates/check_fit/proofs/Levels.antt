@@ -3,6 +3,7 @@
 --   Reaching                     the first i levels fit, and the first lines of level i stand in the list
 --   reaching-none, reaching-staged, reaching-more, reaching-stops, reaching-all      the steps of the loop
 --   level-one                    level 1, in a list
+use Rattle.std.specs.Prelude.{Some}
 use mathlib.Core.Path.{◌≡◌, refl, sym, ◌∙◌, ap, subst}
 use mathlib.Core.List.{List}
 use Prim.Native.Nat.{ℕ, zero, suc, ◌+◌, ◌≤◌, ◌<◌}
@@ -45,7 +46,7 @@ module _ {s : Scope} {T : List ℕ} {rows : List (List ℕ)} {primes orders F₀
     }
 
     -- the first lines of the next level are written
-    module _ {F₁ : List ℕ} {above : ℕ} (l : i < s.gens) {o : ℕ} (N : FirstLines s T (i + 1) o (low + below) F F₁ above) (some : ¬ (above ≡ 0)) where
+    module _ {F₁ : List ℕ} {above : ℕ} (l : i < s.gens) {o : ℕ} (N : FirstLines s T (i + 1) o (low + below) F F₁ (Some above)) where
       low-kept : Lined s.gens T i F₁ low below
       low-kept = record {
         counts = R.listed.counts;
@@ -54,7 +55,7 @@ module _ {s : Scope} {T : List ℕ} {rows : List (List ℕ)} {primes orders F₀
       }
 
       high-listed : Lined s.gens T (suc i) F₁ (low + below) above
-      high-listed = subst (λ i. Lined s.gens T i F₁ (low + below) above) (add-one i) (N.lined some)
+      high-listed = subst (λ i. Lined s.gens T i F₁ (low + below) above) (add-one i) N.some.0
 
       last_stored : (k : ℕ) → k ≡ i → 0 < k → (r : ℕ) {D : Listed} → Found s.gens T k r D → Stored s.m s.gens T D
       last_stored zero e p r G = absurd (omega arith)
@@ -76,11 +77,11 @@ module _ {s : Scope} {T : List ℕ} {rows : List (List ℕ)} {primes orders F₀
       reaching-more p e q L = record {
         size = N.size ∙ R.size;
         from = omega arith;
-        listed = N.lined some;
+        listed = N.some.0;
         fits = record {
           each = below_more (λ k. LevelFits s T rows k (get_or primes k 0)) i R.fits.each (subst (LevelFits s T rows i) e L);
           squares = below_more (λ k. squares_in s.gens T (suc k) ≡ get_or orders (suc k) 0) i R.fits.squares
-              (ap (squares_in s.gens T) (sym (add-one i)) ∙ N.squares some ∙ q);
+              (ap (squares_in s.gens T) (sym (add-one i)) ∙ N.some.1 ∙ q);
         };
       }
 

@@ -5,19 +5,23 @@
 //   upper_levels_fit                     the levels above the first
 //   character_lines                      the first lines of level 1, in a list
 //   levels_fit, lent_levels              all levels, with a list and marks that are lent
-//   levels_of_16 .. levels_of_any        with room for orders up to so many; fitting_levels chooses among them
+//   levels_with, fitting_levels          with room for orders up to so many, which is chosen
 #![tactic(auto)]
 
 ghost use Rattle.std.specs.Prelude.{◌≡◌, ◌*◌, ◌≤◌, ◌<◌, length};
-ghost use Rattle.definitions.specs.Presentation.{max_generators, max_modulus};
+ghost use Rattle.definitions.specs.Presentation.{max_generators, max_order, max_modulus};
 ghost use Rattle.compare.specs.Staged.{max_lines};
 ghost use Rattle.check_heads.specs.Places.{Scoped};
 ghost use Rattle.check_fit.specs.Fit.{CharacterLines, Started, LevelOne, FitUpTo, FittingLevels};
 
+use claims::Mark;
 use compare::Stage;
 use conditions::size::Orders;
 use rows::{ORDER, Row, Rows};
 use seek::Scope;
+
+// The first lines of two levels one above the other, of the largest order.
+const FIRSTS: usize = 2 * ORDER;
 
 // The lines that are compared at most: every table that passes has fewer.
 const MAX_LINES: usize = 16777216;
@@ -30,8 +34,8 @@ fn upper_levels_fit(
     orders: &Orders,
     s: Scope,
     firsts: &mut [u32],
-    marks: &mut [u8],
-    slots: &mut [u8],
+    marks: &mut [Mark],
+    slots: &mut [bool],
 ) -> u32
     requires { LevelOne s words.now rows.now primes.now orders.now firsts.old }
     ensures fit_up_to { FitUpTo s words.now rows.now primes.now orders.now result }
@@ -44,10 +48,10 @@ fn upper_levels_fit(
     for i in 1..gens {
         let high = low + below;
         let k = level::up(i);
-        let above = check_level::first_lines(words, s, i + 1, orders[k + 1], firsts, high);
-        if above == 0 {
+        let Some(above) = check_level::first_lines(words, s, i + 1, orders[k + 1], firsts, high)
+        else {
             return i;
-        }
+        };
         let g = Stage {
             top: i,
             p: primes[k],
@@ -85,8 +89,8 @@ fn levels_fit(
     orders: &Orders,
     s: Scope,
     firsts: &mut [u32],
-    marks: &mut [u8],
-    slots: &mut [u8],
+    marks: &mut [Mark],
+    slots: &mut [bool],
 ) -> u32
     requires { Started s words.now rows.now primes.now orders.now }
     ensures { FitUpTo s words.now rows.now primes.now orders.now result }
@@ -107,8 +111,8 @@ fn lent_levels(
     orders: &Orders,
     s: Scope,
     firsts: &mut [u32],
-    marks: &mut [u8],
-    slots: &mut [u8],
+    marks: &mut [Mark],
+    slots: &mut [bool],
 ) -> u32
     requires { Scoped s words.now × (0 < s.m) × (s.m ≤ max_modulus) }
     ensures { FittingLevels s rows.now primes.now orders.now words.now result }
@@ -120,7 +124,7 @@ fn lent_levels(
     if s.lines > MAX_LINES {
         return 0;
     }
-    if !check_first::level_one(words, rows, orders, s, primes[0], marks) {
+    if !check_first::level_one(words, rows, orders, s, primes[0], slots) {
         return 0;
     }
     if s.gens == 1 {
@@ -129,135 +133,21 @@ fn lent_levels(
     levels_fit(words, rows, primes, orders, s, firsts, marks, slots)
 }
 
-// How many of them fit, with room for orders up to 16: no level has more representations or slots than there are elements, and the order of a
-// level is at least twice that of the level below.
-fn levels_of_16(words: &[u32], rows: &Rows, primes: &Row, orders: &Orders, s: Scope) -> u32
-    requires { Scoped s words.now × (0 < s.m) × (s.m ≤ max_modulus) }
+// How many of them fit, with room for so many first lines, marks and slots: no level has more representations or slots than there are
+// elements, and the order of a level is at least twice that of the level below.
+fn levels_with<const FIRSTS: usize, const MARKS: usize>(
+    words: &[u32],
+    rows: &Rows,
+    primes: &Row,
+    orders: &Orders,
+    s: Scope,
+) -> u32
+    requires { Scoped s words.now × (0 < s.m) × (s.m ≤ max_modulus) × (FIRSTS ≤ 2 * max_order) × (MARKS ≤ max_order) }
     ensures { FittingLevels s rows.now primes.now orders.now words.now result }
 {
-    let mut firsts = [0u32; 2 * 16];
-    let mut marks = [0u8; 16];
-    let mut slots = [0u8; 16];
-    lent_levels(
-        words,
-        rows,
-        primes,
-        orders,
-        s,
-        &mut firsts,
-        &mut marks,
-        &mut slots,
-    )
-}
-
-// How many of them fit, with room for orders up to 64.
-fn levels_of_64(words: &[u32], rows: &Rows, primes: &Row, orders: &Orders, s: Scope) -> u32
-    requires { Scoped s words.now × (0 < s.m) × (s.m ≤ max_modulus) }
-    ensures { FittingLevels s rows.now primes.now orders.now words.now result }
-{
-    let mut firsts = [0u32; 2 * 64];
-    let mut marks = [0u8; 64];
-    let mut slots = [0u8; 64];
-    lent_levels(
-        words,
-        rows,
-        primes,
-        orders,
-        s,
-        &mut firsts,
-        &mut marks,
-        &mut slots,
-    )
-}
-
-// How many of them fit, with room for orders up to 256.
-fn levels_of_256(words: &[u32], rows: &Rows, primes: &Row, orders: &Orders, s: Scope) -> u32
-    requires { Scoped s words.now × (0 < s.m) × (s.m ≤ max_modulus) }
-    ensures { FittingLevels s rows.now primes.now orders.now words.now result }
-{
-    let mut firsts = [0u32; 2 * 256];
-    let mut marks = [0u8; 256];
-    let mut slots = [0u8; 256];
-    lent_levels(
-        words,
-        rows,
-        primes,
-        orders,
-        s,
-        &mut firsts,
-        &mut marks,
-        &mut slots,
-    )
-}
-
-// How many of them fit, with room for orders up to 512.
-fn levels_of_512(words: &[u32], rows: &Rows, primes: &Row, orders: &Orders, s: Scope) -> u32
-    requires { Scoped s words.now × (0 < s.m) × (s.m ≤ max_modulus) }
-    ensures { FittingLevels s rows.now primes.now orders.now words.now result }
-{
-    let mut firsts = [0u32; 2 * 512];
-    let mut marks = [0u8; 512];
-    let mut slots = [0u8; 512];
-    lent_levels(
-        words,
-        rows,
-        primes,
-        orders,
-        s,
-        &mut firsts,
-        &mut marks,
-        &mut slots,
-    )
-}
-
-// How many of them fit, with room for orders up to 1,024.
-fn levels_of_1024(words: &[u32], rows: &Rows, primes: &Row, orders: &Orders, s: Scope) -> u32
-    requires { Scoped s words.now × (0 < s.m) × (s.m ≤ max_modulus) }
-    ensures { FittingLevels s rows.now primes.now orders.now words.now result }
-{
-    let mut firsts = [0u32; 2 * 1024];
-    let mut marks = [0u8; 1024];
-    let mut slots = [0u8; 1024];
-    lent_levels(
-        words,
-        rows,
-        primes,
-        orders,
-        s,
-        &mut firsts,
-        &mut marks,
-        &mut slots,
-    )
-}
-
-// How many of them fit, with room for orders up to 4,096.
-fn levels_of_4096(words: &[u32], rows: &Rows, primes: &Row, orders: &Orders, s: Scope) -> u32
-    requires { Scoped s words.now × (0 < s.m) × (s.m ≤ max_modulus) }
-    ensures { FittingLevels s rows.now primes.now orders.now words.now result }
-{
-    let mut firsts = [0u32; 2 * 4096];
-    let mut marks = [0u8; 4096];
-    let mut slots = [0u8; 4096];
-    lent_levels(
-        words,
-        rows,
-        primes,
-        orders,
-        s,
-        &mut firsts,
-        &mut marks,
-        &mut slots,
-    )
-}
-
-// How many of them fit, with room for every order.
-fn levels_of_any(words: &[u32], rows: &Rows, primes: &Row, orders: &Orders, s: Scope) -> u32
-    requires { Scoped s words.now × (0 < s.m) × (s.m ≤ max_modulus) }
-    ensures { FittingLevels s rows.now primes.now orders.now words.now result }
-{
-    let mut firsts = [0u32; 2 * ORDER];
-    let mut marks = [0u8; ORDER];
-    let mut slots = [0u8; ORDER];
+    let mut firsts = [0u32; FIRSTS];
+    let mut marks = [Mark::Free; MARKS];
+    let mut slots = [false; MARKS];
     lent_levels(
         words,
         rows,
@@ -276,23 +166,13 @@ pub fn fitting_levels(words: &[u32], rows: &Rows, primes: &Row, orders: &Orders,
     requires { Scoped s words.now × (0 < s.m) × (s.m ≤ max_modulus) }
     ensures { FittingLevels s rows.now primes.now orders.now words.now result }
 {
-    if s.m <= 16 {
-        return levels_of_16(words, rows, primes, orders, s);
+    match s.m {
+        0..=16 => levels_with::<32, 16>(words, rows, primes, orders, s),
+        17..=64 => levels_with::<128, 64>(words, rows, primes, orders, s),
+        65..=256 => levels_with::<512, 256>(words, rows, primes, orders, s),
+        257..=512 => levels_with::<1024, 512>(words, rows, primes, orders, s),
+        513..=1024 => levels_with::<2048, 1024>(words, rows, primes, orders, s),
+        1025..=4096 => levels_with::<8192, 4096>(words, rows, primes, orders, s),
+        _ => levels_with::<FIRSTS, ORDER>(words, rows, primes, orders, s),
     }
-    if s.m <= 64 {
-        return levels_of_64(words, rows, primes, orders, s);
-    }
-    if s.m <= 256 {
-        return levels_of_256(words, rows, primes, orders, s);
-    }
-    if s.m <= 512 {
-        return levels_of_512(words, rows, primes, orders, s);
-    }
-    if s.m <= 1024 {
-        return levels_of_1024(words, rows, primes, orders, s);
-    }
-    if s.m <= 4096 {
-        return levels_of_4096(words, rows, primes, orders, s);
-    }
-    levels_of_any(words, rows, primes, orders, s)
 }

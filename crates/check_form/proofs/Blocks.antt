@@ -2,7 +2,8 @@
 --
 --   block-unlisted, block-long, block-mixed, block-whole      how long a block is, test after test
 --   width-none, width-more, width-inside      block after block, by its length
-use mathlib.Core.Path.{◌≡◌, refl, sym, ◌∙◌, ap, ap₂, subst}
+use Rattle.std.specs.Prelude.{Some, None}
+use mathlib.Core.Path.{◌≡◌, sym, ◌∙◌, ap, ap₂, subst}
 use mathlib.Core.Bool.{Bool, true, false, ◌&&◌}
 use mathlib.Core.List.{List}
 use Prim.Native.Nat.{ℕ, ◌+◌, ◌-◌, ◌≤◌, ◌<◌}
@@ -39,12 +40,9 @@ module _ (low : Level) (T : List ℕ) (D : Listed) (o at x : ℕ) (there : at �
   abbrev one : Bool
   one = all_below (rep_of low (R.ref 0 o)).deg (λ c. eqb (R.ref 0 (o + c)) (R.ref 0 o))
 
-  none : whole_block low (listed_rep T D) o ≡ false → Width low (listed_rep T D) o 0
-  none h = record { none = λ _. h; some = λ z. absurd (z refl) }
-
-  pub block-unlisted : length low ≤ x → Width low (listed_rep T D) o 0
+  pub block-unlisted : length low ≤ x → Width low (listed_rep T D) o None
   unfolding whole_block
-  block-unlisted h = none (ap (λ t. t && ends && one) (le-ltb (R.ref 0 o) (length low) (omega (arith, ref-is))))
+  block-unlisted h = ap (λ t. t && ends && one) (le-ltb (R.ref 0 o) (length low) (omega (arith, ref-is)))
 
   module _ (f : ℕ) (degree : f ≡ (rep_of low x).deg) (l : x < length low) (h : o < D.deg) where
     deg-is : (rep_of low ((listed_rep T D).ref 0 o)).deg ≡ f
@@ -65,31 +63,31 @@ module _ (low : Level) (T : List ℕ) (D : Listed) (o at x : ℕ) (there : at �
     unfolding whole_block
     block_is = ap (λ t. t && ends && one) listed-is ∙ ap₂ (◌&&◌) ends_is one_is
 
-    pub block-long : D.deg - o < f → Width low (listed_rep T D) o 0
-    block-long g = none (block_is ∙ ap (λ t. t && refs_are T at f x) (lt-leb (o + f) D.deg (omega arith)))
+    pub block-long : D.deg - o < f → Width low (listed_rep T D) o None
+    block-long g = block_is ∙ ap (λ t. t && refs_are T at f x) (lt-leb (o + f) D.deg (omega arith))
 
     module _ (fits : f ≤ D.deg - o) where
       whole_is : whole_block low (listed_rep T D) o ≡ refs_are T at f x
       whole_is = block_is ∙ ap (λ t. t && refs_are T at f x) (le-leb (o + f) D.deg (omega arith))
 
-      pub block-mixed : refs_are T at f x ≡ false → Width low (listed_rep T D) o 0
-      block-mixed g = none (whole_is ∙ g)
+      pub block-mixed : refs_are T at f x ≡ false → Width low (listed_rep T D) o None
+      block-mixed g = whole_is ∙ g
 
-      pub block-whole : 0 < f → refs_are T at f x ≡ true → Width low (listed_rep T D) o f
-      block-whole z g = record { none = λ e. absurd (omega arith); some = λ _. (whole_is ∙ g, sym deg-is) }
+      pub block-whole : 0 < f → refs_are T at f x ≡ true → Width low (listed_rep T D) o (Some f)
+      block-whole z g = (whole_is ∙ g, sym deg-is, z)
 
 -- ---- Block after block
 
-module _ (low : Level) (D : Rep) (o : ℕ) (h : o < D.deg) (x : ℕ) (W : Width low D o x) where
-  pub width-none : Cutting low D (whole_block low D) o → x ≡ 0 → false ≡ blocks_ok low D
-  width-none C z = sym (cutting-fails low D (whole_block low D) o C h (W.none z))
+module _ (low : Level) (D : Rep) (o : ℕ) (h : o < D.deg) where
+  pub width-none : Cutting low D (whole_block low D) o → whole_block low D o ≡ false → false ≡ blocks_ok low D
+  width-none C z = sym (cutting-fails low D (whole_block low D) o C h z)
 
-  module _ (z : ¬ (x ≡ 0)) where
-    pub width-more : Cutting low D (whole_block low D) o → Cutting low D (whole_block low D) (o + x)
+  module _ (f : ℕ) (W : (whole_block low D o ≡ true) × (f ≡ (rep_of low (D.ref 0 o)).deg) × (0 < f)) where
+    pub width-more : Cutting low D (whole_block low D) o → Cutting low D (whole_block low D) (o + f)
     width-more C =
-        let (whole, is) = W.some z in
-        let some : 0 < (rep_of low (D.ref 0 o)).deg = omega (arith, is) in
-        subst (λ w. Cutting low D (whole_block low D) (o + w)) (sym is) (cutting-more low D (whole_block low D) o C h some whole)
+        let (whole, is, some) = W in
+        subst (λ w. Cutting low D (whole_block low D) (o + w)) (sym is)
+        (cutting-more low D (whole_block low D) o C h (omega (arith, is)) whole)
 
-    pub width-inside : o + x ≤ D.deg
-    width-inside = let (whole, is) = W.some z in omega (arith, is, block_room low D o whole)
+    pub width-inside : o + f ≤ D.deg
+    width-inside = let (whole, is, some) = W in omega (arith, is, block_room low D o whole)

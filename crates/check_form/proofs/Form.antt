@@ -1,10 +1,9 @@
 -- A representation, a level, all levels, and with the heads of the lines the whole of 21.
 --
 --   body-matrices, body-blocks, body-refs, body-targets      a representation, test after test
---   ReadUpTo                    a representation of a level that is come to
---   reading-first, reading-next, reading-follows, reading-fits      representation after representation
---   reading-fails, reading-last      how that ends
---   over-next, over-there, over-some      level after level
+--   ReadUpTo                    the first representations of a level pass
+--   reading-fits, reading-next, reading-fails, reading-all      representation after representation
+--   over-next                   level after level
 --   form-heads, form-whole, form-levels      the heads, then the levels
 --   ordered                    the orders of a presentation's levels
 --   formed                     where the answer is yes, the table is formed
@@ -25,7 +24,7 @@ use Rattle.definitions.specs.Table.{rep_at, level_at, complete}
 use Rattle.definitions.specs.Judgement.{everywhere, matrices_valid, blocks_whole, targets_listed, malformed}
 use Rattle.numbers.proofs.Bools.{and_left, and_right}
 use Rattle.numbers.proofs.Lists.{all_below-intro}
-use Rattle.numbers.proofs.Tested.{Tested, tested-none, tested-more, tested-all, tested-fails}
+use Rattle.numbers.proofs.Tested.{Tested, tested-more, tested-all, tested-fails}
 use Rattle.conditions.specs.Size.{LevelOrders}
 use Rattle.conditions.proofs.Conditions.{orders_are}
 use Rattle.clifford.specs.Passing.{OfEach}
@@ -33,11 +32,11 @@ use Rattle.heads.specs.Walk.{heads_ok}
 use Rattle.heads.specs.Form.{body_ok}
 use Rattle.heads.proofs.Form.{formed-body, form-decides}
 use Rattle.heads.proofs.Going.{heads-complete}
-use Rattle.heads.proofs.Order.{complete-some}
 use Rattle.level.specs.declared.Listed.{Listed}
 use Rattle.level.specs.Stored.{generator_in}
 use Rattle.seek.specs.declared.Scope.{Scope}
-use Rattle.seek.specs.Seek.{Whole, Found, Follows}
+use Rattle.seek.specs.Seek.{Whole, Found}
+use Rattle.seek.proofs.Seek.{found-above}
 use Rattle.seek.specs.Formed.{Formed, Ordered}
 use Rattle.seek.proofs.Halves.{lines-there}
 use Rattle.check_heads.specs.Places.{orders_in, Scoped}
@@ -96,48 +95,34 @@ module _ (s : Scope) (T : List ℕ) (i : ℕ) where
   abbrev test : ℕ → Bool
   test r = body s.gens s.m T i (rep_of (level_at s.gens T (suc i)) r)
 
-  pub record ReadUpTo (r : ℕ) (D : Listed) : Type 0 where
-    pub here : Found s.gens T (suc i) r D
-    pub passed : Tested (λ r. body s.gens s.m T i (rep_of (level_at s.gens T (suc i)) r)) r
+  -- the first r representations pass
+  abbrev pub ReadUpTo : ℕ → Type 0
+  ReadUpTo r = Tested (λ r. body s.gens s.m T i (rep_of (level_at s.gens T (suc i)) r)) r
 
-  pub reading-first : (D : Listed) → Found s.gens T (i + 1) 0 D → ReadUpTo 0 D
-  reading-first D F = record { here = subst (λ k. Found s.gens T k 0 D) (add-one i) F; passed = tested-none }
+  module _ {r : ℕ} {D : Listed} (F : Found s.gens T (i + 1) r D) where
+    here : Found s.gens T (suc i) r D
+    here = found-above F
 
-  module _ {r : ℕ} {D : Listed} (R : ReadUpTo r D) where
     pub reading-fits : Spans s T D
-    reading-fits = record { room = lines-there T _ R.here.inside; positive = R.here.positive }
-
-    pub reading-follows : suc r < length (level_at s.gens T (suc i)) → Follows s.gens T D
-    reading-follows h = record { i = suc i; r = r; here = R.here; more = h }
+    reading-fits = record { room = lines-there T _ here.inside; positive = here.positive }
 
     test-is : test r ≡ body s.gens s.m T i (listed_rep T D)
-    test-is = ap (body s.gens s.m T i) (R.here.rep ∙ rep_is T D)
+    test-is = ap (body s.gens s.m T i) (here.rep ∙ rep_is T D)
 
-    pub reading-fails : body s.gens s.m T i (listed_rep T D) ≡ false → false ≡ level_ok s.gens s.m T i
-    reading-fails h = tested-fails R.passed R.here.listed (test-is ∙ h)
+    pub reading-fails : ReadUpTo r → body s.gens s.m T i (listed_rep T D) ≡ false → false ≡ level_ok s.gens s.m T i
+    reading-fails R h = tested-fails R here.listed (test-is ∙ h)
 
-    pub reading-next : {E : Listed} → body s.gens s.m T i (listed_rep T D) ≡ true → Found s.gens T (suc i) (suc r) E → ReadUpTo (r + 1) E
-    reading-next {E} h F =
-        record { here = subst (λ k. Found s.gens T (suc i) k E) (sym (add-one r)) F; passed = tested-more R.passed (test-is ∙ h) }
+    pub reading-next : ReadUpTo r → body s.gens s.m T i (listed_rep T D) ≡ true → ReadUpTo (r + 1)
+    reading-next R h = tested-more R (test-is ∙ h)
 
-    pub reading-last : suc r ≡ length (level_at s.gens T (suc i)) → body s.gens s.m T i (listed_rep T D) ≡ level_ok s.gens s.m T i
-    unfolding all_below
-    reading-last e =
-        let all : true ≡ all_below r test = tested-all R.passed {n = r} (omega arith) in
-        sym test-is ∙ ap (λ t. t && test r) all ∙ ap (λ k. all_below k test) e
+  pub reading-all : ReadUpTo (length (level_at s.gens T (i + 1))) → true ≡ level_ok s.gens s.m T i
+  reading-all R = tested-all R (omega (arith, ap (λ k. length (level_at s.gens T k)) (add-one i)))
 
 -- ---- Level after level
 
 module _ (s : Scope) (T : List ℕ) (W : Whole s T) where
   pub over-next : (i many : ℕ) → i < s.gens → many ≡ length (level_at s.gens T (i + 1)) → LevelOver s T (suc i) many
   over-next i many l e = record { whole = W; level = l; counts = e ∙ ap (λ k. length (level_at s.gens T k)) (add-one i) }
-
-  pub over-there : (i many : ℕ) → LevelOver s T (suc i) many → 0 < length (level_at s.gens T (i + 1))
-  over-there i many O =
-      subst (λ k. 0 < length (level_at s.gens T k)) (sym (add-one i)) (complete-some s.gens W.some T W.all i O.level)
-
-  pub over-some : (i many : ℕ) → LevelOver s T (suc i) many → 0 < many
-  over-some i many O = subst (λ z. 0 < z) (sym O.counts) (complete-some s.gens W.some T W.all i O.level)
 
 -- ---- The whole of 21
 

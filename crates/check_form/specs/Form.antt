@@ -2,7 +2,7 @@
 --
 --   listed_rep T D             the representation whose lines are those of D
 --   blocks_ok low D            its blocks are whole, over the level below
---   Width low D o x           x is the length of the block from column o, and 0 where it is none
+--   Width low D o x           x is the length of the block from column o, if it is one
 --   body n m T i D            matrices, blocks and targets of a representation of the level above level i
 --   level_ok n m T i           those of every representation of that level
 --   LevelOver s T i count          a complete table, a level of it, and how many representations that has
@@ -10,7 +10,7 @@
 --   LevelsBehind s T k        the first k levels pass these tests
 --   FormBehind s orders T k   and so do the heads of all lines, where k is not 0
 --   TellsForm s orders T r    r says whether 21 does not apply, for every such presentation
-use Rattle.std.specs.Prelude.{◌≡◌, Bool, true, false, ◌&&◌, ◌||◌, not, List, ℕ, suc, ◌*◌, ◌≤◌, ◌<◌, eqb, ltb, length}
+use Rattle.std.specs.Prelude.{◌≡◌, Bool, true, false, ◌&&◌, ◌||◌, not, List, ℕ, suc, ◌*◌, ◌≤◌, ◌<◌, eqb, ltb, length, Option, MatchOption}
 use Rattle.definitions.specs.Lists.{all_below, all}
 use Rattle.definitions.specs.Presentation.{Presentation}
 use Rattle.definitions.specs.Monomial.{valid, Rep, Level, rep_of}
@@ -31,9 +31,8 @@ listed_rep T D = record { deg = D.deg; matrix = generator_in T D; ref = ref_in T
 abbrev pub blocks_ok : Level → Rep → Bool
 blocks_ok low D = all (whole_block low D) (cuts low D)
 
-pub record Width (low : Level) (D : Rep) (o x : ℕ) : Type 0 where
-  pub none : x ≡ 0 → whole_block low D o ≡ false
-  pub some : ¬ (x ≡ 0) → (whole_block low D o ≡ true) × (x ≡ (rep_of low (D.ref 0 o)).deg)
+abbrev pub Width : Level → Rep → ℕ → Option ℕ → Type 0
+Width low D o x = MatchOption x (whole_block low D o ≡ false) (λ f. (whole_block low D o ≡ true) × (f ≡ (rep_of low (D.ref 0 o)).deg) × (0 < f))
 
 module _ (n m : ℕ) (T : List ℕ) (i : ℕ) where
   unfoldable pub body : Rep → Bool

@@ -17,10 +17,10 @@ ghost use Rattle.check_form.specs.Form.{listed_rep, blocks_ok, Width, body, leve
 
 use conditions::size::Orders;
 use level::Listed;
-use seek::Scope;
+use seek::{Reps, Scope};
 
-// How long the block from column o is, over a level i of `low` representations, looked for near a line, and 0 where it is none.
-fn block(words: &[u32], s: Scope, i: u32, low: usize, near: usize, d: Listed, o: u32) -> u32
+// How long the block from column o is, if it is one, over a level i of `low` representations, looked for near a line.
+fn block(words: &[u32], s: Scope, i: u32, low: usize, near: usize, d: Listed, o: u32) -> Option<u32>
     requires { LevelOver s words.now i low × (8 * (line_in d 0 + d.deg) ≤ length words.now) × (o < d.deg) }
     ensures { Width (level_at s.gens words.now i) (listed_rep words.now d) o result }
 {
@@ -28,16 +28,16 @@ fn block(words: &[u32], s: Scope, i: u32, low: usize, near: usize, d: Listed, o:
     let x = level::word_at(words, at, level::REF);
     let r = level::up(x);
     if low <= r {
-        return 0;
+        return None;
     }
     let f = seek::degree_of(words, s, i, r, near);
     if d.deg - o < f {
-        return 0;
+        return None;
     }
     if !check_lines::refs_are(words, at, f, x) {
-        return 0;
+        return None;
     }
-    f
+    Some(f)
 }
 
 // The blocks of a representation are whole, from column 0 on.
@@ -47,10 +47,9 @@ fn blocks_ok(words: &[u32], s: Scope, i: u32, low: usize, near: usize, d: Listed
 {
     let mut o: u32 = 0;
     while o < d.deg {
-        let f = block(words, s, i, low, near, d, o);
-        if f == 0 {
+        let Some(f) = block(words, s, i, low, near, d, o) else {
             return false;
-        }
+        };
         o += f;
     }
     true
@@ -79,18 +78,13 @@ fn level_ok(words: &[u32], s: Scope, i: u32, low: usize, many: usize) -> bool
     requires { LevelOver s words.now i low × LevelOver s words.now (suc i) many }
     ensures { result ≡ level_ok s.gens s.m words.now i }
 {
-    let last = many - 1;
     let near = seek::start_of(words, s, i);
-    let mut d = seek::found(words, s, i + 1, 0);
-    let mut r: usize = 0;
-    while r < last {
+    for d in Reps::of(words, s, i + 1) {
         if !rep_ok(words, s, i, low, many, near, d) {
             return false;
         }
-        d = seek::following(words, s, d);
-        r += 1;
     }
-    rep_ok(words, s, i, low, many, near, d)
+    true
 }
 
 // Those of every level, where those of the first `from` levels pass.
@@ -99,14 +93,12 @@ fn levels_ok(words: &[u32], s: Scope, from: u32) -> bool
     ensures { result ≡ all_below s.gens (level_ok s.gens s.m words.now) }
 {
     let mut low = seek::count_of(words, s, from);
-    let mut i = from;
-    while i < s.gens {
+    for i in from..s.gens {
         let many = seek::count_of(words, s, i + 1);
         if !level_ok(words, s, i, low, many) {
             return false;
         }
         low = many;
-        i += 1;
     }
     true
 }

@@ -56,14 +56,12 @@ fn column_heads(words: &[u32], p: Place, first: usize, d: u32, c: u32, n: u32) -
     requires { (p.rep < 4294967296) × ColumnRoom words.now first d n }
     ensures { result ≡ column_heads words.now p first d c n }
 {
-    let place = check_lines::wide(p.level) + p.rep * check_lines::HIGH;
-    let deg = check_lines::wide(d);
-    let end = deg + check_lines::wide(n) * check_lines::HIGH;
-    let mut kind = deg;
+    let place = level::up(p.level) + p.rep * check_lines::HIGH;
+    let deg = level::up(d);
+    let end = deg + level::up(n) * check_lines::HIGH;
     let mut at = first;
-    while kind < end {
-        kind += check_lines::HIGH;
-        if !head_is(words, at, place, kind, c) {
+    for kind in (deg..end).step_by(check_lines::HIGH) {
+        if !head_is(words, at, place, kind + check_lines::HIGH, c) {
             return false;
         }
         at += deg;
@@ -76,15 +74,13 @@ fn rep_heads(words: &[u32], p: Place, d: Listed, n: u32) -> bool
     requires { (8 * line_in d n ≤ length words.now) × (0 < n) × (0 < d.deg) }
     ensures { result ≡ all_below n (λ (g : ℕ). matrix_heads words.now d.line p.level p.rep d.deg g) }
 {
-    if check_lines::wide(level::word_at(words, d.line, level::REP)) != p.rep {
+    if level::up(level::word_at(words, d.line, level::REP)) != p.rep {
         return false;
     }
-    let mut at = d.line;
     for c in 0..d.deg {
-        if !column_heads(words, p, at, d.deg, c, n) {
+        if !column_heads(words, p, d.line + level::up(c), d.deg, c, n) {
             return false;
         }
-        at += 1;
     }
     true
 }

@@ -4,6 +4,7 @@
 --   Running, running_none, running_more, running-stops, running-all     those of one degree
 --   run-left, left-ran               the squares of their degrees, taken from the order at once
 --   not_noted                        nothing is written
+use Rattle.std.specs.Prelude.{Some, None}
 use mathlib.Core.Path.{◌≡◌, refl, sym, ◌∙◌, ap, subst}
 use mathlib.Core.Logic.{by_cases}
 use mathlib.Core.List.{List}
@@ -32,8 +33,8 @@ module _ {s : Scope} {T : List ℕ} {i at : ℕ} {F₀ : List ℕ} where
   pub noted-none : Noted s T i at F₀ F₀ 0
   noted-none = record { size = refl; kept = λ q l. refl; line = λ r l. absurd (omega arith) }
 
-  pub not_noted : {o : ℕ} → FirstLines s T i o at F₀ F₀ 0
-  not_noted = record { size = refl; kept = λ q l. refl; lined = λ n. absurd (n refl); squares = λ n. absurd (n refl) }
+  pub not_noted : {o : ℕ} → FirstLines s T i o at F₀ F₀ None
+  not_noted = record { size = refl; kept = λ q l. refl; some = tt }
 
   module _ {F₁ : List ℕ} {k : ℕ} (N : Noted s T i at F₀ F₁ k) where
     pub noted_more : (x : ℕ) → at + k < length F₁ → x ≡ first_line s.gens T i k → Noted s T i at F₀ (set F₁ (at + k) x) (k + 1)
@@ -49,17 +50,16 @@ module _ {s : Scope} {T : List ℕ} {i at : ℕ} {F₀ : List ℕ} where
         go r h (no z) = get_or-set_other F₁ (at + k) (at + r) x 0 (λ q. omega (arith, z, q)) ∙ N.line r (omega arith)
 
     pub noted-all : {many : ℕ} → many ≡ length (level_at s.gens T i) → at + many ≤ length F₀ → many ≤ k → {o : ℕ} → squares_in s.gens T i ≡ o
-        → FirstLines s T i o at F₀ F₁ many
+        → FirstLines s T i o at F₀ F₁ (Some many)
     noted-all e room l q = record {
       size = N.size;
       kept = N.kept;
-      lined = λ n. record { counts = e; room = omega (arith, N.size); line = λ r h. N.line r (omega arith) };
-      squares = λ n. q;
+      some = (record { counts = e; room = omega (arith, N.size); line = λ r h. N.line r (omega arith) }, q);
     }
 
     -- the squares do not add up
-    pub noted-stops : {o : ℕ} → FirstLines s T i o at F₀ F₁ 0
-    noted-stops = record { size = N.size; kept = N.kept; lined = λ n. absurd (n refl); squares = λ n. absurd (n refl) }
+    pub noted-stops : {o : ℕ} → FirstLines s T i o at F₀ F₁ None
+    noted-stops = record { size = N.size; kept = N.kept; some = tt }
 
 -- ---- Representations of one degree
 
@@ -142,8 +142,10 @@ module _ {s : Scope} {T : List ℕ} {i : ℕ} {D : Listed} {size at r reps : ℕ
         go (yes l) = l
         go (no l) = absurd (n (ap (λ x. word_at T x DEG) (R.first (omega (arith, l, R.from))) ∙ A.found.said))
 
-    pub running-all : ¬ (q < reps) → Ran s T i D at r F G (record { next = q; line = line })
-    running-all n = ran (omega (arith, n, A.found.listed, A.counts))
+    pub running-all : ¬ (q < reps) → Ran s T i D at r F G (record { next = reps; line = line })
+    running-all n =
+        let e : q ≡ reps = omega (arith, n, R.within) in
+        subst (λ q. Ran s T i D at r F G (record { next = q; line = line })) e (ran (omega (arith, n, A.found.listed, A.counts)))
 
 -- the squares of the degrees of a run
 left-run : (n : ℕ) (T : List ℕ) (i o k d : ℕ) {left r : ℕ} → Left n T i o left r → ((j : ℕ) → r ≤ j → j < r + k → (rep_of (level_at n T i) j).deg ≡ d)

@@ -4,9 +4,9 @@
 --   RunAsked s T i D size at r reps  D is representation r of the `reps` of level i, and a list of this size has room for all of them
 --   Ran s T i D at r F G e           the first lines from representation r on are written as well, up to that which e names; all
 --                                   of these have the degree of D
---   FirstLines s T i o at F₀ F₁ r    where r is not 0, F₁ has the first lines of level i from place `at` on, and the squares of its
---                                   degrees add up to o; what stands before is kept
-use Rattle.std.specs.Prelude.{◌≡◌, List, ℕ, ◌+◌, ◌≤◌, ◌<◌, length, get_or}
+--   FirstLines s T i o at F₀ F₁ r    where r is a number, F₁ has so many first lines of level i from place `at` on, and the squares of
+--                                   its degrees add up to o; what stands before is kept
+use Rattle.std.specs.Prelude.{◌≡◌, List, ℕ, ◌+◌, ◌≤◌, ◌<◌, length, get_or, Option, IfSome}
 use Rattle.definitions.specs.Monomial.{rep_of}
 use Rattle.definitions.specs.Table.{first_line, level_at}
 use Rattle.level.specs.declared.Listed.{Listed}
@@ -37,8 +37,7 @@ pub record Ran (s : Scope) (T : List ℕ) (i : ℕ) (D : Listed) (at r : ℕ) (F
   pub degrees : (k : ℕ) → r ≤ k → k < e.next → (rep_of (level_at s.gens T i) k).deg ≡ D.deg
   pub behind : e.next < length (level_at s.gens T i) → Found s.gens T i e.next (listed_in T e.line)
 
-pub record FirstLines (s : Scope) (T : List ℕ) (i o at : ℕ) (F₀ F₁ : List ℕ) (r : ℕ) : Type 0 where
+pub record FirstLines (s : Scope) (T : List ℕ) (i o at : ℕ) (F₀ F₁ : List ℕ) (r : Option ℕ) : Type 0 where
   pub size : length F₁ ≡ length F₀
   pub kept : (q : ℕ) → q < at → get_or F₁ q 0 ≡ get_or F₀ q 0
-  pub lined : ¬ (r ≡ 0) → Lined s.gens T i F₁ at r
-  pub squares : ¬ (r ≡ 0) → squares_in s.gens T i ≡ o
+  pub some : IfSome r (λ k. Lined s.gens T i F₁ at k × (squares_in s.gens T i ≡ o))

@@ -3,7 +3,7 @@
 // but not complete: `true` implies the condition, `false` implies nothing. `checker::judge` is exact.
 //
 //   RunEnd, run_lines, first_lines          the first lines of a level, in a list
-//   level_compares, small_compares, compares     all representations of the level
+//   level_compares                       all representations of the level
 //   level_relates                        their intertwiners
 //   level_fits                           the level
 #![tactic(auto)]
@@ -15,6 +15,7 @@ ghost use Rattle.compare.specs.Staged.{max_lines, Staged};
 ghost use Rattle.check_level.specs.Lines.{FirstLines, RunAsked, Ran};
 ghost use Rattle.check_level.specs.Level.{Compares, Relates, LevelFits};
 
+use claims::Mark;
 use commuting::Reaches;
 use compare::Stage;
 use level::Listed;
@@ -45,19 +46,17 @@ fn run_lines(
 {
     let step = level::matrix_line(d, s.gens) - d.line;
     let mut line = d.line;
-    let mut q = r;
-    while q < reps {
+    for q in r..reps {
         if level::word_at(words, line, level::DEG) != d.deg {
             return RunEnd { next: q, line };
         }
         firsts[at + q] = line as u32;
         line += step;
-        q += 1;
     }
-    RunEnd { next: q, line }
+    RunEnd { next: reps, line }
 }
 
-// Writes the first lines of the representations of level i into a list, from place `at` on, and returns how many there are; 0 where
+// Writes the first lines of the representations of level i into a list, from place `at` on, and returns how many there are, unless
 // the list has no room for them, or the squares of their degrees do not add up to the order of the level.
 pub fn first_lines(
     words: &[u32],
@@ -66,13 +65,13 @@ pub fn first_lines(
     order: u32,
     firsts: &mut [u32],
     at: usize,
-) -> usize
+) -> Option<usize>
     requires { Whole s words.now × (s.lines ≤ max_lines) × (0 < i) × (i ≤ s.gens) × (at ≤ length firsts.old) }
     ensures { FirstLines s words.now i order at firsts.old firsts.new result }
 {
     let reps = seek::count_of(words, s, i);
     if firsts.len() - at < reps {
-        return 0;
+        return None;
     }
     let mut d = seek::found(words, s, i, 0);
     let mut left = level::up(order);
@@ -82,30 +81,30 @@ pub fn first_lines(
         let q = check_blocks::square(d.deg);
         let k = e.next - r;
         if left / q < k {
-            return 0;
+            return None;
         }
         left -= k * q;
         r = e.next;
         if r == reps {
             if left == 0 {
-                return reps;
+                return Some(reps);
             }
-            return 0;
+            return None;
         }
         d = level::representation(words, e.line);
     }
 }
 
 // Every representation of the level is compared with those below, and asked the power relation of the generator on top; no two claim
-// the same of the level below, by marks.
+// the same of the level below, by marks that are lent.
 fn level_compares(
     words: &[u32],
     firsts: &[u32],
     rows: &Rows,
     s: Scope,
     g: Stage,
-    marks: &mut [u8],
-    slots: &mut [u8],
+    marks: &mut [Mark],
+    slots: &mut [bool],
 ) -> bool
     requires { Staged s words.now firsts.now g }
     ensures { result ≡ true → Compares s words.now rows.now g }
@@ -117,6 +116,8 @@ fn level_compares(
     if part == 0 {
         return false;
     }
+    marks.fill(Mark::Free);
+    slots.fill(false);
     let above = g.above;
     for r in 0..above {
         let d = compare::rep_at(words, firsts, g.high + r);
@@ -128,37 +129,6 @@ fn level_compares(
         }
     }
     true
-}
-
-// Compares the level with marks for orders up to 64.
-fn small_compares(words: &[u32], firsts: &[u32], rows: &Rows, s: Scope, g: Stage) -> bool
-    requires { Staged s words.now firsts.now g }
-    ensures { result ≡ true → Compares s words.now rows.now g }
-{
-    let mut marks = [0u8; 64];
-    let mut slots = [0u8; 64];
-    level_compares(words, firsts, rows, s, g, &mut marks, &mut slots)
-}
-
-// Compares the level with marks that are lent, unless the order is small.
-fn compares(
-    words: &[u32],
-    firsts: &[u32],
-    rows: &Rows,
-    s: Scope,
-    g: Stage,
-    marks: &mut [u8],
-    slots: &mut [u8],
-) -> bool
-    requires { Staged s words.now firsts.now g }
-    ensures { result ≡ true → Compares s words.now rows.now g }
-{
-    if s.m <= 64 {
-        return small_compares(words, firsts, rows, s, g);
-    }
-    claims::clear(marks);
-    claims::clear(slots);
-    level_compares(words, firsts, rows, s, g, marks, slots)
 }
 
 // The intertwiners of every representation of a level that is compared carry the generator on top over, in single columns.
@@ -196,13 +166,13 @@ pub fn level_fits(
     reach: &Reaches,
     s: Scope,
     g: Stage,
-    marks: &mut [u8],
-    slots: &mut [u8],
+    marks: &mut [Mark],
+    slots: &mut [bool],
 ) -> bool
     requires { Staged s words.now firsts.now g × Quiet s.gens rows.now reach.now }
     ensures { result ≡ true → LevelFits s words.now rows.now g.top g.p }
 {
-    if !compares(words, firsts, rows, s, g, marks, slots) {
+    if !level_compares(words, firsts, rows, s, g, marks, slots) {
         return false;
     }
     level_relates(words, firsts, rows, reach, s, g)

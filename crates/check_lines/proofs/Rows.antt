@@ -4,11 +4,11 @@
 --   seen_none, seen_more     at the start, and one line more
 --   seen_all, seen_twice     all rows are there, or one is not
 --   single-matrix         a matrix of degree 1, by its entry
-use mathlib.Core.Path.{◌≡◌, sym, ◌∙◌, ap, subst}
+use mathlib.Core.Path.{◌≡◌, refl, sym, ◌∙◌, ap, subst}
 use mathlib.Core.Logic.{by_cases}
-use mathlib.Core.Bool.{true, false}
+use mathlib.Core.Bool.{Bool, true, false, false≢true}
 use mathlib.Core.List.{List}
-use Prim.Native.Nat.{ℕ, ◌+◌, ◌≤◌, ◌<◌}
+use Prim.Native.Nat.{ℕ, zero, suc, ◌+◌, ◌≤◌, ◌<◌}
 use native.Mathlib.Decide.{dec_lt, ℕ_discrete}
 use native.Mathlib.Omega.{arith}
 use lib.Dec.{eqb}
@@ -20,51 +20,57 @@ use Rattle.definitions.specs.Lists.{all_below}
 use Rattle.definitions.specs.Presentation.{max_degree}
 use Rattle.definitions.specs.Monomial.{valid}
 use Rattle.numbers.proofs.Bools.{same_test, refuted}
-use Rattle.numbers.proofs.Lists.{blank, all_below-intro, all_below-elim}
+use Rattle.numbers.proofs.Lists.{all_below-intro, all_below-elim}
 use Rattle.numbers.proofs.Searches.{any_below-intro, any_below-elim}
 use Rattle.numbers.proofs.Pigeonhole.{Injects, injects-onto, onto-injects}
 use Rattle.level.specs.Stored.{entry_in, matrix_in}
 use Rattle.check_lines.specs.Lines.{entry_ok, RowsBelow, has_row}
 use Rattle.check_lines.proofs.Lines.{entries_below, matrix-entries, matrix-rows}
 
+-- no row is marked at the start
+unmarked : (n k : ℕ) → get_or (replicate n false) k false ≡ false
+unmarked zero k = refl
+unmarked (suc n) zero = refl
+unmarked (suc n) (suc k) = unmarked n k
+
 module _ (T : List ℕ) (at : ℕ) where
   abbrev row : ℕ → ℕ
   row c = (entry_in T (at + c)).row
 
-  pub record SeenRows (M : List ℕ) (c : ℕ) : Type 0 where
+  pub record SeenRows (M : List Bool) (c : ℕ) : Type 0 where
     pub size : length M ≡ max_degree
-    pub seen : (k : ℕ) → k < c → ¬ (get_or M (entry_in T (at + k)).row 0 ≡ 0)
-    pub only : (r : ℕ) → ¬ (get_or M r 0 ≡ 0) → (k : ℕ) × (k < c) × ((entry_in T (at + k)).row ≡ r)
+    pub seen : (k : ℕ) → k < c → get_or M (entry_in T (at + k)).row false ≡ true
+    pub only : (r : ℕ) → get_or M r false ≡ true → (k : ℕ) × (k < c) × ((entry_in T (at + k)).row ≡ r)
     pub differ : (j k : ℕ) → j < c → k < c → (entry_in T (at + j)).row ≡ (entry_in T (at + k)).row → j ≡ k
 
-  pub seen_none : SeenRows (replicate max_degree 0) 0
+  pub seen_none : SeenRows (replicate max_degree false) 0
   seen_none = record {
-    size = length-replicate {A = ℕ} max_degree 0;
+    size = length-replicate {A = Bool} max_degree false;
     seen = λ k l. absurd (omega arith);
-    only = λ r n. absurd (n (blank max_degree r));
+    only = λ r n. absurd (false≢true (sym (unmarked max_degree r) ∙ n));
     differ = λ j k l. absurd (omega arith);
   }
 
-  module _ {M : List ℕ} {c : ℕ} (S : SeenRows M c) where
-    module _ (r : ℕ) (is : r ≡ (entry_in T (at + c)).row) (inside : r < max_degree) (free : get_or M r 0 ≡ 0) where
+  module _ {M : List Bool} {c : ℕ} (S : SeenRows M c) where
+    module _ (r : ℕ) (is : r ≡ (entry_in T (at + c)).row) (inside : r < max_degree) (free : get_or M r false ≡ false) where
       room : r < length M
       room = subst (λ n. r < n) (sym S.size) inside
 
-      marked : (k : ℕ) → ¬ (get_or M k 0 ≡ 0) → ¬ (get_or (set M r 1) k 0 ≡ 0)
-      marked k n z = by_cases (ℕ_discrete k r)
-          (λ e. n (subst (λ k. get_or M k 0 ≡ 0) (sym e) free))
-          (λ e. n (sym (get_or-set_other M r k 1 0 e) ∙ z))
+      marked : (k : ℕ) → get_or M k false ≡ true → get_or (set M r true) k false ≡ true
+      marked k n = by_cases (ℕ_discrete k r)
+          (λ e. absurd (false≢true (sym free ∙ subst (λ k. get_or M k false ≡ true) e n)))
+          (λ e. get_or-set_other M r k true false e ∙ n)
 
-      last : ¬ (get_or (set M r 1) (row c) 0 ≡ 0)
-      last z = omega (arith, get_or-set_same M r 1 0 room, subst (λ k. get_or (set M r 1) k 0 ≡ 0) (sym is) z)
+      last : get_or (set M r true) (row c) false ≡ true
+      last = subst (λ k. get_or (set M r true) k false ≡ true) is (get_or-set_same M r true false room)
 
       others : (k : ℕ) → k < c → ¬ (row k ≡ row c)
-      others k l e = S.seen k l (subst (λ x. get_or M x 0 ≡ 0) (is ∙ sym e) free)
+      others k l e = false≢true (sym free ∙ subst (λ x. get_or M x false ≡ true) (e ∙ sym is) (S.seen k l))
 
-      which : (x : ℕ) → ¬ (get_or (set M r 1) x 0 ≡ 0) → (k : ℕ) × (k < c + 1) × (row k ≡ x)
+      which : (x : ℕ) → get_or (set M r true) x false ≡ true → (k : ℕ) × (k < c + 1) × (row k ≡ x)
       which x n = by_cases (ℕ_discrete x r)
           (λ e. (c, omega arith, sym is ∙ sym e))
-          (λ e. let (k, l, q) = S.only x (λ z. n (get_or-set_other M r x 1 0 e ∙ z)) in (k, omega arith, q))
+          (λ e. let (k, l, q) = S.only x (sym (get_or-set_other M r x true false e) ∙ n) in (k, omega arith, q))
 
       apart : (j k : ℕ) → j < c + 1 → k < c + 1 → row j ≡ row k → j ≡ k
       apart j k a b e = go (dec_lt j c) (dec_lt k c)
@@ -75,10 +81,10 @@ module _ (T : List ℕ) (at : ℕ) where
           go (no p) (yes q) = let z : j ≡ c = omega arith in absurd (others k q (sym e ∙ ap row z))
           go (no p) (no q) = omega arith
 
-      pub seen_more : SeenRows (set M r 1) (c + 1)
+      pub seen_more : SeenRows (set M r true) (c + 1)
       seen_more = record {
-        size = length-set M r 1 ∙ S.size;
-        seen = below_more (λ k. ¬ (get_or (set M r 1) (row k) 0 ≡ 0)) c (λ k l. marked (row k) (S.seen k l)) last;
+        size = length-set M r true ∙ S.size;
+        seen = below_more (λ k. get_or (set M r true) (row k) false ≡ true) c (λ k l. marked (row k) (S.seen k l)) last;
         only = which;
         differ = apart;
       }
@@ -89,7 +95,7 @@ module _ (T : List ℕ) (at : ℕ) where
         let (k, a, e) = injects-onto d row injects r l in
         any_below-intro d (λ c. eqb (row c) r) k a (eq-eqb _ _ e)))
 
-    pub seen_twice : (d : ℕ) → c < d → (r : ℕ) → r ≡ (entry_in T (at + c)).row → ¬ (get_or M r 0 ≡ 0) → false ≡ all_below d (has_row T at d)
+    pub seen_twice : (d : ℕ) → c < d → (r : ℕ) → r ≡ (entry_in T (at + c)).row → get_or M r false ≡ true → false ≡ all_below d (has_row T at d)
     seen_twice d l r is n = refuted _ (λ h.
         let (k, a, e) = S.only r n in
         let z : k ≡ c = onto-injects d row (hit h) k c (omega arith) l (e ∙ is) in

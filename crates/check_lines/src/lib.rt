@@ -2,7 +2,7 @@
 // generators of its level have the same references, and each intertwiner has one reference, to a listed representation.
 //
 //   HIGH                     what a second word is multiplied by
-//   wide, two_at             two words of a line as one number
+//   two_at                   two words of a line as one number
 //   entry_ok, entries_ok     rows and exponents in range
 //   has_row, rows_found      every row is there
 //   matrix_marked, matrix_ok, matrices_ok     matrices
@@ -24,19 +24,13 @@ use rows::DEGREES;
 // One more than the largest word.
 pub const HIGH: usize = 4294967296;
 
-pub fn wide(x: u32) -> usize
-    ensures { (result ≡ x) × (result < 4294967296) }
-{
-    x as usize
-}
-
 // Two words of a line as one number, so that they are compared at once.
 pub fn two_at(words: &[u32], at: usize, k: usize) -> usize
     requires { (8 * at + 8 ≤ length words.now) × (k < 7) }
     ensures { TwoWords words.now at k result }
 {
-    let a = wide(level::word_at(words, at, k));
-    let b = wide(level::word_at(words, at, k + 1));
+    let a = level::up(level::word_at(words, at, k));
+    let b = level::up(level::word_at(words, at, k + 1));
     a + b * HIGH
 }
 
@@ -57,12 +51,10 @@ fn entries_ok(words: &[u32], at: usize, d: u32, m: u32) -> bool
     requires { 8 * (at + d) ≤ length words.now }
     ensures { result ≡ all_below d (λ (c : ℕ). entry_ok m d (entry_in words.now (at + c))) }
 {
-    let mut c: u32 = 0;
-    while c < d {
+    for c in 0..d {
         if !entry_ok(words, at + level::up(c), d, m) {
             return false;
         }
-        c += 1;
     }
     true
 }
@@ -72,12 +64,10 @@ fn has_row(words: &[u32], at: usize, d: u32, r: u32) -> bool
     requires { 8 * (at + d) ≤ length words.now }
     ensures { result ≡ has_row words.now at d r }
 {
-    let mut c: u32 = 0;
-    while c < d {
+    for c in 0..d {
         if level::word_at(words, at + level::up(c), level::ROW) == r {
             return true;
         }
-        c += 1;
     }
     false
 }
@@ -87,12 +77,10 @@ fn rows_found(words: &[u32], at: usize, d: u32) -> bool
     requires { 8 * (at + d) ≤ length words.now }
     ensures { result ≡ all_below d (has_row words.now at d) }
 {
-    let mut r: u32 = 0;
-    while r < d {
+    for r in 0..d {
         if !has_row(words, at, d, r) {
             return false;
         }
-        r += 1;
     }
     true
 }
@@ -103,16 +91,16 @@ fn matrix_marked(words: &[u32], at: usize, d: u32, m: u32) -> bool
     ensures { result ≡ valid m d (matrix_in words.now at d) }
 {
     let deg = level::up(d);
-    let mut seen = [0u8; DEGREES];
+    let mut seen = [false; DEGREES];
     for c in 0..deg {
         if !entry_ok(words, at + c, d, m) {
             return false;
         }
         let r = level::up(level::word_at(words, at + c, level::ROW));
-        if seen[r] != 0 {
+        if seen[r] {
             return false;
         }
-        seen[r] = 1;
+        seen[r] = true;
     }
     true
 }
@@ -139,12 +127,10 @@ pub fn matrices_ok(words: &[u32], d: Listed, n: u32, m: u32) -> bool
     requires { 8 * line_in d n ≤ length words.now }
     ensures { result ≡ all_below n (λ (g : ℕ). valid m d.deg (generator_in words.now d g)) }
 {
-    let mut g: u32 = 0;
-    while g < n {
+    for g in 0..n {
         if !matrix_ok(words, level::matrix_line(d, g), d.deg, m) {
             return false;
         }
-        g += 1;
     }
     true
 }
@@ -154,12 +140,10 @@ pub fn refs_are(words: &[u32], at: usize, k: u32, x: u32) -> bool
     requires { 8 * (at + k) ≤ length words.now }
     ensures { result ≡ refs_are words.now at k x }
 {
-    let mut c: u32 = 0;
-    while c < k {
+    for c in 0..k {
         if level::word_at(words, at + level::up(c), level::REF) != x {
             return false;
         }
-        c += 1;
     }
     true
 }
@@ -171,15 +155,13 @@ fn refs_as(words: &[u32], d: Listed, g: u32) -> bool
 {
     let at = level::matrix_line(d, g);
     let first = level::matrix_line(d, 0);
-    let mut c: u32 = 0;
-    while c < d.deg {
+    for c in 0..d.deg {
         let k = level::up(c);
         if level::word_at(words, at + k, level::REF)
             != level::word_at(words, first + k, level::REF)
         {
             return false;
         }
-        c += 1;
     }
     true
 }
@@ -189,12 +171,10 @@ pub fn refs_equal(words: &[u32], d: Listed, n: u32) -> bool
     requires { 8 * line_in d n ≤ length words.now }
     ensures { result ≡ all_below n (refs_as words.now d) }
 {
-    let mut g: u32 = 0;
-    while g < n {
+    for g in 0..n {
         if !refs_as(words, d, g) {
             return false;
         }
-        g += 1;
     }
     true
 }
@@ -217,12 +197,10 @@ pub fn targets_ok(words: &[u32], d: Listed, i: u32, n: u32, many: usize) -> bool
     requires { (8 * line_in d n ≤ length words.now) × (0 < d.deg) }
     ensures { result ≡ all_below n (λ (j : ℕ). ltb j i || target_ok words.now d many j) }
 {
-    let mut j = i;
-    while j < n {
+    for j in i..n {
         if !target_ok(words, d, j, many) {
             return false;
         }
-        j += 1;
     }
     true
 }

@@ -5,13 +5,11 @@
 --   one-is-block      one block, told by the first reference
 --   apart-told        what the test of two of them says
 --   placed-positive, placed-whole      what is known of one, over its lines
---   one-behind        another stands behind one that stands before one
 --   Passing, passing-told      the representations before one are apart from it, and one more test
 use mathlib.Core.Path.{◌≡◌, sym, ◌∙◌, ap, ap₂, subst}
 use mathlib.Core.Bool.{Bool, true}
 use mathlib.Core.List.{List}
 use Prim.Native.Nat.{ℕ, zero, suc, ◌+◌, ◌≤◌, ◌<◌}
-use native.Mathlib.Numerals.{add-one}
 use native.Mathlib.Omega.{arith}
 use lib.Dec.{eqb}
 use lib.ListN.{length}
@@ -86,9 +84,6 @@ module _ {s : Scope} {T : List ℕ} {i r : ℕ} {D : Listed} (L : PlacedAt s T i
 -- ---- All before one
 
 module _ (s : Scope) (T : List ℕ) (i last : ℕ) where
-  pub one-behind : {one : Bool} {E : Listed} → Later s T i last one E → (r : ℕ) → r < last → suc r < length (level_at s.gens T (i + 1))
-  one-behind L r l = subst (λ k. suc r < length (level_at s.gens T k)) (sym (add-one i)) (omega (arith, L.placed.found.listed))
-
   abbrev pub Passing : ℕ → Type 0
   Passing r = Passed (λ P. Formed P s T) (λ P r. apart P T i r last) r
 

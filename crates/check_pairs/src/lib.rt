@@ -24,7 +24,7 @@ ghost use Rattle.check_pairs.specs.Pairs.{EarlierApart, StandsApart, AllOwn, Lev
 
 use level::Listed;
 use rows::Row;
-use seek::Scope;
+use seek::{Reps, Scope};
 
 // No column of e has the reference x.
 fn free_of(words: &[u32], e: Listed, x: u32) -> bool
@@ -88,12 +88,10 @@ fn earlier_apart(words: &[u32], s: Scope, i: u32, one: bool, e: Listed, last: us
     requires { Later s words.now i last one e }
     ensures { EarlierApart s words.now i last result }
 {
-    let mut d = seek::found(words, s, i + 1, 0);
-    for r in 0..last {
+    for d in Reps::of(words, s, i + 1).take(last) {
         if !apart(words, i, one, d, e) {
             return false;
         }
-        d = seek::following(words, s, d);
     }
     true
 }
@@ -207,19 +205,12 @@ fn all_own(words: &[u32], s: Scope, i: u32, p: u32) -> bool
     ensures { AllOwn s words.now i p result }
 {
     let near = seek::start_of(words, s, i);
-    let reps = seek::count_of(words, s, i + 1);
-    let mut d = seek::found(words, s, i + 1, 0);
-    let mut r: usize = 0;
-    loop {
+    for d in Reps::of(words, s, i + 1) {
         if !own(words, s, i, p, near, d) {
             return false;
         }
-        r += 1;
-        if r == reps {
-            return true;
-        }
-        d = seek::following(words, s, d);
     }
+    true
 }
 
 // The representations of the level above level i are apart, pair by pair; representation r, which is suspected, comes first.
@@ -240,12 +231,10 @@ fn level_separated(words: &[u32], s: Scope, i: u32, p: u32) -> bool
     requires { ((P : Presentation) × Formed P s words.now) × (i < s.gens) }
     ensures { LevelSeparated s words.now i p result }
 {
-    let reps = seek::count_of(words, s, i + 1);
-    let k = claims::first_clash(words, s, i, p);
-    if k == reps {
-        return all_own(words, s, i, p);
+    match claims::first_clash(words, s, i, p) {
+        None => all_own(words, s, i, p),
+        Some(r) => suspect_apart(words, s, i, p, r),
     }
-    suspect_apart(words, s, i, p, k)
 }
 
 // Whether the representations of every level are apart, where those of the first `from` levels are: refusal 25 where 21 to 23 do not

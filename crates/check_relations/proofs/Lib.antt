@@ -1,3 +1,2 @@
 -- Laws of conditions on all representations of a table.
-pub mod Asked
 pub mod Everywhere

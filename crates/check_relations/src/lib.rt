@@ -1,87 +1,50 @@
 // Refusals 22 and 24: whether the relations hold on every level, and whether the intertwiners intertwine.
 //
-//   Condition, holds, holds_on, holds_everywhere     a condition on a representation, on those of a level, on all
+//   holds_on, holds_everywhere     a test of the representations of a level, and of all
 //   top_relations_hold, relations_hold, intertwiners_hold     the conditions on a table
 #![tactic(auto)]
 
-ghost use Rattle.std.specs.Prelude.{◌≤◌, ◌<◌};
+ghost use Rattle.std.specs.Prelude.{List, ℕ, ◌≤◌, ◌<◌};
 ghost use Rattle.definitions.specs.Presentation.{Presentation};
 ghost use Rattle.definitions.specs.Judgement.{relations_hold, intertwiners_hold};
 ghost use Rattle.separation.specs.Relations.{top_relations};
-ghost use Rattle.seek.specs.Formed.{Posed};
+ghost use Rattle.seek.specs.Formed.{Formed, Posed};
+ghost use Rattle.level.specs.declared.Listed.{Listed};
 ghost use Rattle.seek.specs.Among.{Among};
-ghost use Rattle.check_relations.specs.Asked.{asked, OfRep, OnLevel, Everywhere};
+ghost use Rattle.check_relations.specs.Asked.{OfRep, OnLevels, OnTable, Everywhere};
 
 use level::Listed;
 use rows::{Row, Rows};
-use seek::Scope;
+use seek::{Reps, Scope};
 
-// What is asked of each representation.
-#[derive(Clone, Copy)]
-enum Condition {
-    // The relations of the generator on top of its level.
-    Top,
-    // All relations of its level.
-    Every,
-    // Its intertwiners.
-    Intertwine,
-}
-
-// The condition holds of d, of level i.
-fn holds(
-    words: &[u32],
-    rows: &Rows,
-    primes: &Row,
-    s: Scope,
-    q: Condition,
-    i: u32,
-    d: Listed,
-) -> bool
-    requires { Among s words.now i d }
-    ensures { OfRep (asked q) s rows.now primes.now words.now i d result }
+// The test passes every representation of level i.
+fn holds_on<F: Fn(u32, Listed) -> bool>(words: &[u32], s: Scope, i: u32, test: &F) -> bool
+    requires there { ((P : Presentation) × Formed P s words.now) × (0 < i) × (i ≤ s.gens) }
+    requires asks { (k : ℕ) (D : Listed) → Among s words.now k D → F.pre test.now k D }
+    ensures { OnLevels (F.post test.now) s words.now i result }
 {
-    match q {
-        Condition::Top => relations::top_relations(words, rows, primes, s, d, i - 1),
-        Condition::Every => relations::all_relations(words, rows, primes, s, d, i),
-        Condition::Intertwine => relations::all_intertwiners(words, rows, s, i, d),
-    }
-}
-
-// It holds of every representation of level i.
-fn holds_on(words: &[u32], rows: &Rows, primes: &Row, s: Scope, q: Condition, i: u32) -> bool
-    requires { ((P : Presentation) × Posed P s rows.now primes.now words.now) × (0 < i) × (i ≤ s.gens) }
-    ensures { OnLevel (asked q) s rows.now primes.now words.now i result }
-{
-    let reps = seek::count_of(words, s, i);
-    let mut d = seek::found(words, s, i, 0);
-    let mut r: usize = 0;
-    loop {
-        if !holds(words, rows, primes, s, q, i, d) {
+    for d in Reps::of(words, s, i) {
+        if !test(i, d) {
             return false;
         }
-        r += 1;
-        if r == reps {
-            return true;
-        }
-        d = seek::following(words, s, d);
     }
+    true
 }
 
-// It holds of every representation of every level, where it does on the first `from` levels.
-fn holds_everywhere(
+// It passes every representation of every level, where it does on the first `from` levels.
+fn holds_everywhere<F: Fn(u32, Listed) -> bool>(
     words: &[u32],
-    rows: &Rows,
-    primes: &Row,
     s: Scope,
-    q: Condition,
     from: u32,
+    test: &F,
 ) -> bool
-    requires { (P : Presentation) × Posed P s rows.now primes.now words.now }
-    ensures { Everywhere (asked q) s rows.now primes.now words.now from result }
+    requires there { (P : Presentation) × Formed P s words.now }
+    requires asks { (k : ℕ) (D : Listed) → Among s words.now k D → F.pre test.now k D }
+    ensures { OnTable (F.post test.now) s words.now from result }
 {
     let gens = s.gens;
     for i in from..gens {
-        if !holds_on(words, rows, primes, s, q, i + 1) {
+        if !holds_on(words, s, i + 1, test) {
             return false;
         }
     }
@@ -94,7 +57,15 @@ pub fn top_relations_hold(words: &[u32], rows: &Rows, primes: &Row, s: Scope, fr
     requires { (P : Presentation) × Posed P s rows.now primes.now words.now }
     ensures { Everywhere top_relations s rows.now primes.now words.now from result }
 {
-    holds_everywhere(words, rows, primes, s, Condition::Top, from)
+    holds_everywhere(
+        words,
+        s,
+        from,
+        &|i: u32, d: Listed| -> bool
+            requires { Among s words.now i d }
+            ensures { OfRep top_relations s rows.entry.now primes.entry.now words.entry.now i d result }
+        { relations::top_relations(words, rows, primes, s, d, i - 1) },
+    )
 }
 
 // Whether all relations hold on every level, where they do on the first `from` levels: refusal 22.
@@ -102,7 +73,15 @@ pub fn relations_hold(words: &[u32], rows: &Rows, primes: &Row, s: Scope, from: 
     requires { (P : Presentation) × Posed P s rows.now primes.now words.now }
     ensures { Everywhere relations_hold s rows.now primes.now words.now from result }
 {
-    holds_everywhere(words, rows, primes, s, Condition::Every, from)
+    holds_everywhere(
+        words,
+        s,
+        from,
+        &|i: u32, d: Listed| -> bool
+            requires { Among s words.now i d }
+            ensures { OfRep relations_hold s rows.entry.now primes.entry.now words.entry.now i d result }
+        { relations::all_relations(words, rows, primes, s, d, i) },
+    )
 }
 
 // Whether every intertwiner intertwines, where those of the first `from` levels do: refusal 24.
@@ -110,5 +89,13 @@ pub fn intertwiners_hold(words: &[u32], rows: &Rows, primes: &Row, s: Scope, fro
     requires { (P : Presentation) × Posed P s rows.now primes.now words.now }
     ensures { Everywhere intertwiners_hold s rows.now primes.now words.now from result }
 {
-    holds_everywhere(words, rows, primes, s, Condition::Intertwine, from)
+    holds_everywhere(
+        words,
+        s,
+        from,
+        &|i: u32, d: Listed| -> bool
+            requires { Among s words.now i d }
+            ensures { (primes : List ℕ) → OfRep intertwiners_hold s rows.entry.now primes words.entry.now i d result }
+        { relations::all_intertwiners(words, rows, s, i, d) },
+    )
 }

@@ -6,11 +6,10 @@
 --   kind_of                     the mark of what a representation refers to
 --   Claims i p part L r M S    the first r representations of L are apart, and what they claim is marked
 --   claims-none, claims-found, claims-all     at the start, one representation more, and at the end
---   clash-first, clash-at, clash-none         where the loop ends
 use mathlib.Core.Path.{◌≡◌, refl, sym, ◌∙◌, ap, ap₂, subst}
 use mathlib.Core.Bool.{Bool, true, false, cond, false≢true}
 use mathlib.Core.List.{List}
-use Prim.Native.Nat.{ℕ, suc, ◌+◌, ◌*◌, ◌/◌, ◌≤◌, ◌<◌}
+use Prim.Native.Nat.{ℕ, ◌+◌, ◌*◌, ◌/◌, ◌≤◌, ◌<◌}
 use native.Mathlib.Decide.{dec_lt}
 use native.Mathlib.Omega.{arith}
 use lib.Dec.{eqb}
@@ -21,12 +20,13 @@ use Rattle.definitions.specs.Monomial.{Rep, Level, rep_of}
 use Rattle.definitions.specs.Table.{REF, word_at, rep_at, level_at}
 use Rattle.numbers.proofs.Lists.{all_below-elim}
 use Rattle.level.specs.declared.Listed.{Listed}
-use Rattle.seek.specs.declared.Scope.{Scope}
-use Rattle.seek.specs.Seek.{Whole, Found}
+use Rattle.seek.specs.Seek.{Found}
 use Rattle.seek.specs.Among.{rep_in}
 use Rattle.seek.proofs.Columns.{ref-at}
-use Rattle.seek.proofs.Seek.{whole-some}
-use Rattle.claims.specs.Claims.{OneReference, top_exponent, Apart, Unshared, FirstClash, one_reference, slot_of, TookAll, Shares, Claimed}
+use Rattle.claims.specs.declared.Mark.{Mark}
+use Rattle.claims.specs.declared.Mark.TheVariants.{Free, Shared, Taken}
+use Rattle.claims.proofs.Marks.{taken-busy, shared-busy}
+use Rattle.claims.specs.Claims.{OneReference, top_exponent, Apart, Unshared, one_reference, slot_of, TookAll, Shares, Claimed}
 
 -- the test of a column, by the words that are read
 abbrev pub same_reference : Rep → ℕ → Bool
@@ -48,40 +48,40 @@ module _ (T : List ℕ) (line deg c x y : ℕ) (h : x ≡ word_at T (line + c) R
 pub one-reference : (D : Rep) → one_reference D ≡ true → OneReference D
 one-reference D h c l = eqb-true _ _ (all_below-elim D.deg _ h c l)
 
-abbrev pub kind_of : Rep → ℕ
-kind_of D = cond (one_reference D) 1 2
+abbrev pub kind_of : Rep → Mark
+kind_of D = cond (one_reference D) Shared Taken
 
-abbrev pub AllMarked : Rep → List ℕ → Type 0
-AllMarked D M = (c : ℕ) → c < D.deg → get_or M (D.ref 0 c) 0 ≡ kind_of D
+abbrev pub AllMarked : Rep → List Mark → Type 0
+AllMarked D M = (c : ℕ) → c < D.deg → get_or M (D.ref 0 c) Free ≡ kind_of D
 
-pub record Claims (i p part : ℕ) (L : Level) (r : ℕ) (M S : List ℕ) : Type 0 where
+pub record Claims (i p part : ℕ) (L : Level) (r : ℕ) (M : List Mark) (S : List Bool) : Type 0 where
   pub marked : (q : ℕ) → q < r → AllMarked (rep_of L q) M
-  pub slotted : (q : ℕ) → q < r → one_reference (rep_of L q) ≡ true → get_or S (slot_of i p part (rep_of L q)) 0 ≡ 1
+  pub slotted : (q : ℕ) → q < r → one_reference (rep_of L q) ≡ true → get_or S (slot_of i p part (rep_of L q)) false ≡ true
   pub apart : (q q' : ℕ) → q < r → q' < r → ¬ (q ≡ q') → Apart i (rep_of L q) (rep_of L q')
 
-pub claims-none : (i p part : ℕ) (L : Level) (M S : List ℕ) → Claims i p part L 0 M S
+pub claims-none : (i p part : ℕ) (L : Level) (M : List Mark) (S : List Bool) → Claims i p part L 0 M S
 claims-none i p part L M S =
     record { marked = λ q l. absurd (omega arith); slotted = λ q l. absurd (omega arith); apart = λ q q' l. absurd (omega arith) }
 
-pub claims-all : {i p part : ℕ} {L : Level} {r : ℕ} {M S : List ℕ} → Claims i p part L r M S → length L ≤ r → Unshared i L
+pub claims-all : {i p part : ℕ} {L : Level} {r : ℕ} {M : List Mark} {S : List Bool} → Claims i p part L r M S → length L ≤ r → Unshared i L
 claims-all H l = record { apart = λ q q' a b. H.apart q q' (omega arith) (omega arith) }
 
-kind-one : (D : Rep) → one_reference D ≡ true → kind_of D ≡ 1
-kind-one D h = ap (λ b. cond b 1 2) h
+kind-one : (D : Rep) → one_reference D ≡ true → kind_of D ≡ Shared
+kind-one D h = ap (λ b. cond b Shared Taken) h
 
-kind-many : (D : Rep) → one_reference D ≡ false → kind_of D ≡ 2
-kind-many D h = ap (λ b. cond b 1 2) h
+kind-many : (D : Rep) → one_reference D ≡ false → kind_of D ≡ Taken
+kind-many D h = ap (λ b. cond b Shared Taken) h
 
 apart_other : (i : ℕ) (D E : Rep) → Apart i D E → Apart i E D
 apart_other i D E A c c' l l' e = let (a, b, n) = A c' c l' l (sym e) in (b, a, λ z. n (sym z))
 
 -- ---- One representation
 
-module _ (i p part : ℕ) (D : Rep) (M N S : List ℕ) (b : Bool) (is : b ≡ one_reference D) where
+module _ (i p part : ℕ) (D : Rep) (M N : List Mark) (S : List Bool) (b : Bool) (is : b ≡ one_reference D) where
   pub claimed-many : b ≡ false → TookAll D M N → Claimed i p part D M N S S
   claimed-many h t = record { one = λ z. absurd (false≢true (sym h ∙ is ∙ z)); many = λ _. (t, refl) }
 
-  pub claimed-one : b ≡ true → (U : List ℕ) (f x : ℕ) → f ≡ D.ref 0 0 → x ≡ slot_of i p part D → Shares f x M N S U → Claimed i p part D M N S U
+  pub claimed-one : b ≡ true → (U : List Bool) (f x : ℕ) → f ≡ D.ref 0 0 → x ≡ slot_of i p part D → Shares f x M N S U → Claimed i p part D M N S U
   claimed-one h U f x e e' t = record {
     one = λ _. subst (λ f. Shares f (slot_of i p part D) M N S U) e (subst (λ x. Shares f x M N S U) e' t);
     many = λ z. absurd (false≢true (sym z ∙ sym is ∙ h));
@@ -89,58 +89,58 @@ module _ (i p part : ℕ) (D : Rep) (M N S : List ℕ) (b : Bool) (is : b ≡ on
 
 -- ---- One representation more
 
-module _ {i p part : ℕ} {D : Rep} {M N S U : List ℕ} (C : Claimed i p part D M N S U) where
+module _ {i p part : ℕ} {D : Rep} {M N : List Mark} {S U : List Bool} (C : Claimed i p part D M N S U) where
   -- what E claimed before stays marked
   stays-marked : (E : Rep) → AllMarked E M → AllMarked E N
   stays-marked E H c l = go (one_reference D) refl
     where
-      here : get_or M (E.ref 0 c) 0 ≡ kind_of E
+      here : get_or M (E.ref 0 c) Free ≡ kind_of E
       here = H c l
 
-      busy : (b : Bool) → one_reference E ≡ b → ¬ (get_or M (E.ref 0 c) 0 ≡ 0)
-      busy true h z = omega (arith, here, kind-one E h, z)
-      busy false h z = omega (arith, here, kind-many E h, z)
+      busy : (b : Bool) → one_reference E ≡ b → ¬ (get_or M (E.ref 0 c) Free ≡ Free)
+      busy true h z = shared-busy (sym (kind-one E h) ∙ sym here ∙ z)
+      busy false h z = taken-busy (sym (kind-many E h) ∙ sym here ∙ z)
 
-      go : (b : Bool) → one_reference D ≡ b → get_or N (E.ref 0 c) 0 ≡ kind_of E
+      go : (b : Bool) → one_reference D ≡ b → get_or N (E.ref 0 c) Free ≡ kind_of E
       go true h = (C.one h).kept (E.ref 0 c) (busy (one_reference E) refl) ∙ here
       go false h = (C.many h).0.kept (E.ref 0 c) (busy (one_reference E) refl) ∙ here
 
-  stays-slotted : (x : ℕ) → get_or S x 0 ≡ 1 → get_or U x 0 ≡ 1
+  stays-slotted : (x : ℕ) → get_or S x false ≡ true → get_or U x false ≡ true
   stays-slotted x e = go (one_reference D) refl
     where
-      go : (b : Bool) → one_reference D ≡ b → get_or U x 0 ≡ 1
-      go true h = (C.one h).slots_kept x (λ z. omega (arith, e, z)) ∙ e
-      go false h = ap (λ (L : List ℕ). get_or L x 0) (C.many h).1 ∙ e
+      go : (b : Bool) → one_reference D ≡ b → get_or U x false ≡ true
+      go true h = (C.one h).slots_kept x e
+      go false h = ap (λ (L : List Bool). get_or L x false) (C.many h).1 ∙ e
 
   -- what D claims is marked
   is-marked : AllMarked D N
   is-marked c l = go (one_reference D) refl
     where
-      go : (b : Bool) → one_reference D ≡ b → get_or N (D.ref 0 c) 0 ≡ kind_of D
-      go true h = ap (λ f. get_or N f 0) (one-reference D h c l) ∙ (C.one h).marked ∙ sym (kind-one D h)
+      go : (b : Bool) → one_reference D ≡ b → get_or N (D.ref 0 c) Free ≡ kind_of D
+      go true h = ap (λ f. get_or N f Free) (one-reference D h c l) ∙ (C.one h).marked ∙ sym (kind-one D h)
       go false h = (C.many h).0.marked c l ∙ sym (kind-many D h)
 
   -- and was not claimed by E
-  comes-apart : (E : Rep) → AllMarked E M → (one_reference E ≡ true → get_or S (slot_of i p part E) 0 ≡ 1) → Apart i E D
+  comes-apart : (E : Rep) → AllMarked E M → (one_reference E ≡ true → get_or S (slot_of i p part E) false ≡ true) → Apart i E D
   comes-apart E H slot c c' l l' e = go (one_reference D) refl (one_reference E) refl
     where
-      met : get_or M (D.ref 0 c') 0 ≡ kind_of E
-      met = ap (λ f. get_or M f 0) (sym e) ∙ H c l
+      met : get_or M (D.ref 0 c') Free ≡ kind_of E
+      met = ap (λ f. get_or M f Free) (sym e) ∙ H c l
 
       go : (b : Bool) → one_reference D ≡ b → (b' : Bool) → one_reference E ≡ b' → OneReference E × OneReference D × ¬ (top_exponent i E ≡ top_exponent i D)
       go true h true h' =
           let first : E.ref 0 0 ≡ D.ref 0 0 = sym (one-reference E h' c l) ∙ e ∙ one-reference D h c' l' in
           let same : top_exponent i E ≡ top_exponent i D → slot_of i p part E ≡ slot_of i p part D = λ x. ap₂ (λ f t. f * p + t / part) first x in
           let free = (C.one h).slot_free in
-          (one-reference E h', one-reference D h, λ x. let z = ap (λ s. get_or S s 0) (same x) in omega (arith, slot h', free, z))
+          (one-reference E h', one-reference D h, λ x. let z = ap (λ s. get_or S s false) (same x) in false≢true (sym free ∙ sym z ∙ slot h'))
       go true h false h' =
-          let z = ap (λ f. get_or M f 0) (one-reference D h c' l') in
-          absurd (omega (arith, met, kind-many E h', (C.one h).whole_free, z))
-      go false h true h' = absurd (omega (arith, met, kind-one E h', (C.many h).0.free c' l'))
-      go false h false h' = absurd (omega (arith, met, kind-many E h', (C.many h).0.free c' l'))
+          let z = ap (λ f. get_or M f Free) (one-reference D h c' l') in
+          absurd ((C.one h).whole_free (sym z ∙ met ∙ kind-many E h'))
+      go false h true h' = absurd (shared-busy (sym (kind-one E h') ∙ sym met ∙ (C.many h).0.free c' l'))
+      go false h false h' = absurd (taken-busy (sym (kind-many E h') ∙ sym met ∙ (C.many h).0.free c' l'))
 
-module _ {i p part : ℕ} {L : Level} {r : ℕ} {M N S U : List ℕ} (H : Claims i p part L r M S) (C : Claimed i p part (rep_of L r) M N S U) where
-  new-slot : one_reference (rep_of L r) ≡ true → get_or U (slot_of i p part (rep_of L r)) 0 ≡ 1
+module _ {i p part : ℕ} {L : Level} {r : ℕ} {M N : List Mark} {S U : List Bool} (H : Claims i p part L r M S) (C : Claimed i p part (rep_of L r) M N S U) where
+  new-slot : one_reference (rep_of L r) ≡ true → get_or U (slot_of i p part (rep_of L r)) false ≡ true
   new-slot h = (C.one h).slot_marked
 
   earlier : (q : ℕ) → q < r → Apart i (rep_of L q) (rep_of L r)
@@ -158,23 +158,11 @@ module _ {i p part : ℕ} {L : Level} {r : ℕ} {M N S U : List ℕ} (H : Claims
   claims-more : Claims i p part L (r + 1) N U
   claims-more = record {
     marked = below_more (λ q. AllMarked (rep_of L q) N) r (λ q l. stays-marked C (rep_of L q) (H.marked q l)) (is-marked C);
-    slotted = below_more (λ q. one_reference (rep_of L q) ≡ true → get_or U (slot_of i p part (rep_of L q)) 0 ≡ 1) r
+    slotted = below_more (λ q. one_reference (rep_of L q) ≡ true → get_or U (slot_of i p part (rep_of L q)) false ≡ true) r
         (λ q l h. stays-slotted C (slot_of i p part (rep_of L q)) (H.slotted q l h)) new-slot;
     apart = all_apart;
   }
 
-pub claims-found : {n : ℕ} {T : List ℕ} {k r : ℕ} {D : Listed} → Found n T k r D → {i p part : ℕ} {M N S U : List ℕ}
+pub claims-found : {n : ℕ} {T : List ℕ} {k r : ℕ} {D : Listed} → Found n T k r D → {i p part : ℕ} {M N : List Mark} {S U : List Bool}
     → Claims i p part (level_at n T k) r M S → Claimed i p part (rep_in T D) M N S U → Claims i p part (level_at n T k) (r + 1) N U
 claims-found F {i} {p} {part} {M} {N} {S} {U} H C = claims-more H (subst (λ (D : Rep). Claimed i p part D M N S U) (sym F.rep) C)
-
--- ---- Where the loop ends
-
-pub clash-at : {i k : ℕ} {L : Level} → k < length L → FirstClash i L k
-clash-at l = record { within = omega arith; none = λ e. absurd (omega (arith, l, e)) }
-
-pub clash-none : {i k : ℕ} {L : Level} → k ≡ length L → Unshared i L → FirstClash i L k
-clash-none e U = record { within = omega (arith, e); none = λ q. U }
-
--- the first representation, where no marks are made
-pub clash-first : (s : Scope) (T : List ℕ) → Whole s T → {i : ℕ} → i < s.gens → FirstClash i (level_at s.gens T (suc i)) 0
-clash-first s T W {i} l = clash-at (whole-some s T W (suc i) (omega arith) l)

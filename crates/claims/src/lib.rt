@@ -2,8 +2,7 @@
 // representation claims a slot of it, told by its exponent of the generator on top, and any other claims what it refers to
 // whole. One pass over the level, with a mark for each representation of the level below and one for each slot.
 //
-//   FREE, SHARED, TAKEN             the marks
-//   clear                           no marks
+//   Mark                            what is claimed of a representation below
 //   one_reference                   whether all columns have one reference
 //   take, take_all                  what is claimed whole
 //   slot, share                     a slot
@@ -14,27 +13,18 @@ ghost use Rattle.std.specs.Prelude.{◌≡◌, true, suc, ◌+◌, ◌*◌, ◌/
 ghost use Rattle.definitions.specs.Table.{level_at};
 ghost use Rattle.seek.specs.Seek.{Whole, HasLines};
 ghost use Rattle.seek.specs.Among.{rep_in};
-ghost use Rattle.claims.specs.Claims.{Unmarked, one_reference, Took, TookAll, Shares, ClaimedIn, FirstClash};
+ghost use Rattle.claims.specs.Claims.{one_reference, Took, TookAll, Shares, ClaimedIn, FirstClash};
 
 use level::Listed;
 use rows::ORDER;
-use seek::Scope;
+use seek::{Reps, Scope};
 
-// The marks of a representation of the level below, and of a slot: claimed by none, by slots, or whole.
-const FREE: u8 = 0;
-
-const SHARED: u8 = 1;
-
-const TAKEN: u8 = 2;
-
-// Takes all marks away.
-pub fn clear(marks: &mut [u8])
-    ensures { Unmarked marks.new × (length marks.new ≡ length marks.old) }
-{
-    let many = marks.len();
-    for k in 0..many {
-        marks[k] = FREE;
-    }
+// What is claimed of a representation of the level below: nothing, slots, or all of it.
+#[derive(Clone, Copy, PartialEq, Eq)]
+pub enum Mark {
+    Free,
+    Shared,
+    Taken,
 }
 
 // All columns of generator 0 have the reference of column 0.
@@ -54,7 +44,7 @@ fn one_reference(words: &[u32], d: Listed) -> bool
 }
 
 // Claims f whole, where nobody has claimed it, or where it is the one claimed last.
-fn take(marks: &mut [u8], f: usize, last: usize) -> bool
+fn take(marks: &mut [Mark], f: usize, last: usize) -> bool
     ensures { result ≡ true → Took f last marks.old marks.new }
 {
     if marks.len() <= f {
@@ -63,15 +53,15 @@ fn take(marks: &mut [u8], f: usize, last: usize) -> bool
     if f == last {
         return true;
     }
-    if marks[f] != FREE {
+    if marks[f] != Mark::Free {
         return false;
     }
-    marks[f] = TAKEN;
+    marks[f] = Mark::Taken;
     true
 }
 
 // Claims whole what the columns of d refer to.
-fn take_all(words: &[u32], d: Listed, marks: &mut [u8]) -> bool
+fn take_all(words: &[u32], d: Listed, marks: &mut [Mark]) -> bool
     requires { 8 * (d.line + d.deg) ≤ length words.now }
     ensures { result ≡ true → TookAll (rep_in words.now d) marks.old marks.new }
 {
@@ -89,7 +79,7 @@ fn take_all(words: &[u32], d: Listed, marks: &mut [u8]) -> bool
 }
 
 // Claims a slot of f, where nobody has claimed the slot, nor f whole.
-fn share(marks: &mut [u8], slots: &mut [u8], f: usize, slot: usize) -> bool
+fn share(marks: &mut [Mark], slots: &mut [bool], f: usize, slot: usize) -> bool
     ensures { result ≡ true → Shares f slot marks.old marks.new slots.old slots.new }
 {
     if marks.len() <= f {
@@ -98,14 +88,14 @@ fn share(marks: &mut [u8], slots: &mut [u8], f: usize, slot: usize) -> bool
     if slots.len() <= slot {
         return false;
     }
-    if SHARED < marks[f] {
+    if marks[f] == Mark::Taken {
         return false;
     }
-    if slots[slot] != FREE {
+    if slots[slot] {
         return false;
     }
-    marks[f] = SHARED;
-    slots[slot] = SHARED;
+    marks[f] = Mark::Shared;
+    slots[slot] = true;
     true
 }
 
@@ -125,8 +115,8 @@ pub fn claim(
     p: u32,
     part: u32,
     d: Listed,
-    marks: &mut [u8],
-    slots: &mut [u8],
+    marks: &mut [Mark],
+    slots: &mut [bool],
 ) -> bool
     requires { HasLines words.now i d × (0 < part) }
     ensures { result ≡ true → ClaimedIn words.now i p part d marks.old marks.new slots.old slots.new }
@@ -140,31 +130,24 @@ pub fn claim(
 }
 
 // The first representation of the level above level i that claims what one before it has claimed, or a slot that there is not, where
-// p is the prime of generator i; and how many there are, if there is none such.
-pub fn first_clash(words: &[u32], s: Scope, i: u32, p: u32) -> usize
+// p is the prime of generator i.
+pub fn first_clash(words: &[u32], s: Scope, i: u32, p: u32) -> Option<usize>
     requires { Whole s words.now × (i < s.gens) }
     ensures { FirstClash i (level_at s.gens words.now (suc i)) result }
 {
     if p == 0 {
-        return 0;
+        return Some(0);
     }
     let part = s.m / p;
     if part == 0 {
-        return 0;
+        return Some(0);
     }
-    let reps = seek::count_of(words, s, i + 1);
-    let mut d = seek::found(words, s, i + 1, 0);
-    let mut marks = [FREE; ORDER];
-    let mut slots = [FREE; ORDER];
-    let mut r: usize = 0;
-    loop {
+    let mut marks = [Mark::Free; ORDER];
+    let mut slots = [false; ORDER];
+    for (r, d) in Reps::of(words, s, i + 1).enumerate() {
         if !claim(words, i, p, part, d, &mut marks, &mut slots) {
-            return r;
+            return Some(r);
         }
-        r += 1;
-        if r == reps {
-            return reps;
-        }
-        d = seek::following(words, s, d);
     }
+    None
 }

@@ -2,10 +2,10 @@
 --
 --   kept-stored, kept-column          the lines of its first generators, and a column to start from
 --   kept-squares                      its matrices are square
---   entries-row, entries-exp          two entries, by rows and by exponents
+--   entries-row, entries-exp, entries-same     two entries, by rows and by exponents
 --   power-moved, conjugate-moved, commutator-moved, intertwiner-moved     the relations at a column, by what moves it
 --   power-everywhere, commutator-everywhere, intertwiner-everywhere       and at every column
-use mathlib.Core.Path.{◌≡◌, sym, ◌∙◌, ap, ap₂, subst}
+use mathlib.Core.Path.{◌≡◌, refl, sym, ◌∙◌, ap, ap₂, subst}
 use mathlib.Core.Logic.{◌≢◌}
 use mathlib.Core.Bool.{false, ◌&&◌}
 use mathlib.Core.List.{List}
@@ -40,6 +40,11 @@ entries-row x y h = sym (ap (λ b. b && eqb x.exp y.exp) (ne_eqb x.row y.row h))
 pub entries-exp : (x y : Entry) → x.row ≡ y.row → eqb x.exp y.exp ≡ same_at x y
 unfolding same_at
 entries-exp x y e = sym (ap (λ b. b && eqb x.exp y.exp) (eq-eqb x.row y.row e))
+
+-- both at once, as two entries with exponents below the modulus are compared
+pub entries-same : (x y : Entry) → (eqb x.row y.row && eqb x.exp y.exp) ≡ same_at x y
+unfolding same_at
+entries-same x y = refl
 
 -- ---- Lines that hold matrices
 

@@ -1,7 +1,6 @@
 // The relations and the intertwiners of one representation that stands in lines. Nothing is multiplied out: both sides of a
 // relation move each basis vector, column by column.
 //
-//   same_entry                                       two entries are equal
 //   conjugated                                       a column moved through a conjugate of a generator
 //   power_at, commutator_at, intertwines_at          a relation at a column
 //   power_holds, commutator_holds, carries_over      the same at every column
@@ -12,7 +11,6 @@
 #![tactic(auto)]
 
 ghost use Rattle.std.specs.Prelude.{◌≡◌, ◌≤◌, ◌<◌};
-ghost use Rattle.columns.specs.Columns.{same_at};
 ghost use Rattle.level.specs.Stored.{target_in};
 ghost use Rattle.seek.specs.Seek.{Found};
 ghost use Rattle.seek.specs.Among.{Among};
@@ -28,16 +26,6 @@ use seek::Scope;
 
 // ---- One column
 
-// Two entries with exponents below the modulus are equal.
-fn same_entry(x: Entry, y: Entry) -> bool
-    ensures { result ≡ same_at x y }
-{
-    if x.row != y.row {
-        return false;
-    }
-    x.exp == y.exp
-}
-
 // Generator j to the power p, its prime, moves column c as its power word u does.
 pub fn power_at(words: &[u32], s: Scope, d: Listed, j: u32, p: u32, u: &Row, c: u32) -> bool
     requires { MatricesStored s words.now d × (j < s.gens) × (c < d.deg) }
@@ -46,7 +34,7 @@ pub fn power_at(words: &[u32], s: Scope, d: Listed, j: u32, p: u32, u: &Row, c: 
     let x = Entry { row: c, exp: 0 };
     let y = level::moved_times(words, d, j, p, x, s.m);
     let z = level::walked(words, d, u, level::up(j), x, s.m);
-    same_entry(y, z)
+    y == z
 }
 
 // Where the conjugate of generator k by a generator above it moves column c; w is the word of the two.
@@ -70,10 +58,7 @@ fn commutator_at(words: &[u32], s: Scope, d: Listed, k: u32, j: u32, w: &Row, c:
     }
     let y = level::moved(words, d, j, Entry { row: c, exp: 0 }, s.m);
     let z = conjugated(words, s, d, k, w, c);
-    same_entry(
-        level::moved(words, d, k, y, s.m),
-        level::moved(words, d, j, z, s.m),
-    )
+    level::moved(words, d, k, y, s.m) == level::moved(words, d, j, z, s.m)
 }
 
 // The intertwiner of generator j, which leads from d to e of the same degree, and generator k < j, at column c; where the degree
@@ -98,10 +83,7 @@ pub fn intertwines_at(
     }
     let y = level::moved(words, d, j, Entry { row: c, exp: 0 }, s.m);
     let z = conjugated(words, s, d, k, w, c);
-    same_entry(
-        level::moved(words, d, j, z, s.m),
-        level::moved(words, e, k, y, s.m),
-    )
+    level::moved(words, d, j, z, s.m) == level::moved(words, e, k, y, s.m)
 }
 
 // ---- One relation

@@ -4,3 +4,4 @@ pub mod Seek
 pub mod Stored
 pub mod Among
 pub mod Columns
+pub mod Walk

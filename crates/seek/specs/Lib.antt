@@ -2,3 +2,5 @@
 pub mod Seek
 pub mod Formed
 pub mod Among
+pub mod Walk
+pub mod Going

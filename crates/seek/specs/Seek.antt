@@ -2,10 +2,8 @@
 --
 --   Whole s T            the lines of T are those of a complete table with so many generators
 --   Found n T i r D      D is representation r of level i
---   Follows n T D        and another stands behind it on its level
---   NextOf n T D E       E is the one behind D, on whatever level D is
 --   HasLines T i D       the lines of D for the generators up to i stand in the words
-use Rattle.std.specs.Prelude.{◌≡◌, true, List, ℕ, suc, ◌+◌, ◌*◌, ◌≤◌, ◌<◌, length}
+use Rattle.std.specs.Prelude.{◌≡◌, true, List, ℕ, ◌+◌, ◌*◌, ◌≤◌, ◌<◌, length}
 use Rattle.definitions.specs.Presentation.{max_generators}
 use Rattle.definitions.specs.Monomial.{rep_of}
 use Rattle.definitions.specs.Table.{DEG, word_at, line_count, rep_at, level_at, complete, first_line}
@@ -27,15 +25,6 @@ pub record Found (n : ℕ) (T : List ℕ) (i r : ℕ) (D : Listed) : Type 0 wher
   pub rep : rep_of (level_at n T i) r ≡ rep_at T D.line D.deg
   pub positive : 0 < D.deg
   pub inside : D.line + n * D.deg ≤ line_count T
-
-pub record Follows (n : ℕ) (T : List ℕ) (D : Listed) : Type 0 where
-  pub i : ℕ
-  pub r : ℕ
-  pub here : Found n T i r D
-  pub more : suc r < length (level_at n T i)
-
-abbrev pub NextOf : (n : ℕ) (T : List ℕ) (D E : Listed) → Type 0
-NextOf n T D E = (i r : ℕ) → Found n T i r D → suc r < length (level_at n T i) → Found n T i (suc r) E
 
 pub record HasLines (T : List ℕ) (i : ℕ) (D : Listed) : Type 0 where
   pub positive : 0 < D.deg

@@ -8,17 +8,19 @@
 //   ends_at, find_near, found_near   a representation whose line a guess may tell
 //   found            a representation by level and number
 //   start_of         the first line of a level
-//   following        the next of its level
+//   Reps             the representations of a level, one after the other
 //   degree_of        the degree of a representation, of level 0 too
 //   count_of         how many representations a level has, level 0 too
 #![tactic(auto)]
 
-ghost use Rattle.std.specs.Prelude.{◌≡◌, true, ◌+◌, ◌*◌, ◌-◌, ◌≤◌, ◌<◌, length};
+ghost use Rattle.std.specs.Prelude.{◌≡◌, true, ◌+◌, ◌*◌, ◌-◌, ◌≤◌, ◌<◌, length, IfSome};
 ghost use Rattle.definitions.specs.Presentation.{max_generators, max_order};
 ghost use Rattle.definitions.specs.Monomial.{rep_of};
 ghost use Rattle.definitions.specs.Table.{REP, word_at, line_count, level_at, first_line};
 ghost use Rattle.heads.specs.Order.{before, Split, Splits};
-ghost use Rattle.seek.specs.Seek.{Whole, Found, Follows, NextOf};
+ghost use Rattle.seek.specs.Seek.{Whole, Found};
+ghost use Rattle.seek.specs.Walk.{Walks};
+ghost use Rattle.std.specs.Iterator.{at_most};
 
 use level::Listed;
 use rows::ORDER;
@@ -67,45 +69,41 @@ fn find(words: &[u32], lines: usize, i: u32, r: usize) -> usize
     lo
 }
 
-// The lines of a representation of this degree, and 0 where it is above every order.
-fn stride(gens: u32, deg: u32) -> usize
+// The lines of a representation of this degree, unless it is above every order.
+fn stride(gens: u32, deg: u32) -> Option<usize>
     requires { gens ≤ max_generators }
-    ensures { result ≤ max_generators * max_order }
+    ensures { IfSome result (λ k. k ≤ max_generators * max_order) }
 {
     if level::up(deg) > ORDER {
-        return 0;
+        return None;
     }
-    level::up(gens) * level::up(deg)
+    Some(level::up(gens) * level::up(deg))
 }
 
-// From a line of representation q to that of representation r, so many lines for each between, and 0 where that leads too far.
-fn onward(near: usize, q: u32, r: usize, step: usize) -> usize
+// From a line of representation q to that of representation r, so many lines for each between, unless that leads too far.
+fn onward(near: usize, q: u32, r: usize, step: usize) -> Option<usize>
     requires { (8 * near < 18446744073709551616) × (step ≤ max_generators * max_order) }
 {
     let from = level::up(q);
     if from <= r {
         if r - from > FURTHEST {
-            return 0;
+            return None;
         }
-        return near + (r - from) * step;
+        return Some(near + (r - from) * step);
     }
-    let back = (from - r) * step;
-    if near < back {
-        return 0;
-    }
-    near - back
+    near.checked_sub((from - r) * step)
 }
 
 // Where representation r begins if all between it and that of line `near`, of the same level, have one degree.
-fn guess(words: &[u32], s: Scope, r: usize, near: usize) -> usize
+fn guess(words: &[u32], s: Scope, r: usize, near: usize) -> Option<usize>
     requires { Whole s words.now }
 {
     if s.lines <= near {
-        return 0;
+        return None;
     }
     let q = level::word_at(words, near, level::REP);
     let deg = level::word_at(words, near, level::DEG);
-    onward(near, q, r, stride(s.gens, deg))
+    onward(near, q, r, stride(s.gens, deg)?)
 }
 
 // Line x is the line behind all lines before representation r of level i.
@@ -131,8 +129,9 @@ fn find_near(words: &[u32], s: Scope, i: u32, r: usize, near: usize) -> usize
     requires { Whole s words.now × Splits words.now i r }
     ensures { Split words.now i r result }
 {
-    let x = guess(words, s, r, near);
-    if ends_at(words, s.lines, i, r, x) {
+    if let Some(x) = guess(words, s, r, near)
+        && ends_at(words, s.lines, i, r, x)
+    {
         return x;
     }
     find(words, s.lines, i, r)
@@ -164,14 +163,6 @@ pub fn start_of(words: &[u32], s: Scope, i: u32) -> usize
     }
     let d = found(words, s, i, 0);
     d.line
-}
-
-// The representation behind d on its level.
-pub fn following(words: &[u32], s: Scope, d: Listed) -> Listed
-    requires { Whole s words.now × Follows s.gens words.now d }
-    ensures { NextOf s.gens words.now d result }
-{
-    level::representation(words, level::matrix_line(d, s.gens))
 }
 
 // The degree of representation r of level i, looked for where `near` tells.
@@ -206,4 +197,56 @@ pub fn count_of(words: &[u32], s: Scope, i: u32) -> usize
         return reps_before(words, s.lines);
     }
     reps_before(words, find(words, s.lines, i + 1, 0))
+}
+
+// A walk over the representations of a level: how many there are, which is next, and its first line.
+#[derive(Drop)]
+pub struct Reps<'a> {
+    words: &'a [u32],
+    scope: Scope,
+    level: u32,
+    many: usize,
+    rep: usize,
+    line: usize,
+    ghost walks: { Walks scope words.now level many rep line },
+}
+
+impl<'a> Reps<'a> {
+    ghost use Rattle.seek.specs.Going.{Going};
+
+    // The representations of level i, one after the other.
+    pub fn of(words: &'a [u32], s: Scope, i: u32) -> Reps<'a>
+        requires { Whole s words.now × (0 < i) × (i ≤ s.gens) }
+        ensures { Going s words.now i 0 result }
+    {
+        let d = found(words, s, i, 0);
+        Reps {
+            words,
+            scope: s,
+            level: i,
+            many: count_of(words, s, i),
+            rep: 0,
+            line: d.line,
+        }
+    }
+}
+
+impl<'a> Iterator for Reps<'a> {
+    type Item = Listed;
+
+    ghost use Rattle.seek.specs.Going.{Gives};
+
+    ghost next_gives = { Gives };
+
+    ghost remaining = { λ a. at_most (a.many - a.rep) };
+
+    fn next(&mut self) -> Option<Listed> {
+        if self.rep == self.many {
+            return None;
+        }
+        let d = level::representation(self.words, self.line);
+        self.line = level::matrix_line(d, self.scope.gens);
+        self.rep += 1;
+        Some(d)
+    }
 }

@@ -5,10 +5,6 @@ use native.Mathlib.Omega.{arith}
 use Rattle.check_blocks.proofs.Blocks.{column-there, whole-listed, whole-refers}
 use Rattle.check_blocks.proofs.block_at.Goals as goal
 
-pub overflow_add-d : goal.overflow_add-d
-overflow_add-d c = let f = column-there c.requires.0 c.args.o c.requires.2 in
-    omega (arith, f, c.up.ensures, c.well_formed)
-
 pub word_at-r-requires : goal.word_at-r-requires
 word_at-r-requires c = let f = column-there c.requires.0 c.args.o c.requires.2 in
     (omega (arith, f, c.up.ensures), omega arith)

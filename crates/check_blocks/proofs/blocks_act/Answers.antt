@@ -19,13 +19,6 @@ returns-then-not-block_acts c = let t = c.block_acts in
     going-fails a.s a.words.now a.i a.d c.requires.0 c.loop-o.invariant c.block_at-f.ensures c.loop-o-test.true t.ensures
     (c.if-not-block_acts.true)
 
-pub overflow_add-o : goal.overflow_add-o
-overflow_add-o c = omega (arith, c.block_at-f.ensures.room, c.ranges, c.well_formed)
-
-pub loop-o-smaller : goal.loop-o-smaller
-loop-o-smaller c = let F = c.block_at-f.ensures in
-    omega (arith, F.room, F.found.positive, c.loop-o-test.true)
-
 pub loop-o-preserved : goal.loop-o-preserved
 loop-o-preserved c = let t = c.block_acts in
     let a = c.args in

@@ -1,17 +1,11 @@
 -- `restrictions_hold` tests the levels one by one.
 use native.Mathlib.Omega.{arith}
-use Rattle.numbers.proofs.Passed.{passed-more}
 use Rattle.seek.proofs.Among.{table-fails, table-holds}
 use Rattle.check_blocks.proofs.Levels.{HoldingBehind, asks, up-behind}
 use Rattle.check_blocks.proofs.restrictions_hold.Goals as goal
 
 pub loop-i-init : goal.loop-i-init
-loop-i-init c = let (some, is) = c.restricted-first.ensures in
-    let a = c.args in
-    (up-behind a.s a.words.now a.from is, some)
-
-pub level_acts-requires : goal.level_acts-requires
-level_acts-requires c = (c.requires, c.loop-i.invariant.1, omega arith)
+loop-i-init c = let a = c.args in (up-behind a.s a.words.now a.from c.max-i.ensures, omega (arith, c.max-i.ensures))
 
 pub returns-then-not-level_acts : goal.returns-then-not-level_acts
 returns-then-not-level_acts c = let a = c.args in
@@ -22,10 +16,6 @@ returns-then-not-level_acts c = let a = c.args in
           (λ P p. t.ensures.is P p.formed)
           (c.if-not-level_acts.true);
     }
-
-pub loop-i-preserved : goal.loop-i-preserved
-loop-i-preserved c = let t = c.level_acts in
-    (passed-more c.loop-i.invariant.0 (λ P p. t.ensures.is P p.formed) (c.if-not-level_acts.false), omega arith)
 
 pub returns : goal.returns
 returns c = let a = c.args in

@@ -9,6 +9,3 @@ pub overflow_mul-result : goal.overflow_mul-result
 overflow_mul-result c = let d = c.args.d in
     let e = ap₂ (λ (a b : ℕ). a * b) c.up.ensures c.up-2.ensures in
     omega (arith, e, mul-le-mul {n₁ = d} {m₁ = d} {n₂ = 4294967295} {m₂ = 4294967295} (omega arith) (omega arith))
-
-pub returns : goal.returns
-returns c = ap₂ (λ (a b : ℕ). a * b) c.up.ensures c.up-2.ensures

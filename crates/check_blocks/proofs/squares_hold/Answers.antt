@@ -3,23 +3,8 @@ use mathlib.Core.Path.{refl, ap}
 use Prim.Native.Nat.{◌+◌}
 use native.Mathlib.Omega.{arith}
 use Rattle.numbers.proofs.Passed.{passed-more}
-use Rattle.check_blocks.proofs.Squares.{adds-known, adds-told, adds-fails, adds-holds}
+use Rattle.check_blocks.proofs.Squares.{adds-told, adds-fails, adds-holds}
 use Rattle.check_blocks.proofs.squares_hold.Goals as goal
-
-pub loop-i-init : goal.loop-i-init
-loop-i-init c = let a = c.args in adds-known a.s a.orders.now a.words.now
-
-pub overflow_add-up : goal.overflow_add-up
-overflow_add-up c = omega (arith, c.up.ensures)
-
-pub offset_bounds-orders-up : goal.offset_bounds-orders-up
-offset_bounds-orders-up c = omega (arith, c.up.ensures)
-
-pub bounds-orders-up : goal.bounds-orders-up
-bounds-orders-up c = omega (arith, c.up.ensures, c.requires.few)
-
-pub level_adds_up-requires : goal.level_adds_up-requires
-level_adds_up-requires c = (c.requires, omega arith, omega arith)
 
 pub returns-then-not-level_adds_up : goal.returns-then-not-level_adds_up
 returns-then-not-level_adds_up c = let t = c.level_adds_up in

@@ -1,26 +1,11 @@
 -- `all_characters` goes through the representations.
 use borrow.Author.Count.{below_more}
 use mathlib.Core.Path.{◌∙◌, ap}
-use mathlib.Core.Bool.{false≢true}
 use Prim.Native.Nat.{◌*◌, ◌%◌}
 use native.Mathlib.Omega.{arith}
 use Rattle.check_first.specs.First.{Character}
-use Rattle.check_first.proofs.Marks.{allowed-none, allowed-own, taking-none, taking-more, multiple-small, multiple-power}
+use Rattle.check_first.proofs.Marks.{taking-more, multiple-small, multiple-power}
 use Rattle.check_first.proofs.all_characters.Goals as goal
-
-pub mark-requires : goal.mark-requires
-mark-requires c = let P = c.requires.0 in
-    let C = c.clear.ensures in
-    (allowed-none C.0, P.positive, omega (arith, P.product, c.requires.1, C.1))
-
-pub loop-k-init : goal.loop-k-init
-loop-k-init c = (taking-none (allowed-own c.mark.ensures), λ q l. absurd (omega arith))
-
-pub character-requires : goal.character-requires
-character-requires c = (record { part = c.args.part; parted = c.requires.0; allowed = allowed-own c.loop-k.invariant.0.allowed }, omega arith)
-
-pub returns-then-not-character : goal.returns-then-not-character
-returns-then-not-character c = λ x. absurd (false≢true x)
 
 pub loop-k-preserved : goal.loop-k-preserved
 loop-k-preserved c = let a = c.args in
@@ -28,9 +13,6 @@ loop-k-preserved c = let a = c.args in
       taking-more c.loop-k.invariant.0 h.takes,
       below_more (λ q. Character a.s a.words.now a.rows.now a.p q) c.loop-k.k c.loop-k.invariant.1 h.is,
     )
-
-pub shape_of-free : goal.shape_of-free
-shape_of-free c = c.loop-k.invariant.0.allowed.size ∙ c.mark.ensures.size ∙ c.clear.ensures.1
 
 pub returns : goal.returns
 returns c = λ x.

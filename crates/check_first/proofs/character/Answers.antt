@@ -1,6 +1,5 @@
 -- `character` looks at the line of generator 0, takes its exponent, and goes on to the others.
 use mathlib.Core.Path.{sym, ◌∙◌, ap}
-use mathlib.Core.Bool.{false≢true}
 use Prim.Native.Nat.{◌*◌}
 use native.Mathlib.Omega.{arith}
 use Rattle.definitions.specs.Table.{EXP, word_at}
@@ -8,38 +7,22 @@ use Rattle.check_first.proofs.Marks.{takes-as, multiple-small}
 use Rattle.check_first.proofs.Lines.{image-room, placed, head-is}
 use Rattle.check_first.proofs.character.Goals as goal
 
-pub overflow_mul-at : goal.overflow_mul-at
-overflow_mul-at c = let q = image-room (placed c.requires.0.parted c.requires.1) 0 c.requires.0.parted.counted.some in
-    omega (arith, ap (λ n. c.args.k * n) c.up.ensures, q, c.well_formed)
-
 pub line_is-requires : goal.line_is-requires
 line_is-requires c = let P = placed c.requires.0.parted c.requires.1 in
     let q = image-room P 0 c.requires.0.parted.counted.some in
     (omega (arith, ap (λ n. c.args.k * n) c.up.ensures, q), omega arith, omega (arith, P.here, P.few))
 
-pub returns-then-not-line_is : goal.returns-then-not-line_is
-returns-then-not-line_is c = λ x. absurd (false≢true x)
-
 pub two_at-requires : goal.two_at-requires
 two_at-requires c = let q = image-room (placed c.requires.0.parted c.requires.1) 0 c.requires.0.parted.counted.some in
     (omega (arith, ap (λ n. c.args.k * n) c.up.ensures, q), omega arith)
-
-pub returns-then-two_at-ne0 : goal.returns-then-two_at-ne0
-returns-then-two_at-ne0 c = λ x. absurd (false≢true x)
 
 pub word_at-requires : goal.word_at-requires
 word_at-requires c = let q = image-room (placed c.requires.0.parted c.requires.1) 0 c.requires.0.parted.counted.some in
     (omega (arith, ap (λ n. c.args.k * n) c.up.ensures, q), omega arith)
 
-pub returns-then-word_at-ne0 : goal.returns-then-word_at-ne0
-returns-then-word_at-ne0 c = λ x. absurd (false≢true x)
-
 pub word_at-e-requires : goal.word_at-e-requires
 word_at-e-requires c = let q = image-room (placed c.requires.0.parted c.requires.1) 0 c.requires.0.parted.counted.some in
     (omega (arith, ap (λ n. c.args.k * n) c.up.ensures, q), omega arith)
-
-pub returns-then-not-take : goal.returns-then-not-take
-returns-then-not-take c = λ x. absurd (false≢true x)
 
 pub images_ok-requires : goal.images_ok-requires
 images_ok-requires c = let a = c.args in
@@ -47,7 +30,7 @@ images_ok-requires c = let a = c.args in
     let T = a.words.now in
     let P = placed M.parted c.requires.1 in
     let t = c.take.ensures (c.if-not-take.false) in
-    let (k, l, e) = M.allowed.only c.up-2.result (λ z. omega (arith, z, t.free)) in (
+    let (k, l, e) = M.allowed.only c.up-2.result t.free in (
       P,
       c.word_at-e.ensures ∙ ap (λ n. word_at T (a.k * n) EXP) c.up.ensures,
       omega (arith, c.up-2.ensures, e, multiple-small a.p M.part a.s.m k M.parted.product M.parted.positive l),

@@ -1,23 +1,11 @@
 -- `images_ok` goes through the generators above generator 0.
 use mathlib.Core.Path.{sym, ap, ap₂, subst}
-use mathlib.Core.Bool.{false≢true}
 use Prim.Native.Nat.{◌+◌, ◌*◌, ◌≤◌}
 use native.Mathlib.Omega.{arith}
 use lib.ListN.{length}
 use Rattle.seek.proofs.Halves.{lines-there}
-use Rattle.check_first.proofs.Lines.{reaching-none, reaching-more, reaching-all, image-room, image-is}
+use Rattle.check_first.proofs.Lines.{reaching-more, image-room, image-is}
 use Rattle.check_first.proofs.images_ok.Goals as goal
-
-pub overflow_mul-at : goal.overflow_mul-at
-overflow_mul-at c = let q = image-room c.requires.0 0 c.requires.0.counted.some in
-    omega (arith, ap (λ n. c.args.k * n) c.up-n.ensures, q, c.well_formed)
-
-pub loop-j-init : goal.loop-j-init
-loop-j-init c = reaching-none
-
-pub overflow_add-l : goal.overflow_add-l
-overflow_add-l c = let q = image-room c.requires.0 c.loop-j.j (omega arith) in
-    omega (arith, ap (λ n. c.args.k * n) c.up-n.ensures, c.up.ensures, q, c.well_formed)
 
 pub line_is-requires : goal.line_is-requires
 line_is-requires c = let q = image-room c.requires.0 c.loop-j.j (omega arith) in (
@@ -26,28 +14,13 @@ line_is-requires c = let q = image-room c.requires.0 c.loop-j.j (omega arith) in
   omega (arith, c.requires.0.here, c.requires.0.few),
 )
 
-pub returns-then-not-line_is : goal.returns-then-not-line_is
-returns-then-not-line_is c = λ x. absurd (false≢true x)
-
 pub two_at-requires : goal.two_at-requires
 two_at-requires c = let q = image-room c.requires.0 c.loop-j.j (omega arith) in
     (omega (arith, ap (λ n. c.args.k * n) c.up-n.ensures, c.up.ensures, q), omega arith)
 
-pub returns-then-two_at-ne0 : goal.returns-then-two_at-ne0
-returns-then-two_at-ne0 c = λ x. absurd (false≢true x)
-
 pub word_at-requires : goal.word_at-requires
 word_at-requires c = let q = image-room c.requires.0 c.loop-j.j (omega arith) in
     (omega (arith, ap (λ n. c.args.k * n) c.up-n.ensures, c.up.ensures, q), omega arith)
-
-pub returns-then-s-word_at : goal.returns-then-s-word_at
-returns-then-s-word_at c = λ x. absurd (false≢true x)
-
-pub conjugate-a-requires : goal.conjugate-a-requires
-conjugate-a-requires c = (c.loop-j.invariant.from, omega (arith, c.requires.0.counted.few))
-
-pub returns-then-a-eq0 : goal.returns-then-a-eq0
-returns-then-a-eq0 c = λ x. absurd (false≢true x)
 
 pub led_to-requires : goal.led_to-requires
 led_to-requires c = let a = c.args in
@@ -56,13 +29,10 @@ led_to-requires c = let a = c.args in
       omega (arith, ap (λ n. a.k * n) c.up-n.ensures, c.up.ensures, q),
       subst (λ n. 8 * (a.p * n) ≤ length T) (sym c.up-n.ensures) (lines-there T (a.p * a.s.gens) c.requires.0.room),
       omega (arith, c.up-n.ensures, c.requires.0.counted.some),
-      c.conjugate-a.ensures.0,
+      c.in-Some.ensures.0,
       c.requires.2,
       c.requires.0.small,
     )
-
-pub returns-then-not-led_to : goal.returns-then-not-led_to
-returns-then-not-led_to c = λ x. absurd (false≢true x)
 
 pub loop-j-preserved : goal.loop-j-preserved
 loop-j-preserved c = let a = c.args in
@@ -70,10 +40,7 @@ loop-j-preserved c = let a = c.args in
     let j = c.loop-j.j in
     reaching-more c.loop-j.invariant
     (image-is (ap₂ (λ n j. a.k * n + j) c.up-n.ensures c.up.ensures) c.up-n.ensures c.requires.1
-    (c.conjugate-a.ensures.1 c.if-a-eq0.false)
+    c.in-Some.ensures.1
     (c.line_is.ensures (c.if-not-line_is.false))
     c.two_at.ensures c.if-two_at-ne0.false c.word_at.ensures (omega (arith, c.if-s-word_at.false))
     (c.led_to.ensures (c.if-not-led_to.false)))
-
-pub returns : goal.returns
-returns c = λ x. reaching-all c.loop-j.invariant (omega arith)

@@ -1,19 +1,12 @@
 -- `led_to` compares the exponents of generator 0.
 use borrow.Author.Tests.{eqb-true}
 use mathlib.Core.Path.{◌≡◌, ◌∙◌, ap}
-use mathlib.Core.Bool.{false≢true}
 use Prim.Native.Nat.{suc, ◌*◌, ◌%◌, ◌≤◌}
 use native.Mathlib.Omega.{arith}
 use native.Mathlib.Nat.{mod-eq_of_lt, mul-le-mul, mul-le-mul_right}
 use Rattle.definitions.specs.Presentation.{max_order}
 use Rattle.check_first.specs.First.{exponent_of}
 use Rattle.check_first.proofs.led_to.Goals as goal
-
-pub word_at-requires : goal.word_at-requires
-word_at-requires c = (c.requires.0, omega arith)
-
-pub returns-then-p-t : goal.returns-then-p-t
-returns-then-p-t c = λ e. absurd (false≢true e)
 
 pub overflow_mul-t : goal.overflow_mul-t
 overflow_mul-t c = let t = c.up-t.result in
@@ -41,9 +34,6 @@ overflow_mul-result c = let a = c.args in
     let q : a.a * a.e ≤ max_order * max_order = mul-le-mul {n₁ = a.a} {m₁ = a.e} {n₂ = max_order} {m₂ = max_order} c.requires.3
     (omega (arith, c.requires.4, c.requires.5)) in
     omega (arith, q)
-
-pub nonzero_rem-result : goal.nonzero_rem-result
-nonzero_rem-result c = omega (arith, c.requires.4)
 
 pub returns : goal.returns
 returns c = λ x.

@@ -1,21 +1,11 @@
 -- `level_one`: the lines of level 1, then the heads of the others.
 use borrow.Author.Tests.{eqb-true}
 use mathlib.Core.Path.{sym, ◌∙◌, subst}
-use mathlib.Core.Bool.{false≢true}
 use native.Mathlib.Omega.{arith}
 use Rattle.heads.proofs.Going.{heads-complete}
 use Rattle.check_heads.specs.Places.{orders_in, Opened}
 use Rattle.check_first.proofs.First.{character-opened}
 use Rattle.check_first.proofs.level_one.Goals as goal
-
-pub returns-then-orders-p : goal.returns-then-orders-p
-returns-then-orders-p c = λ x. absurd (false≢true x)
-
-pub characters-requires : goal.characters-requires
-characters-requires c = c.requires
-
-pub returns-then-not-characters : goal.returns-then-not-characters
-returns-then-not-characters c = λ x. absurd (false≢true x)
 
 pub heads_behind-requires : goal.heads_behind-requires
 heads_behind-requires c = let a = c.args in
@@ -24,9 +14,6 @@ heads_behind-requires c = let a = c.args in
       subst (Opened a.s (orders_in a.orders.now) a.words.now) (sym c.up.ensures)
           (character-opened C (λ l. omega (arith, c.if-orders-p.false))),
     )
-
-pub returns-then-not-heads_behind : goal.returns-then-not-heads_behind
-returns-then-not-heads_behind c = λ x. absurd (false≢true x)
 
 pub count_of-requires : goal.count_of-requires
 count_of-requires c = let a = c.args in

@@ -1,21 +1,12 @@
 -- `character_lines` writes one line number after the other.
-use mathlib.Core.Path.{◌≡◌, refl, ◌∙◌, subst}
+use mathlib.Core.Path.{◌≡◌, ◌∙◌, subst}
 use Prim.Native.Nat.{suc, ◌*◌, ◌≤◌}
 use native.Mathlib.Omega.{arith}
 use native.Mathlib.Nat.{mul-le-mul_right}
 use lib.ListN.{length-set}
 use Rattle.check_fit.specs.Fit.{CharacterLines}
-use Rattle.check_fit.proofs.Lines.{characters-none, characters-more}
+use Rattle.check_fit.proofs.Lines.{characters-more}
 use Rattle.check_fit.proofs.character_lines.Goals as goal
-
-pub loop-r-init : goal.loop-r-init
-loop-r-init c = (characters-none, omega arith, refl, omega arith)
-
-pub offset_bounds-firsts-r : goal.offset_bounds-firsts-r
-offset_bounds-firsts-r c = omega (arith, c.requires.0, c.well_formed)
-
-pub bounds-firsts-r : goal.bounds-firsts-r
-bounds-firsts-r c = omega (arith, c.requires.0, c.loop-r.invariant.2)
 
 pub overflow_add-l : goal.overflow_add-l
 overflow_add-l c = let r = c.loop-r.r in
@@ -29,9 +20,6 @@ loop-r-preserved c = let l = c.loop-r in (
   length-set l.firsts l.r l.l ∙ l.invariant.2,
   omega arith,
 )
-
-pub shape_of-firsts : goal.shape_of-firsts
-shape_of-firsts c = c.loop-r.invariant.2
 
 pub returns : goal.returns
 returns c = let l = c.loop-r in

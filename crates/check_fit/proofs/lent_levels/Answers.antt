@@ -5,7 +5,7 @@ use native.Mathlib.Omega.{arith}
 use lib.ListN.{get_or}
 use Rattle.check_fit.specs.Fit.{Started, FitUpTo, FittingLevels}
 use Rattle.check_fit.proofs.First.{started, up-to-one}
-use Rattle.check_fit.proofs.Yes.{counted-pass, none-counted}
+use Rattle.check_fit.proofs.Yes.{counted-pass}
 use Rattle.check_fit.proofs.lent_levels.Goals.{Else-not-level_one}
 use Rattle.check_fit.proofs.lent_levels.Goals as goal
 
@@ -17,24 +17,6 @@ passes : {k : ℕ} (e : Else-not-level_one) → let a = e.args in
     FitUpTo a.s a.words.now a.rows.now a.primes.now a.orders.now k → FittingLevels a.s a.rows.now a.primes.now a.orders.now a.words.now k
 passes e h = let F = e.level_one.ensures (e.if-not-level_one.false) in
     counted-pass F.heads F.whole (ap (λ k. get_or e.args.orders.now k 0) (sym e.up-n.ensures) ∙ e.if-orders-n.false) h
-
-pub offset_bounds-orders-n : goal.offset_bounds-orders-n
-offset_bounds-orders-n c = omega (arith, c.up-n.ensures, c.requires.0.few)
-
-pub bounds-orders-n : goal.bounds-orders-n
-bounds-orders-n c = omega (arith, c.up-n.ensures, c.requires.0.few)
-
-pub returns-then-orders-n : goal.returns-then-orders-n
-returns-then-orders-n c = none-counted
-
-pub returns-then-s-gt-MAX_LINES : goal.returns-then-s-gt-MAX_LINES
-returns-then-s-gt-MAX_LINES c = none-counted
-
-pub level_one-requires : goal.level_one-requires
-level_one-requires c = (c.requires.0, c.requires.1)
-
-pub returns-then-not-level_one : goal.returns-then-not-level_one
-returns-then-not-level_one c = none-counted
 
 pub returns-then-s-eq1 : goal.returns-then-s-eq1
 returns-then-s-eq1 c = passes (goal.at.returns-then-s-eq1 c).Else-not-level_one (up-to-one (starts (goal.at.returns-then-s-eq1 c).Else-not-level_one))

@@ -23,28 +23,13 @@ degree : (c : After-degree_of-f) → let a = c.args in c.degree_of-f.result ≡ 
 degree c = let a = c.args in
     c.degree_of-f.ensures.0 ∙ ap (λ r. (rep_of (level_at a.s.gens a.words.now a.i) r).deg) c.up-r.ensures
 
-pub matrix_line-requires : goal.matrix_line-requires
-matrix_line-requires c = omega (arith, c.requires.1, c.well_formed)
-
-pub overflow_add-at : goal.overflow_add-at
-overflow_add-at c = omega (arith, c.up.ensures, c.matrix_line.ensures, c.requires.1, c.requires.2, c.well_formed)
-
-pub word_at-x-requires : goal.word_at-x-requires
-word_at-x-requires c = (omega (arith, c.up.ensures, c.matrix_line.ensures, c.requires.1, c.requires.2), omega arith)
-
 pub returns-then-low-r : goal.returns-then-low-r
 returns-then-low-r c = block-unlisted _ _ c.args.d _ _ _ (there (goal.at.returns-then-low-r c).After-up) c.word_at-x.ensures
     (omega (arith, c.requires.0.counts, c.up-r.ensures, c.if-low-r.true))
 
-pub degree_of-f-requires : goal.degree_of-f-requires
-degree_of-f-requires c = (c.requires.0.whole, c.requires.0.level, omega (arith, c.requires.0.counts, c.if-low-r.false))
-
 pub returns-then-d-o : goal.returns-then-d-o
 returns-then-d-o c = block-long _ _ c.args.d _ _ _ (there (goal.at.returns-then-d-o c).After-up) c.word_at-x.ensures _
     (degree (goal.at.returns-then-d-o c).After-degree_of-f) (listed (goal.at.returns-then-d-o c).Else-low-r) c.requires.2 c.if-d-o.true
-
-pub refs_are-requires : goal.refs_are-requires
-refs_are-requires c = omega (arith, c.up.ensures, c.matrix_line.ensures, c.requires.1, c.requires.2, c.if-d-o.false)
 
 pub returns-then-not-refs_are : goal.returns-then-not-refs_are
 returns-then-not-refs_are c = block-mixed _ _ c.args.d _ _ _ (there (goal.at.returns-then-not-refs_are c).After-up) c.word_at-x.ensures _

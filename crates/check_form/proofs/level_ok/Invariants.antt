@@ -1,10 +1,8 @@
 -- `level_ok` meets its contract: representation after representation.
-use Prim.Native.Nat.{◌-◌, ◌≤◌}
+use Prim.Native.Nat.{◌+◌}
+use Rattle.seek.proofs.Walk.{Walked}
 use Rattle.check_form.proofs.Form.{ReadUpTo}
 use Rattle.check_form.proofs.level_ok.Given as goal
 
-abbrev pub invariant-loop-r : goal.invariant-loop-r
-invariant-loop-r l = (l.r ≤ l.last) × ReadUpTo l.s l.words l.i l.r l.d
-
-abbrev pub decreases-loop-r : goal.decreases-loop-r
-decreases-loop-r l = l.last - l.r
+abbrev pub invariant-loop-d : goal.invariant-loop-d
+invariant-loop-d l = Walked l.s l.words (l.i + 1) (ReadUpTo l.s l.words l.i) l.d-iterator

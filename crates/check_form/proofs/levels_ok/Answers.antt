@@ -7,19 +7,6 @@ use Rattle.check_form.specs.Form.{LevelOver}
 use Rattle.check_form.proofs.Form.{over-next}
 use Rattle.check_form.proofs.levels_ok.Goals as goal
 
-pub count_of-low-requires : goal.count_of-low-requires
-count_of-low-requires c = let (whole, K) = c.requires in (whole, K.within)
-
-pub loop-i-init : goal.loop-i-init
-loop-i-init c = let (whole, K) = c.requires in
-    (record { whole = whole; level = K.within; counts = c.count_of-low.ensures }, record { each = K.known })
-
-pub overflow_add-i : goal.overflow_add-i
-overflow_add-i c = omega (arith, c.loop-i-test.true, c.requires.0.few)
-
-pub count_of-many-requires : goal.count_of-many-requires
-count_of-many-requires c = (c.requires.0, omega (arith, c.loop-i-test.true))
-
 pub level_ok-requires : goal.level_ok-requires
 level_ok-requires c = let loop = c.loop-i in
     let T = c.args.words.now in

@@ -3,9 +3,6 @@ use mathlib.Core.Path.{sym, ◌∙◌}
 use Rattle.check_form.proofs.Form.{form-heads, form-whole, form-levels}
 use Rattle.check_form.proofs.well_formed.Goals as goal
 
-pub heads_ok-requires : goal.heads_ok-requires
-heads_ok-requires c = c.requires
-
 pub returns-then-not-heads_ok : goal.returns-then-not-heads_ok
 returns-then-not-heads_ok c = let heads = c.heads_ok in
     form-heads c.args.s c.args.orders.now c.args.words.now c.requires.0 (sym heads.ensures ∙ c.if-not-heads_ok.true)

@@ -1,5 +1,6 @@
 -- `rep_heads` meets its contract: column after column.
-use mathlib.Core.Path.{sym, ◌∙◌}
+use mathlib.Core.Path.{sym, ◌∙◌, ap}
+use Prim.Native.Nat.{◌+◌}
 use native.Mathlib.Nat.{mul-pos}
 use native.Mathlib.Omega.{arith}
 use Rattle.numbers.proofs.Tested.{tested-none, tested-more, tested-all, tested-fails}
@@ -9,34 +10,34 @@ use Rattle.check_heads.proofs.rep_heads.Goals as goal
 pub word_at-requires : goal.word_at-requires
 word_at-requires c = (omega (arith, c.requires.0, mul-pos c.requires.1 c.requires.2), omega arith)
 
-pub returns-then-wide-p : goal.returns-then-wide-p
-returns-then-wide-p c = let a = c.args in
+pub returns-then-up-p : goal.returns-then-up-p
+returns-then-up-p c = let a = c.args in
     first-other a.words.now a.p a.d.line a.d.deg a.n c.requires.1 c.requires.2
-    (c.wide.ensures.0 ∙ c.word_at.ensures) c.if-wide-p.true
+    (c.up.ensures ∙ c.word_at.ensures) c.if-up-p.true
 
 pub loop-c-init : goal.loop-c-init
-loop-c-init c = (omega arith, tested-none)
+loop-c-init c = tested-none
 
 pub column_heads-requires : goal.column_heads-requires
 column_heads-requires c = let a = c.args in (
-  omega (arith, c.wide.ensures.1, c.if-wide-p.false),
-  column-room a.words.now a.p a.d.line a.d.deg a.n c.requires.0 c.loop-c.invariant.0 c.loop-c-test.true,
+  omega (arith, c.up.ensures, c.if-up-p.false),
+  column-room a.words.now a.p a.d.line a.d.deg a.n c.requires.0 (ap (λ k. a.d.line + k) c.up-in-loop-c.ensures) c.loop-c-test.true,
 )
 
 pub returns-then-not-column_heads : goal.returns-then-not-column_heads
 returns-then-not-column_heads c = let a = c.args in
-    let column = rw c.loop-c.invariant.0 at c.column_heads.ensures in
-    tested-fails c.loop-c.invariant.1 {n = a.d.deg} c.loop-c-test.true
+    let column = rw c.up-in-loop-c.ensures at c.column_heads.ensures in
+    tested-fails c.loop-c.invariant {n = a.d.deg} c.loop-c-test.true
     (sym column ∙ c.if-not-column_heads.true)
     ∙ columns-are a.words.now a.p a.d.line a.d.deg a.n
 
-pub overflow_add-at : goal.overflow_add-at
-overflow_add-at c = omega (arith, c.loop-c.invariant.0, c.requires.0, c.well_formed, mul-pos c.requires.1 c.requires.2)
+pub overflow_add-d : goal.overflow_add-d
+overflow_add-d c = omega (arith, c.up-in-loop-c.ensures, c.requires.0, c.well_formed, mul-pos c.requires.1 c.requires.2)
 
 pub loop-c-preserved : goal.loop-c-preserved
-loop-c-preserved c = let column = rw c.loop-c.invariant.0 at c.column_heads.ensures in
-    (omega (arith, c.loop-c.invariant.0), tested-more c.loop-c.invariant.1 (sym column ∙ c.if-not-column_heads.false))
+loop-c-preserved c = let column = rw c.up-in-loop-c.ensures at c.column_heads.ensures in
+    tested-more c.loop-c.invariant (sym column ∙ c.if-not-column_heads.false)
 
 pub returns : goal.returns
 returns c = let a = c.args in
-    tested-all c.loop-c.invariant.1 {n = a.d.deg} c.loop-c-test.false ∙ columns-are a.words.now a.p a.d.line a.d.deg a.n
+    tested-all c.loop-c.invariant {n = a.d.deg} c.loop-c-test.false ∙ columns-are a.words.now a.p a.d.line a.d.deg a.n

@@ -1,23 +1,13 @@
 -- `first_lines` goes from run to run of representations of one degree.
 use borrow.Author.Tests.{eqb-true, eq-eqb}
 use mathlib.Core.Path.{sym, ◌∙◌, subst}
-use native.Mathlib.Nat.{mul-pos}
 use native.Mathlib.Omega.{arith}
 use Rattle.seek.specs.Seek.{Found}
 use Rattle.seek.proofs.Seek.{whole-some, found-there}
 use Rattle.check_blocks.proofs.Squares.{left-none, left-all}
 use Rattle.check_blocks.specs.Squares.{squares_in}
-use Rattle.check_level.proofs.Lines.{noted-none, noted-all, noted-stops, not_noted, run-left, left-ran}
+use Rattle.check_level.proofs.Lines.{noted-none, noted-all, left-ran}
 use Rattle.check_level.proofs.first_lines.Goals as goal
-
-pub count_of-reps-requires : goal.count_of-reps-requires
-count_of-reps-requires c = (c.requires.0, c.requires.3)
-
-pub overflow_sub-firsts : goal.overflow_sub-firsts
-overflow_sub-firsts c = c.requires.4
-
-pub returns-then-firsts-at : goal.returns-then-firsts-at
-returns-then-firsts-at c = not_noted
 
 pub found-d-requires : goal.found-d-requires
 found-d-requires c = let a = c.args in
@@ -36,28 +26,6 @@ run_lines-e-requires c = record {
   room = omega (arith, c.if-firsts-at.false, c.requires.4, c.loop-left.invariant.0.size);
 }
 
-pub overflow_sub-k : goal.overflow_sub-k
-overflow_sub-k c = omega (arith, c.run_lines-e.ensures.forth)
-
-pub nonzero_div-left : goal.nonzero_div-left
-nonzero_div-left c = let p = c.loop-left.invariant.1.positive in
-    omega (arith, c.square-q.ensures, mul-pos p p)
-
-pub shape_of-firsts-then-left-q : goal.shape_of-firsts-then-left-q
-shape_of-firsts-then-left-q c = c.run_lines-e.ensures.size ∙ c.loop-left.invariant.0.size
-
-pub returns-then-left-q : goal.returns-then-left-q
-returns-then-left-q c = noted-stops (c.run_lines-e.ensures.noted c.loop-left.invariant.0)
-
-pub overflow_mul-left : goal.overflow_mul-left
-overflow_mul-left c = omega (arith, run-left c.loop-left.invariant.1.positive c.square-q.ensures c.if-left-q.false)
-
-pub overflow_sub-left : goal.overflow_sub-left
-overflow_sub-left c = run-left c.loop-left.invariant.1.positive c.square-q.ensures c.if-left-q.false
-
-pub shape_of-firsts-then-left-eq0 : goal.shape_of-firsts-then-left-eq0
-shape_of-firsts-then-left-eq0 c = c.run_lines-e.ensures.size ∙ c.loop-left.invariant.0.size
-
 pub returns-then-left-eq0 : goal.returns-then-left-eq0
 returns-then-left-eq0 c = let l = c.loop-left in
     let a = c.args in
@@ -69,19 +37,9 @@ returns-then-left-eq0 c = let l = c.loop-left in
     noted-all (R.noted l.invariant.0) n (omega (arith, c.if-firsts-at.false, c.requires.4)) (omega (arith, c.if-r-reps.true))
     (eqb-true (squares_in a.s.gens T a.i) a.order q)
 
-pub shape_of-firsts-then-r-reps : goal.shape_of-firsts-then-r-reps
-shape_of-firsts-then-r-reps c = c.run_lines-e.ensures.size ∙ c.loop-left.invariant.0.size
-
-pub returns-then-r-reps : goal.returns-then-r-reps
-returns-then-r-reps c = noted-stops (c.run_lines-e.ensures.noted c.loop-left.invariant.0)
-
 pub representation-d-requires : goal.representation-d-requires
 representation-d-requires c = let R = c.run_lines-e.ensures in
     found-there c.args.s c.args.words.now c.requires.0 (R.behind (omega (arith, R.within, c.if-r-reps.false, c.count_of-reps.ensures)))
-
-pub loop-left-smaller : goal.loop-left-smaller
-loop-left-smaller c = let R = c.run_lines-e.ensures in
-    omega (arith, R.forth, R.within, c.count_of-reps.ensures)
 
 pub loop-left-preserved : goal.loop-left-preserved
 loop-left-preserved c = let l = c.loop-left in

@@ -1,26 +1,12 @@
 -- `level_compares` goes through the representations of the level.
-use borrow.Author.Rules.{rules}
 use borrow.Author.Count.{below_more}
 use mathlib.Core.Path.{refl}
-use mathlib.Core.Bool.{false≢true}
 use native.Mathlib.Omega.{arith}
 use Rattle.seek.proofs.Seek.{found-fits}
-use Rattle.claims.proofs.Claims.{claims-none, claims-found, claims-all}
+use Rattle.claims.proofs.Claims.{claims-found, claims-all}
 use Rattle.compare.proofs.Staged.{high-at, high-place}
 use Rattle.check_level.proofs.Level.{high_fits, high-power}
 use Rattle.check_level.proofs.level_compares.Goals as goal
-
-pub returns-then-g-eq0 : goal.returns-then-g-eq0
-returns-then-g-eq0 c = λ e. absurd (false≢true e)
-
-pub returns-then-part-eq0 : goal.returns-then-part-eq0
-returns-then-part-eq0 c = λ e. absurd (false≢true e)
-
-pub loop-r-init : goal.loop-r-init
-loop-r-init c = ((λ q l. absurd (omega arith)), (λ q l. absurd (omega arith)), claims-none _ _ _ _ _ _, refl, refl)
-
-pub overflow_add-g : goal.overflow_add-g
-overflow_add-g c = omega (arith, (high-place c.requires c.loop-r.r (omega arith)).0, c.well_formed)
 
 pub rep_at-d-requires : goal.rep_at-d-requires
 rep_at-d-requires c = high-place c.requires c.loop-r.r (omega arith)
@@ -28,23 +14,11 @@ rep_at-d-requires c = high-place c.requires c.loop-r.r (omega arith)
 pub rep_passes-requires : goal.rep_passes-requires
 rep_passes-requires c = (c.requires, (c.loop-r.r, high-at c.requires c.loop-r.r (omega arith) c.rep_at-d.ensures refl))
 
-pub shape_of-marks-then-not-rep_passes : goal.shape_of-marks-then-not-rep_passes
-shape_of-marks-then-not-rep_passes c = c.loop-r.invariant.3
-
-pub shape_of-slots-then-not-rep_passes : goal.shape_of-slots-then-not-rep_passes
-shape_of-slots-then-not-rep_passes c = c.loop-r.invariant.4
-
-pub returns-then-not-rep_passes : goal.returns-then-not-rep_passes
-returns-then-not-rep_passes c = λ e. absurd (false≢true e)
-
 pub claim-requires : goal.claim-requires
 claim-requires c = (
   found-fits (high-at c.requires c.loop-r.r (omega arith) c.rep_at-d.ensures refl) c.args.g.top c.requires.level.1,
   omega (arith, c.if-part-eq0.false),
 )
-
-pub returns-then-not-claim : goal.returns-then-not-claim
-returns-then-not-claim c = λ e. absurd (false≢true e)
 
 pub loop-r-preserved : goal.loop-r-preserved
 loop-r-preserved c = (
@@ -54,15 +28,7 @@ loop-r-preserved c = (
       (c.rep_passes.ensures (c.if-not-rep_passes.false)).1),
   claims-found (high-at c.requires c.loop-r.r (omega (arith, c.loop-r-test)) c.rep_at-d.ensures refl) c.loop-r.invariant.2
       (c.claim.ensures (c.if-not-claim.false)),
-  search rules,
-  search rules,
 )
-
-pub shape_of-marks : goal.shape_of-marks
-shape_of-marks c = c.loop-r.invariant.3
-
-pub shape_of-slots : goal.shape_of-slots
-shape_of-slots c = c.loop-r.invariant.4
 
 pub returns : goal.returns
 returns c = λ e. let l = c.loop-r in record {

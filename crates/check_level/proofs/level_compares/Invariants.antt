@@ -1,7 +1,5 @@
 -- `level_compares` goes through the representations of the level.
-use mathlib.Core.Path.{◌≡◌}
-use Prim.Native.Nat.{ℕ, suc, ◌-◌, ◌<◌}
-use lib.ListN.{length}
+use Prim.Native.Nat.{ℕ, suc, ◌<◌}
 use Rattle.definitions.specs.Table.{level_at}
 use Rattle.claims.proofs.Claims.{Claims}
 use Rattle.compare.specs.Blocks.{RepFits}
@@ -12,8 +10,4 @@ use Rattle.check_level.proofs.level_compares.Given as goal
 abbrev pub invariant-loop-r : goal.invariant-loop-r
 invariant-loop-r l = ((q : ℕ) → q < l.r → RepFits l.s l.words l.g (rep_at_level l.s l.words (suc l.g.top) q))
     × ((q : ℕ) → q < l.r → PowerHolds l.s l.words l.rows l.g (rep_at_level l.s l.words (suc l.g.top) q))
-    × Claims l.g.top l.g.p l.part (level_at l.s.gens l.words (suc l.g.top)) l.r l.marks l.slots × (length l.marks ≡ length l.initial.marks) ×
-    (length l.slots ≡ length l.initial.slots)
-
-abbrev pub decreases-loop-r : goal.decreases-loop-r
-decreases-loop-r l = l.above - l.r
+    × Claims l.g.top l.g.p l.part (level_at l.s.gens l.words (suc l.g.top)) l.r l.marks l.slots

@@ -1,13 +1,12 @@
 -- `level_relates` goes through the representations of the level.
 use borrow.Author.Count.{below_more}
 use mathlib.Core.Path.{◌≡◌, refl, ◌∙◌, ap}
-use mathlib.Core.Bool.{false≢true}
 use Prim.Native.Nat.{◌+◌, ◌<◌}
 use native.Mathlib.Omega.{arith}
 use lib.ListN.{get_or}
 use Rattle.definitions.specs.Table.{DEG, word_at}
 use Rattle.level.specs.declared.Listed.{Listed}
-use Rattle.compare.proofs.Staged.{found_inside, low-at, low-place, high-place}
+use Rattle.compare.proofs.Staged.{found_inside, low-at, high-place}
 use Rattle.compare.proofs.Blocks.{inside-matrix}
 use Rattle.check_level.specs.Level.{width_below}
 use Rattle.check_level.proofs.Level.{listed-inside, listed-refers, listed-reached, listed-relates}
@@ -19,18 +18,6 @@ refers : (c : After-up-x) → c.up-x.result < c.args.g.below
 refers c = let (S, H, _) = c.requires in
     omega (arith, listed-refers S H c.loop-r.r (omega arith) c.rep_at-d.ensures, c.up-x.ensures, c.word_at.ensures)
 
-pub overflow_add-g : goal.overflow_add-g
-overflow_add-g c = omega (arith, c.requires.0.level.1, c.requires.0.whole.few)
-
-pub returns-then-g-s : goal.returns-then-g-s
-returns-then-g-s c = λ e. record { each = λ r l. record { each = λ j a b. absurd (omega (arith, c.if-g-s.true)) } }
-
-pub loop-r-init : goal.loop-r-init
-loop-r-init c = λ q l. absurd (omega arith)
-
-pub overflow_add-g-in-loop-r : goal.overflow_add-g-in-loop-r
-overflow_add-g-in-loop-r c = omega (arith, (high-place c.requires.0 c.loop-r.r (omega arith)).0, c.well_formed)
-
 pub rep_at-d-requires : goal.rep_at-d-requires
 rep_at-d-requires c = high-place c.requires.0 c.loop-r.r (omega arith)
 
@@ -39,19 +26,10 @@ word_at-requires c = let (S, H, _) = c.requires in
     let I = listed-inside S H c.loop-r.r (omega arith) c.rep_at-d.ensures in
     (omega (arith, inside-matrix I 0 S.whole.some, I.positive), omega arith)
 
-pub overflow_add-g-in-loop-r-2 : goal.overflow_add-g-in-loop-r-2
-overflow_add-g-in-loop-r-2 c = omega (arith, (low-place c.requires.0 c.up-x.result (refers (goal.at.overflow_add-g-in-loop-r-2 c).After-up-x)).0, c.well_formed)
-
-pub rep_at-f-requires : goal.rep_at-f-requires
-rep_at-f-requires c = low-place c.requires.0 c.up-x.result (refers (goal.at.rep_at-f-requires c).After-up-x)
-
 pub carries_all-requires : goal.carries_all-requires
 carries_all-requires c = let (S, H, ready) = c.requires in
     let F = low-at S c.up-x.result (refers (goal.at.carries_all-requires c).After-up-x) c.rep_at-f.ensures refl in
     (listed-reached S H c.loop-r.r (omega arith) c.rep_at-d.ensures, F.positive, (found_inside S.whole S.short F).narrow, ready)
-
-pub returns-then-not-carries_all : goal.returns-then-not-carries_all
-returns-then-not-carries_all c = λ e. absurd (false≢true e)
 
 pub loop-r-preserved : goal.loop-r-preserved
 loop-r-preserved c = let a = c.args in
@@ -61,6 +39,3 @@ loop-r-preserved c = let a = c.args in
     ∙ ap (λ x. word_at T (get_or a.firsts.now (a.g.low + x) 0) DEG) (c.up-x.ensures ∙ c.word_at.ensures) in
     below_more _ c.loop-r.r c.loop-r.invariant (listed-relates c.requires.0 c.requires.1 c.loop-r.r (omega arith) c.rep_at-d.ensures v
     (c.carries_all.ensures (c.if-not-carries_all.false)))
-
-pub returns : goal.returns
-returns c = λ e. record { each = λ r l. c.loop-r.invariant r (omega arith) }

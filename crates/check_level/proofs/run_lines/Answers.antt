@@ -5,26 +5,12 @@ use native.Mathlib.Nat.{mul-le-mul_right}
 use native.Mathlib.Omega.{arith}
 use Rattle.definitions.specs.Presentation.{max_generators}
 use Rattle.level.proofs.Columns.{all_lines}
-use Rattle.seek.proofs.Halves.{lines-there}
-use Rattle.check_level.proofs.Lines.{running_none, running-there, running-small, running_more, running-stops, running-all}
+use Rattle.check_level.proofs.Lines.{running-there, running-small, running_more, running-stops, running-all}
 use Rattle.check_level.proofs.run_lines.Goals as goal
-
-pub matrix_line-requires : goal.matrix_line-requires
-matrix_line-requires c = omega (arith, lines-there c.args.words.now _ c.requires.found.inside, c.well_formed)
-
-pub overflow_sub-step : goal.overflow_sub-step
-overflow_sub-step c = omega (arith, c.matrix_line.ensures)
-
-pub loop-q-init : goal.loop-q-init
-loop-q-init c = λ s i A st. running_none A _
 
 pub word_at-requires : goal.word_at-requires
 word_at-requires c = let step = all_lines c.args.d c.args.s.gens _ c.matrix_line.ensures in
     (running-there c.requires _ (c.loop-q.invariant c.args.s c.args.i c.requires step) (omega arith), omega arith)
-
-pub shape_of-firsts-then-word_at-d : goal.shape_of-firsts-then-word_at-d
-shape_of-firsts-then-word_at-d c = let step = all_lines c.args.d c.args.s.gens _ c.matrix_line.ensures in
-    (c.loop-q.invariant c.args.s c.args.i c.requires step).same
 
 pub returns-then-word_at-d : goal.returns-then-word_at-d
 returns-then-word_at-d c = let step = all_lines c.args.d c.args.s.gens _ c.matrix_line.ensures in
@@ -33,12 +19,6 @@ returns-then-word_at-d c = let step = all_lines c.args.d c.args.s.gens _ c.matri
 pub overflow_cast-firsts : goal.overflow_cast-firsts
 overflow_cast-firsts c = let step = all_lines c.args.d c.args.s.gens _ c.matrix_line.ensures in
     omega (arith, running-small c.requires _ (c.loop-q.invariant c.args.s c.args.i c.requires step) c.loop-q-test.true)
-
-pub overflow_add-firsts : goal.overflow_add-firsts
-overflow_add-firsts c = omega (arith, c.requires.room, c.loop-q-test.true, c.well_formed)
-
-pub offset_bounds-firsts-at : goal.offset_bounds-firsts-at
-offset_bounds-firsts-at c = omega (arith, c.requires.room, c.loop-q-test.true, c.well_formed)
 
 pub bounds-firsts-at : goal.bounds-firsts-at
 bounds-firsts-at c = let step = all_lines c.args.d c.args.s.gens _ c.matrix_line.ensures in
@@ -51,21 +31,11 @@ overflow_add-line c = let step = all_lines c.args.d c.args.s.gens _ c.matrix_lin
     let m : c.args.s.gens * c.args.d.deg ≤ max_generators * c.args.d.deg = mul-le-mul_right c.args.d.deg c.requires.whole.few in
     omega (arith, small, m, step, c.ranges)
 
-pub overflow_add-q : goal.overflow_add-q
-overflow_add-q c = omega (arith, c.loop-q-test.true, c.requires.room, c.well_formed)
-
-pub loop-q-smaller : goal.loop-q-smaller
-loop-q-smaller c = omega (arith, c.loop-q-test.true)
-
 pub loop-q-preserved : goal.loop-q-preserved
 loop-q-preserved c = λ s i A st.
     let R = c.loop-q.invariant s i A st in
     let same : c.word_at.result ≡ c.args.d.deg = omega (arith, c.if-word_at-d.false) in
     running_more A _ R c.loop-q-test.true (sym c.word_at.ensures ∙ same) st (omega (arith, c.requires.room, c.loop-q-test.true, R.same)) refl
-
-pub shape_of-firsts : goal.shape_of-firsts
-shape_of-firsts c = let step = all_lines c.args.d c.args.s.gens _ c.matrix_line.ensures in
-    (c.loop-q.invariant c.args.s c.args.i c.requires step).same
 
 pub returns : goal.returns
 returns c = let step = all_lines c.args.d c.args.s.gens _ c.matrix_line.ensures in

@@ -1,6 +1,6 @@
 -- `run_lines` goes on as long as the degree stays.
 use mathlib.Core.Path.{◌≡◌}
-use Prim.Native.Nat.{ℕ, ◌*◌, ◌-◌}
+use Prim.Native.Nat.{ℕ, ◌*◌}
 use lib.ListN.{length}
 use Rattle.seek.specs.declared.Scope.{Scope}
 use Rattle.check_level.specs.Lines.{RunAsked}
@@ -11,6 +11,3 @@ use Rattle.check_level.proofs.run_lines.Given as goal
 abbrev pub invariant-loop-q : goal.invariant-loop-q
 invariant-loop-q l = (s : Scope) (i : ℕ) (A : RunAsked s l.words i l.d (length l.initial.firsts) l.at l.r l.reps) → l.step ≡ s.gens * l.d.deg →
     Running A l.initial.firsts l.firsts l.line l.q
-
-abbrev pub decreases-loop-q : goal.decreases-loop-q
-decreases-loop-q l = l.reps - l.q

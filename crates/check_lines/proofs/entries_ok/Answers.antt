@@ -1,17 +1,8 @@
 -- `entries_ok` meets its contract: line after line.
 use mathlib.Core.Path.{sym, ◌∙◌}
 use native.Mathlib.Omega.{arith}
-use Rattle.numbers.proofs.Tested.{tested-none, tested-more, tested-all, tested-fails}
+use Rattle.numbers.proofs.Tested.{tested-more, tested-all, tested-fails}
 use Rattle.check_lines.proofs.entries_ok.Goals as goal
-
-pub loop-c-init : goal.loop-c-init
-loop-c-init c = tested-none
-
-pub overflow_add-at : goal.overflow_add-at
-overflow_add-at c = omega (arith, c.up.ensures, c.requires, c.well_formed)
-
-pub entry_ok-requires : goal.entry_ok-requires
-entry_ok-requires c = omega (arith, c.up.ensures, c.requires)
 
 pub returns-then-not-entry_ok : goal.returns-then-not-entry_ok
 returns-then-not-entry_ok c = let entry-ok = c.entry_ok in

@@ -2,12 +2,8 @@
 use mathlib.Core.Path.{◌∙◌, ap}
 use native.Mathlib.Omega.{arith}
 use Rattle.check_lines.specs.Lines.{entry_ok}
-use Rattle.check_lines.proofs.Lines.{entry-high, entry-last}
+use Rattle.check_lines.proofs.Lines.{entry-last}
 use Rattle.check_lines.proofs.entry_ok.Goals as goal
-
-pub returns-then-d-e : goal.returns-then-d-e
-returns-then-d-e c = let entry_at = c.entry_at-e in
-    entry-high c.args.m c.args.d entry_at.result c.if-d-e.true ∙ ap (entry_ok c.args.m c.args.d) entry_at.ensures
 
 pub returns : goal.returns
 returns c = let entry_at = c.entry_at-e in

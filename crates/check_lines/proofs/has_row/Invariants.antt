@@ -1,5 +1,5 @@
 -- `has_row` meets its contract: line after line.
-use Prim.Native.Nat.{ℕ, ◌+◌, ◌-◌}
+use Prim.Native.Nat.{ℕ, ◌+◌}
 use lib.Dec.{eqb}
 use Rattle.level.specs.Stored.{entry_in}
 use Rattle.check_lines.proofs.Lines.{Missed}
@@ -7,6 +7,3 @@ use Rattle.check_lines.proofs.has_row.Given as goal
 
 abbrev pub invariant-loop-c : goal.invariant-loop-c
 invariant-loop-c l = Missed (λ (k : ℕ). eqb (entry_in l.words (l.at + k)).row l.r) l.c
-
-abbrev pub decreases-loop-c : goal.decreases-loop-c
-decreases-loop-c l = l.d - l.c

@@ -22,27 +22,19 @@ returns-then-not-entry_ok c = let a = c.args in
     (sym c.entry_ok.ensures ∙ c.if-not-entry_ok.true) in
     matrix-apart a.m T a.at a.d (sym fails)
 
-pub bounds-seen-r : goal.bounds-seen-r
-bounds-seen-r c = let low = entry-low c.args.m c.args.d _ (sym c.entry_ok.ensures ∙ c.if-not-entry_ok.false) in
-    omega (arith, low, c.requires.1, c.up-r.ensures, c.word_at.ensures)
-
-pub returns-then-seen-r-ne0 : goal.returns-then-seen-r-ne0
-returns-then-seen-r-ne0 c = let a = c.args in
+pub returns-then-seen-r : goal.returns-then-seen-r
+returns-then-seen-r c = let a = c.args in
     let T = a.words.now in
     let row = c.up-r.ensures ∙ c.word_at.ensures in
-    let missed = seen_twice T a.at c.loop-c.invariant.0 a.d (omega (arith, c.up-deg.ensures)) _ row c.if-seen-r-ne0.true in
+    let missed = seen_twice T a.at c.loop-c.invariant.0 a.d (omega (arith, c.up-deg.ensures)) _ row c.if-seen-r.true in
     matrix-missed a.m T a.at a.d (sym missed)
-
-pub bounds-seen-r-in-loop-c : goal.bounds-seen-r-in-loop-c
-bounds-seen-r-in-loop-c c = let low = entry-low c.args.m c.args.d _ (sym c.entry_ok.ensures ∙ c.if-not-entry_ok.false) in
-    omega (arith, low, c.requires.1, c.up-r.ensures, c.word_at.ensures)
 
 pub loop-c-preserved : goal.loop-c-preserved
 loop-c-preserved c = let a = c.args in
     let ok = sym c.entry_ok.ensures ∙ c.if-not-entry_ok.false in
     let low = entry-low a.m a.d _ ok in
     let row = c.up-r.ensures ∙ c.word_at.ensures in (
-      seen_more a.words.now a.at c.loop-c.invariant.0 _ row (omega (arith, low, c.requires.1, row)) (omega (arith, c.if-seen-r-ne0.false)),
+      seen_more a.words.now a.at c.loop-c.invariant.0 _ row (omega (arith, low, c.requires.1, row)) c.if-seen-r.false,
       tested-more c.loop-c.invariant.1 ok,
     )
 

@@ -1,5 +1,5 @@
 -- `refs_are` meets its contract: line after line.
-use Prim.Native.Nat.{ℕ, ◌+◌, ◌-◌}
+use Prim.Native.Nat.{ℕ, ◌+◌}
 use lib.Dec.{eqb}
 use Rattle.definitions.specs.Table.{REF, word_at}
 use Rattle.numbers.proofs.Tested.{Tested}
@@ -7,6 +7,3 @@ use Rattle.check_lines.proofs.refs_are.Given as goal
 
 abbrev pub invariant-loop-c : goal.invariant-loop-c
 invariant-loop-c l = Tested (λ (j : ℕ). eqb (word_at l.words (l.at + j) REF) l.x) l.c
-
-abbrev pub decreases-loop-c : goal.decreases-loop-c
-decreases-loop-c l = l.k - l.c

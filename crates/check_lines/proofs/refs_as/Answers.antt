@@ -2,30 +2,9 @@
 use mathlib.Core.Path.{sym, ◌∙◌}
 use native.Mathlib.Omega.{arith}
 use borrow.Author.Tests.{eq-eqb, ne_eqb}
-use Rattle.numbers.proofs.Tested.{tested-none, tested-more, tested-all, tested-fails}
+use Rattle.numbers.proofs.Tested.{tested-more, tested-all, tested-fails}
 use Rattle.check_lines.proofs.Lines.{ref-read}
 use Rattle.check_lines.proofs.refs_as.Goals as goal
-
-pub matrix_line-at-requires : goal.matrix_line-at-requires
-matrix_line-at-requires c = omega (arith, c.requires.0, c.well_formed)
-
-pub matrix_line-first-requires : goal.matrix_line-first-requires
-matrix_line-first-requires c = omega (arith, c.requires.1, c.well_formed)
-
-pub loop-c-init : goal.loop-c-init
-loop-c-init c = tested-none
-
-pub overflow_add-at : goal.overflow_add-at
-overflow_add-at c = omega (arith, c.up-k.ensures, c.matrix_line-at.ensures, c.requires.0, c.well_formed)
-
-pub word_at-requires : goal.word_at-requires
-word_at-requires c = (omega (arith, c.up-k.ensures, c.matrix_line-at.ensures, c.requires.0), omega arith)
-
-pub overflow_add-first : goal.overflow_add-first
-overflow_add-first c = omega (arith, c.up-k.ensures, c.matrix_line-first.ensures, c.requires.1, c.well_formed)
-
-pub word_at-requires-in-loop-c : goal.word_at-requires-in-loop-c
-word_at-requires-in-loop-c c = (omega (arith, c.up-k.ensures, c.matrix_line-first.ensures, c.requires.1), omega arith)
 
 pub returns-then-word_at : goal.returns-then-word_at
 returns-then-word_at c = let word-at = c.word_at in

@@ -2,16 +2,9 @@
 use mathlib.Core.Path.{sym, ◌∙◌}
 use native.Mathlib.Omega.{arith}
 use Rattle.numbers.proofs.Tested.{tested-more, tested-all, tested-fails}
-use Rattle.level.proofs.Columns.{matrix-inside}
 use Rattle.check_lines.specs.Lines.{target_ok}
-use Rattle.check_lines.proofs.Lines.{above-none, above-is}
+use Rattle.check_lines.proofs.Lines.{above-is}
 use Rattle.check_lines.proofs.targets_ok.Goals as goal
-
-pub loop-j-init : goal.loop-j-init
-loop-j-init c = (omega arith, above-none (target_ok c.args.words.now c.args.d c.args.many) c.args.i)
-
-pub target_ok-requires : goal.target_ok-requires
-target_ok-requires c = (matrix-inside c.args.d c.args.n c.loop-j.j _ (omega arith) c.requires.0, c.requires.1)
 
 pub returns-then-not-target_ok : goal.returns-then-not-target_ok
 returns-then-not-target_ok c = let loop = c.loop-j in

@@ -19,12 +19,6 @@ width-o-requires c = line-refers c.requires.1 c.loop-o.invariant (omega arith)
 pub overflow_add-o : goal.overflow_add-o
 overflow_add-o c = omega (arith, line-fits c.requires.1 c.loop-o.invariant (omega arith) c.width-o.ensures.0)
 
-pub overflow_add-count : goal.overflow_add-count
-overflow_add-count c = omega (arith, c.loop-o.invariant.few)
-
-pub loop-o-smaller : goal.loop-o-smaller
-loop-o-smaller c = omega (arith, c.width-o.ensures.1)
-
 pub loop-o-preserved : goal.loop-o-preserved
 loop-o-preserved c = let t = c.fresh_at in
     line-more c.requires.1 c.loop-o.invariant (omega arith) t.ensures (c.if-not-fresh_at.false) c.width-o.ensures.0

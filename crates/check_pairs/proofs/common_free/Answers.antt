@@ -1,12 +1,9 @@
 -- `common_free` meets its contract: the columns before c have references that e has not.
 use mathlib.Core.Path.{sym, ◌∙◌}
 use native.Mathlib.Omega.{arith}
-use Rattle.numbers.proofs.Tested.{tested-none, tested-more, tested-all, tested-fails}
+use Rattle.numbers.proofs.Tested.{tested-more, tested-all, tested-fails}
 use Rattle.check_pairs.proofs.Columns.{free_at, free-test, free-is}
 use Rattle.check_pairs.proofs.common_free.Goals as goal
-
-pub loop-c-init : goal.loop-c-init
-loop-c-init c = (omega arith, omega (arith, c.up-deg.ensures, c.requires.0), c.requires.1, tested-none)
 
 pub returns-then-not-free_of : goal.returns-then-not-free_of
 returns-then-not-free_of c = let a = c.args in

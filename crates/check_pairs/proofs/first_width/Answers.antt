@@ -8,6 +8,3 @@ returns-then-d-eq1 c = (line-narrow c.requires.1 c.if-d-eq1.true, omega arith)
 
 pub width-requires : goal.width-requires
 width-requires c = line_first c.requires.1
-
-pub returns : goal.returns
-returns c = c.width.ensures

@@ -3,12 +3,9 @@ use mathlib.Core.Path.{sym, ◌∙◌, ap}
 use mathlib.Core.Bool.{not}
 use native.Mathlib.Omega.{arith}
 use borrow.Author.Tests.{eq-eqb, ne_eqb}
-use Rattle.numbers.proofs.Tested.{tested-none, tested-more, tested-all, tested-fails}
+use Rattle.numbers.proofs.Tested.{tested-more, tested-all, tested-fails}
 use Rattle.check_pairs.specs.Pairs.{other_ref}
 use Rattle.check_pairs.proofs.free_of.Goals as goal
-
-pub loop-c-init : goal.loop-c-init
-loop-c-init c = (omega arith, omega (arith, c.up-deg.ensures, c.requires), tested-none)
 
 pub returns-then-word_at-x : goal.returns-then-word_at-x
 returns-then-word_at-x c = let a = c.args in

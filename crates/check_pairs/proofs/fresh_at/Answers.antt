@@ -1,19 +1,9 @@
 -- `fresh_at` meets its contract: the columns before o have other references.
 use mathlib.Core.Path.{◌∙◌, ap}
 use Prim.Native.Nat.{◌+◌}
-use native.Mathlib.Omega.{arith}
 use Rattle.definitions.specs.Table.{REF, word_at}
 use Rattle.check_pairs.proofs.Columns.{fresh-is}
 use Rattle.check_pairs.proofs.fresh_at.Goals as goal
-
-pub overflow_add-d : goal.overflow_add-d
-overflow_add-d c = omega (arith, c.requires, c.well_formed, c.up.ensures)
-
-pub word_at-x-requires : goal.word_at-x-requires
-word_at-x-requires c = (omega (arith, c.requires, c.up.ensures), omega arith)
-
-pub free_of-requires : goal.free_of-requires
-free_of-requires c = omega (arith, c.requires)
 
 pub returns : goal.returns
 returns c = let T = c.args.words.now in

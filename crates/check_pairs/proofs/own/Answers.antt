@@ -6,9 +6,6 @@ use Rattle.seek.proofs.Seek.{found-fits}
 use Rattle.check_pairs.proofs.Blocks.{line-one, line-inside, line-blocks}
 use Rattle.check_pairs.proofs.own.Goals as goal
 
-pub first_width-w-requires : goal.first_width-w-requires
-first_width-w-requires c = c.requires
-
 pub returns-then-w-deg : goal.returns-then-w-deg
 returns-then-w-deg c = line-one c.requires.1 c.args.p c.first_width-w.ensures.0 c.if-w-deg.true
 
@@ -24,9 +21,6 @@ word_at-requires c = let L = c.requires.1 in
 pub returns-then-word_at-w : goal.returns-then-word_at-w
 returns-then-word_at-w c = let row = c.word_at.ensures ∙ ap (λ l. word_at c.args.words.now l ROW) c.matrix_line.ensures in
     line-inside c.requires.1 c.args.p c.first_width-w.ensures.0 c.if-w-deg.false row c.if-word_at-w.true
-
-pub blocks_differ-requires : goal.blocks_differ-requires
-blocks_differ-requires c = c.requires
 
 pub returns : goal.returns
 returns c = let row = c.word_at.ensures ∙ ap (λ l. word_at c.args.words.now l ROW) c.matrix_line.ensures in

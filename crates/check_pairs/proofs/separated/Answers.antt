@@ -2,17 +2,8 @@
 use mathlib.Core.Path.{ap}
 use native.Mathlib.Omega.{arith}
 use lib.ListN.{get_or}
-use Rattle.check_pairs.proofs.Levels.{table-known, table_more, table-fails, table-holds}
+use Rattle.check_pairs.proofs.Levels.{table_more, table-fails, table-holds}
 use Rattle.check_pairs.proofs.separated.Goals as goal
-
-pub loop-i-init : goal.loop-i-init
-loop-i-init c = let a = c.args in table-known a.s a.primes.now a.words.now
-
-pub bounds-primes-up : goal.bounds-primes-up
-bounds-primes-up c = omega (arith, c.up.ensures, c.requires.1.whole.few)
-
-pub level_separated-requires : goal.level_separated-requires
-level_separated-requires c = (c.requires, omega arith)
 
 pub returns-then-not-level_separated : goal.returns-then-not-level_separated
 returns-then-not-level_separated c = let a = c.args in

@@ -1,13 +1,6 @@
 -- `stands_apart` tests one representation, and those before it.
-use native.Mathlib.Omega.{arith}
 use Rattle.check_pairs.proofs.Levels.{found-placed, placed-later, stands-fails, stands-rest}
 use Rattle.check_pairs.proofs.stands_apart.Goals as goal
-
-pub overflow_add-i : goal.overflow_add-i
-overflow_add-i c = omega (arith, c.requires.1, c.requires.0.1.whole.few)
-
-pub found-e-requires : goal.found-e-requires
-found-e-requires c = let (F, l, h) = c.requires in (F.1.whole, omega arith, omega (arith, l), h)
 
 pub own-requires : goal.own-requires
 own-requires c = let (F, l, h) = c.requires in (c.args.r, found-placed F.1 l c.found-e.ensures)

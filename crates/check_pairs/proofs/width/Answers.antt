@@ -1,18 +1,11 @@
 -- `width` meets its contract.
 use mathlib.Core.Path.{◌∙◌, ap, sym, subst}
 use Prim.Native.Nat.{◌<◌}
-use native.Mathlib.Omega.{arith}
 use lib.ListN.{length}
 use Rattle.definitions.specs.Monomial.{rep_of}
 use Rattle.definitions.specs.Table.{level_at}
 use Rattle.seek.proofs.Columns.{ref-read}
 use Rattle.check_pairs.proofs.width.Goals as goal
-
-pub overflow_add-d : goal.overflow_add-d
-overflow_add-d c = omega (arith, c.requires.there, c.well_formed, c.up.ensures)
-
-pub word_at-requires : goal.word_at-requires
-word_at-requires c = (omega (arith, c.requires.there, c.up.ensures), omega arith)
 
 pub degree_of-requires : goal.degree_of-requires
 degree_of-requires c = let T = c.args.words.now in

@@ -1,70 +1,42 @@
--- `holds_on` goes through the representations of the level, one behind the other.
-use mathlib.Core.Path.{sym, subst}
-use native.Mathlib.Numerals.{add-one}
-use native.Mathlib.Omega.{arith}
+-- `holds_on` goes through the representations of the level.
+use mathlib.Core.Path.{refl}
+use native.Mathlib.Nat.{le_refl}
 use Rattle.numbers.proofs.Passed.{passed_none, passed-more}
-use Rattle.seek.specs.Seek.{Found}
-use Rattle.seek.proofs.Seek.{whole-some}
+use Rattle.seek.proofs.Walk.{walked-none, walked-found, walked-more, walked-all}
 use Rattle.seek.proofs.Among.{told-found, level-fails, level_holds}
-use Rattle.check_relations.specs.Asked.{asked}
 use Rattle.check_relations.proofs.Everywhere.{Posing, asks}
 use Rattle.check_relations.proofs.holds_on.Goals as goal
 
-pub count_of-reps-requires : goal.count_of-reps-requires
-count_of-reps-requires c = let p = c.requires in (p.0.1.formed.whole, p.2)
+pub of-d-items-requires : goal.of-d-items-requires
+of-d-items-requires g c = let p = c.requires.there in (p.0.1.whole, p.1, p.2)
 
-pub found-d-requires : goal.found-d-requires
-found-d-requires c = let ((P, posed), l, h) = c.requires in
-    let W = posed.formed.whole in
-    (W, l, h, whole-some c.args.s c.args.words.now W c.args.i l h)
+pub loop-d-init : goal.loop-d-init
+loop-d-init g c = walked-none c.of-d-items.ensures c.into_iter-d-iterator.ensures.into_iter_gives (λ q rows primes t. passed_none)
 
-pub loop-s-init : goal.loop-s-init
-loop-s-init c = (c.found-d.ensures, passed_none)
+pub test-requires : goal.test-requires
+test-requires g c = let F = walked-found c.loop-d.invariant _ refl c.in-Some.ensures.steps in
+    let (P, formed) = c.requires.there.0 in
+    c.requires.asks c.args.i c.in-Some.d (record { presented = P; formed = formed; r = c.loop-d.d-iterator.rep; found = F })
 
-pub holds-requires : goal.holds-requires
-holds-requires c = let (P, posed) = c.requires.0 in
-    record { presented = P; formed = posed.formed; r = c.loop-s.r; found = c.loop-s.invariant.0 }
-
-pub returns-then-not-holds : goal.returns-then-not-holds
-returns-then-not-holds c = let a = c.args in
-    let t = c.holds in
-    let (F, passed) = c.loop-s.invariant in
+pub returns-then-not-test : goal.returns-then-not-test
+returns-then-not-test g c = λ q rows primes t. let a = c.args in
     let T = a.words.now in
-    let A = Posing a.s a.rows.now a.primes.now T in
-    record { is = level-fails a.s T A (asks (asked a.q) a.s T) a.i passed F t.ensures.is (c.if-not-holds.true) }
+    let F = walked-found c.loop-d.invariant _ refl c.in-Some.ensures.steps in
+    let (P, formed) = c.requires.there.0 in
+    let told = t.each a.i c.in-Some.d _ (record { presented = P; formed = formed; r = c.loop-d.d-iterator.rep; found = F }) c.test.ensures in
+    record { is = level-fails a.s T (Posing a.s rows primes T) (asks q a.s T) a.i (c.loop-d.invariant.known q rows primes t) F told.is c.if-not-test.true }
 
-pub overflow_add-r : goal.overflow_add-r
-overflow_add-r c = omega (arith, c.loop-s.invariant.0.listed, c.count_of-reps.ensures)
-
-pub returns-then-r-reps : goal.returns-then-r-reps
-returns-then-r-reps c = let a = c.args in
+pub loop-d-preserved : goal.loop-d-preserved
+loop-d-preserved g c = let a = c.args in
     let T = a.words.now in
-    let t = c.holds in
-    let (F, passed) = c.loop-s.invariant in
-    let n = c.count_of-reps.ensures in
-    let A = Posing a.s a.rows.now a.primes.now T in
-    let told = told-found a.s T A (asks (asked a.q) a.s T) a.i F t.ensures.is in
-    let more = passed-more passed told (c.if-not-holds.false) in
-    record { is = level_holds a.s T A (asks (asked a.q) a.s T) a.i more (omega (arith, c.if-r-reps.true, n)) }
+    let F = walked-found c.loop-d.invariant _ refl c.in-Some.ensures.steps in
+    let (P, formed) = c.requires.there.0 in
+    walked-more c.loop-d.invariant refl c.in-Some.ensures.steps (λ q rows primes t.
+    let told = t.each a.i c.in-Some.d _ (record { presented = P; formed = formed; r = c.loop-d.d-iterator.rep; found = F }) c.test.ensures in
+    passed-more (c.loop-d.invariant.known q rows primes t) (told-found a.s T (Posing a.s rows primes T) (asks q a.s T) a.i F told.is) c.if-not-test.false)
 
-pub following-d-requires : goal.following-d-requires
-following-d-requires c = let n = c.count_of-reps.ensures in
-    let F = c.loop-s.invariant.0 in
-    (c.requires.0.1.formed.whole, record { i = c.args.i; r = c.loop-s.r; here = F; more = omega (arith, F.listed, c.if-r-reps.false, n) })
-
-pub loop-s-smaller : goal.loop-s-smaller
-loop-s-smaller c = omega (arith, c.loop-s.invariant.0.listed)
-
-pub loop-s-preserved : goal.loop-s-preserved
-loop-s-preserved c = let a = c.args in
+pub returns : goal.returns
+returns g c = λ q rows primes t. let a = c.args in
     let T = a.words.now in
-    let t = c.holds in
-    let r = c.loop-s.r in
-    let (F, passed) = c.loop-s.invariant in
-    let n = c.count_of-reps.ensures in
-    let next = c.following-d.ensures a.i r F (omega (arith, F.listed, c.if-r-reps.false, n)) in
-    let A = Posing a.s a.rows.now a.primes.now T in
-    let told = told-found a.s T A (asks (asked a.q) a.s T) a.i F t.ensures.is in (
-      subst (λ r. Found a.s.gens T a.i r c.following-d.result) (sym (add-one r)) next,
-      passed-more passed told (c.if-not-holds.false),
-    )
+    let all = walked-all c.loop-d.invariant c.next.new.self refl c.in-None.ensures.steps in
+    record { is = level_holds a.s T (Posing a.s rows primes T) (asks q a.s T) a.i (all q rows primes t) (le_refl _) }

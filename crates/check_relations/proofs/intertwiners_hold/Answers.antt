@@ -1,7 +1,6 @@
--- `intertwiners_hold` is one of the conditions.
-use Rattle.check_relations.specs.Asked.{asked}
+-- `intertwiners_hold` lends the test of the intertwiners.
+use Rattle.definitions.specs.Judgement.{intertwiners_hold}
 use Rattle.check_relations.proofs.intertwiners_hold.Goals as goal
 
 pub returns : goal.returns
-unfolding asked
-returns c = c.holds_everywhere.ensures
+returns c = c.holds_everywhere.ensures intertwiners_hold c.args.rows.now c.args.primes.now (record { each = λ i D r A h. h.1 c.args.primes.now })

@@ -1,16 +1,13 @@
--- `first_clash` goes through the representations of the level, one behind the other.
+-- `first_clash` goes through the representations of the level.
 use mathlib.Core.Path.{◌≡◌}
-use Prim.Native.Nat.{suc, ◌-◌}
-use lib.ListN.{length}
-use Rattle.definitions.specs.Presentation.{max_order}
+use Prim.Native.Nat.{suc, ◌+◌}
 use Rattle.definitions.specs.Table.{level_at}
-use Rattle.seek.specs.Seek.{Found}
+use Rattle.seek.proofs.Walk.{Walked}
 use Rattle.claims.proofs.Claims.{Claims}
 use Rattle.claims.proofs.first_clash.Given as goal
 
-abbrev pub invariant-loop-s : goal.invariant-loop-s
-invariant-loop-s l = Found l.s.gens l.words (suc l.i) l.r l.d × Claims l.i l.p l.part (level_at l.s.gens l.words (suc l.i)) l.r l.marks l.slots
-    × (l.reps ≡ length (level_at l.s.gens l.words (suc l.i))) × (length l.marks ≡ max_order) × (length l.slots ≡ max_order)
-
-abbrev pub decreases-loop-s : goal.decreases-loop-s
-decreases-loop-s l = l.reps - l.r
+abbrev pub invariant-loop-r : goal.invariant-loop-r
+invariant-loop-r l = record {
+  walked : Walked l.fn.s l.words (l.i + 1) (λ r. Claims l.i l.p l.part (level_at l.fn.s.gens l.words (suc l.i)) r l.marks l.slots) l.r-iterator.iter;
+  counted : l.r-iterator.count ≡ l.r-iterator.iter.rep;
+}

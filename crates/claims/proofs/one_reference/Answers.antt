@@ -3,13 +3,10 @@ use mathlib.Core.Path.{◌≡◌, subst}
 use mathlib.Core.Bool.{true, false}
 use native.Mathlib.Omega.{arith}
 use Rattle.definitions.specs.Table.{rep_at}
-use Rattle.numbers.proofs.Tested.{tested-none, tested-more, tested-all, tested-fails}
+use Rattle.numbers.proofs.Tested.{tested-more, tested-all, tested-fails}
 use Rattle.claims.specs.Claims.{one_reference}
 use Rattle.claims.proofs.Claims.{same-reference, other-reference}
 use Rattle.claims.proofs.one_reference.Goals as goal
-
-pub loop-c-init : goal.loop-c-init
-loop-c-init c = (omega arith, omega (arith, c.up-deg.ensures), c.word_at-first.ensures, tested-none)
 
 pub returns-then-word_at-first : goal.returns-then-word_at-first
 returns-then-word_at-first c = let a = c.args in

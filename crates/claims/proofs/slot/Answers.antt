@@ -12,10 +12,6 @@ product x y f p a b l k =
     let k' : p ≤ 4294967295 = omega arith in
     (ap₂ (λ x y. x * y) a b, mul-le-mul l' k')
 
-pub overflow_mul-result : goal.overflow_mul-result
-overflow_mul-result c = let (e, h) = product _ _ c.args.f c.args.p c.up.ensures c.up-2.ensures (omega (arith, c.well_formed)) (omega (arith, c.well_formed)) in
-    omega (arith, e, h)
-
 pub overflow_add-result : goal.overflow_add-result
 overflow_add-result c = let u = c.up.ensures in
     let (e, h) = product _ _ c.args.f c.args.p u c.up-2.ensures (omega (arith, c.well_formed)) (omega (arith, c.well_formed)) in

@@ -1,10 +1,7 @@
 -- `all_carried` tests the generators of the level one by one.
 use native.Mathlib.Omega.{arith}
-use Rattle.numbers.proofs.Passed.{passed_none, passed-more, passed-all, passed-fails}
+use Rattle.numbers.proofs.Passed.{passed-more, passed-all, passed-fails}
 use Rattle.relations.proofs.all_carried.Goals as goal
-
-pub loop-k-init : goal.loop-k-init
-loop-k-init c = passed_none
 
 pub returns-then-not-carried : goal.returns-then-not-carried
 returns-then-not-carried c = let t = c.carried in

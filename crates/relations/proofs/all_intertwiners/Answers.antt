@@ -2,12 +2,8 @@
 use mathlib.Core.Path.{◌∙◌}
 use native.Mathlib.Omega.{arith}
 use Rattle.numbers.proofs.Passed.{passed-more, passed-all, passed-fails}
-use Rattle.relations.proofs.Intertwiners.{before-level, from-level, intertwiners-all}
+use Rattle.relations.proofs.Intertwiners.{from-level, intertwiners-all}
 use Rattle.relations.proofs.all_intertwiners.Goals as goal
-
-pub loop-j-init : goal.loop-j-init
-loop-j-init c = let a = c.args in
-    (omega arith, record { tested = λ P S. record { each = before-level a.s a.words.now a.d P a.i } })
 
 pub returns-then-not-intertwiner : goal.returns-then-not-intertwiner
 returns-then-not-intertwiner c = λ P S.

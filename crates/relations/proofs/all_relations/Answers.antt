@@ -1,12 +1,9 @@
 -- `all_relations` tests the generators one by one.
 use mathlib.Core.Path.{◌∙◌}
 use native.Mathlib.Omega.{arith}
-use Rattle.numbers.proofs.Passed.{passed_none, passed-more, passed-all, passed-fails}
+use Rattle.numbers.proofs.Passed.{passed-all, passed-fails}
 use Rattle.relations.proofs.Relations.{relations-top}
 use Rattle.relations.proofs.all_relations.Goals as goal
-
-pub loop-j-init : goal.loop-j-init
-loop-j-init c = passed_none
 
 pub returns-then-not-top_relations : goal.returns-then-not-top_relations
 returns-then-not-top_relations c = λ P R.
@@ -14,10 +11,6 @@ returns-then-not-top_relations c = λ P R.
     let a = c.args in
     passed-fails c.loop-j.invariant (omega arith) t.ensures (c.if-not-top_relations.true) P R
     ∙ relations-top a.s a.words.now a.d P a.i
-
-pub loop-j-preserved : goal.loop-j-preserved
-loop-j-preserved c = let t = c.top_relations in
-    passed-more c.loop-j.invariant t.ensures (c.if-not-top_relations.false)
 
 pub returns : goal.returns
 returns c = λ P R.

@@ -3,7 +3,7 @@ use mathlib.Core.Path.{◌∙◌, ap}
 use Prim.Native.Nat.{◌+◌}
 use native.Mathlib.Numerals.{add-one}
 use native.Mathlib.Omega.{arith}
-use Rattle.relations.proofs.Kept.{kept-stored, kept-column, commutator-moved}
+use Rattle.relations.proofs.Kept.{entries-same, kept-stored, kept-column, commutator-moved}
 use Rattle.relations.proofs.Single.{single-commutator}
 use Rattle.relations.proofs.commutator_at.Goals as goal
 
@@ -20,16 +20,6 @@ returns-then-d-eq1 c = λ P is.
     single-commutator K c.if-d-eq1.true P a.k a.j a.c k j h a.w.now is _ c.walked-t.result n c.walked-t.ensures.0
     c.walked-t.ensures.1
 
-pub moved-y-requires : goal.moved-y-requires
-moved-y-requires c = let (K, k, j, h) = c.requires in (kept-stored K _ j, kept-column K _ h)
-
-pub moved-requires : goal.moved-requires
-moved-requires c = let (K, k, j, h) = c.requires in (kept-stored K _ k, c.moved-y.ensures.1)
-
-pub moved-requires-2 : goal.moved-requires-2
-moved-requires-2 c = let (K, k, j, h) = c.requires in
-    (kept-stored K _ j, c.conjugated-z.ensures.below)
-
 pub returns : goal.returns
 returns c = λ P is.
     let b = c.moved-2 in
@@ -37,6 +27,6 @@ returns c = λ P is.
     let z = c.conjugated-z in
     let y = c.moved-y in
     let x = c.args in
-    c.same_entry.ensures
+    c.eq.ensures ∙ entries-same _ _
     ∙ commutator-moved x.s.m x.words.now x.d P x.k x.j x.c x.w.now y.result z.result a.result b.result
     y.ensures.0 z.ensures is a.ensures.0 b.ensures.0

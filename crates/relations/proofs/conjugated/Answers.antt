@@ -8,10 +8,6 @@ walked-y-requires c = let (K, l, h) = c.requires in
     let e = c.up.ensures in
     (omega (arith, K.few), kept-stored K _ (omega arith), kept-column K _ h)
 
-pub moved-requires : goal.moved-requires
-moved-requires c = let (K, l, h) = c.requires in
-    (kept-stored K _ l, c.walked-y.ensures.1)
-
 pub returns : goal.returns
 returns c = let a = c.args in
     let w = c.walked-y in

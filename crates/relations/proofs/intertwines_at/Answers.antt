@@ -1,14 +1,9 @@
 -- `intertwines_at` moves a column both ways, or where the degree is 1 compares exponents.
 use mathlib.Core.Path.{◌∙◌, sym, subst}
-use Prim.Native.Nat.{◌<◌}
 use Rattle.level.specs.Stored.{Below}
-use Rattle.relations.proofs.Kept.{kept-stored, kept-column, intertwiner-moved}
+use Rattle.relations.proofs.Kept.{entries-same, kept-stored, intertwiner-moved}
 use Rattle.relations.proofs.Single.{single-intertwiner}
 use Rattle.relations.proofs.intertwines_at.Goals as goal
-
-pub moved-u-requires : goal.moved-u-requires
-moved-u-requires c = let (K, L, e, k, j, h) = c.requires in
-    (kept-stored L _ k, kept-column L _ (subst (λ d. c.args.c < d) (sym e) h))
 
 pub returns-then-d-eq1 : goal.returns-then-d-eq1
 returns-then-d-eq1 c = λ P is.
@@ -16,13 +11,6 @@ returns-then-d-eq1 c = λ P is.
     let (K, L, e, k, j, h) = c.requires in
     single-intertwiner K c.if-d-eq1.true P a.k a.j a.c k j h a.w.now is L e c.moved-u.result c.conjugated-t.result
     c.conjugated-t.ensures c.moved-u.ensures.0
-
-pub moved-y-requires : goal.moved-y-requires
-moved-y-requires c = let (K, L, e, k, j, h) = c.requires in (kept-stored K _ j, kept-column K _ h)
-
-pub moved-requires : goal.moved-requires
-moved-requires c = let (K, L, e, k, j, h) = c.requires in
-    (kept-stored K _ j, c.conjugated-z.ensures.below)
 
 pub moved-requires-2 : goal.moved-requires-2
 moved-requires-2 c = let (K, L, e, k, j, h) = c.requires in
@@ -36,6 +24,6 @@ returns c = λ P is.
     let z = c.conjugated-z in
     let y = c.moved-y in
     let x = c.args in
-    c.same_entry.ensures
+    c.eq.ensures ∙ entries-same _ _
     ∙ intertwiner-moved x.s.m x.words.now x.d P x.k x.j x.c x.w.now y.result z.result a.result b.result
     y.ensures.0 z.ensures is x.e a.ensures.0 b.ensures.0

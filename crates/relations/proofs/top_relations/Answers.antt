@@ -1,7 +1,7 @@
 -- `top_relations` tests the power relation, then the commutator relations one by one.
 use mathlib.Core.Path.{◌∙◌}
 use native.Mathlib.Omega.{arith}
-use Rattle.numbers.proofs.Passed.{passed_none, passed-more, passed-all, passed-fails}
+use Rattle.numbers.proofs.Passed.{passed-more, passed-all, passed-fails}
 use Rattle.relations.proofs.Relations.{word_read, top-fails, top-rest}
 use Rattle.relations.proofs.top_relations.Goals as goal
 
@@ -10,9 +10,6 @@ returns-then-not-power_relation c = λ P R.
     let t = c.power_relation in
     let a = c.args in
     top-fails a.s a.words.now a.d P a.j (t.ensures P R) (c.if-not-power_relation.true)
-
-pub loop-k-init : goal.loop-k-init
-loop-k-init c = passed_none
 
 pub returns-then-not-commutator_relation : goal.returns-then-not-commutator_relation
 returns-then-not-commutator_relation c = λ P R.

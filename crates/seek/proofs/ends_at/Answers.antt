@@ -1,23 +1,12 @@
 -- `ends_at` looks at a line and at the one before it.
 use mathlib.Core.Path.{sym, ◌∙◌}
-use mathlib.Core.Bool.{false≢true}
 use Prim.Native.Nat.{◌-◌}
 use native.Mathlib.Omega.{arith}
-use Rattle.seek.proofs.Halves.{line-there, split-first, split-behind}
+use Rattle.seek.proofs.Halves.{line-there, split-behind}
 use Rattle.seek.proofs.ends_at.Goals as goal
-
-pub returns-then-lines-x : goal.returns-then-lines-x
-returns-then-lines-x c = λ h. absurd (false≢true h)
 
 pub stands_before-requires : goal.stands_before-requires
 stands_before-requires c = line-there c.args.words.now c.args.x (omega (arith, c.requires.0))
-
-pub returns-then-stands_before : goal.returns-then-stands_before
-returns-then-stands_before c = λ h. absurd (false≢true h)
-
-pub returns-then-x-eq0 : goal.returns-then-x-eq0
-returns-then-x-eq0 c = let a = c.args in
-    λ h. split-first a.words.now a.i a.r a.x c.requires.1 (sym c.stands_before.ensures ∙ c.if-stands_before.false) c.if-x-eq0.true
 
 pub stands_before-requires-2 : goal.stands_before-requires-2
 stands_before-requires-2 c = line-there c.args.words.now _ (omega (arith, c.requires.0))

@@ -2,11 +2,8 @@
 use mathlib.Core.Path.{sym, ◌∙◌}
 use Prim.Native.Nat.{◌+◌, ◌-◌, ◌/◌}
 use native.Mathlib.Omega.{arith}
-use Rattle.seek.proofs.Halves.{line-there, halved_none, halved-low, halved-high, halved-all}
+use Rattle.seek.proofs.Halves.{line-there, halved-low, halved-high, halved-all}
 use Rattle.seek.proofs.find.Goals as goal
-
-pub loop-lo-init : goal.loop-lo-init
-loop-lo-init c = let a = c.args in halved_none a.words.now a.i a.r a.lines c.requires.0
 
 pub stands_before-requires : goal.stands_before-requires
 stands_before-requires c = line-there c.args.words.now (c.loop-lo.lo + (c.loop-lo.hi - c.loop-lo.lo) / 2) (omega (arith, c.loop-lo.invariant.inside))

@@ -11,4 +11,4 @@ word_at-deg-requires c = (line-there c.args.words.now c.args.near (omega (arith,
 
 pub onward-requires : goal.onward-requires
 onward-requires c = let l = line-there c.args.words.now c.args.near (omega (arith, c.requires.lines_are)) in
-    (omega (arith, l, c.well_formed), c.stride.ensures)
+    (omega (arith, l, c.well_formed), c.in_ok-stride.ensures)

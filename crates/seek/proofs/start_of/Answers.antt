@@ -3,12 +3,6 @@ use native.Mathlib.Omega.{arith}
 use Rattle.seek.proofs.Seek.{whole-some}
 use Rattle.seek.proofs.start_of.Goals as goal
 
-pub returns-then-i-eq0 : goal.returns-then-i-eq0
-returns-then-i-eq0 c = let t = c.if-i-eq0.true in λ p. absurd (omega (arith, t, p))
-
 pub found-d-requires : goal.found-d-requires
 found-d-requires c = let (W, l) = c.requires in
     (W, omega (arith, c.if-i-eq0.false), l, whole-some c.args.s c.args.words.now W c.args.i (omega (arith, c.if-i-eq0.false)) l)
-
-pub returns : goal.returns
-returns c = λ p. c.found-d.ensures.line
