@@ -1,14 +1,10 @@
 -- Rows whose commutator words are empty.
 --
---   empty_words_of rows j    those of generator j with the generators below it
 --   rows_empty rows n        the word of every pair of the first n generators is
 use Rattle.std.specs.Prelude.{ℕ, suc, Bool, List, [], get_or}
 use Rattle.definitions.specs.Lists.{all_below}
 use Rattle.definitions.specs.Presentation.{pair_number}
 use Rattle.commuting.specs.Commuting.{empty_at}
 
-abbrev pub empty_words_of : (rows : List (List ℕ)) (j : ℕ) → Bool
-empty_words_of rows j = all_below j (λ i. empty_at (suc i) (get_or rows (pair_number j i) []))
-
 abbrev pub rows_empty : (rows : List (List ℕ)) (n : ℕ) → Bool
-rows_empty rows n = all_below n (empty_words_of rows)
+rows_empty rows n = all_below n (λ j. all_below j (λ i. empty_at (suc i) (get_or rows (pair_number j i) [])))
