@@ -3,3 +3,4 @@ pub mod Cases
 pub mod Mixed
 pub mod Parsed
 pub mod Part
+pub mod Walk

@@ -2,12 +2,14 @@
 //
 //   find, behind               the first position of a byte; the position after one
 //   Case, case_at              where the text of a case begins and ends, and where the next case begins
+//   Input                      the cases of an input, one after the other
 //   lent                       how much of a buffer is lent
 //   mix_words, mix_bytes       a sum over a whole buffer
 //   parse                      words in bytes
 #![tactic(auto)]
 
 ghost use Rattle.std.specs.Prelude.{◌≡◌, cond, suc, ◌<◌, ◌≤◌, length};
+ghost use Rattle.std.specs.Iterator.{at_most};
 ghost use Rattle.case_input.specs.Cases.{found, after, CaseAt};
 ghost use Rattle.case_input.specs.Mixed.{mixed, mixed_to};
 ghost use Rattle.case_input.specs.Part.{Part};
@@ -58,6 +60,41 @@ pub fn case_at(input: &[u8], at: usize) -> Case
     let end = find(input, text, 12);
     let next = behind(input, end);
     Case { text, end, next }
+}
+
+// The cases of an input, one after the other: the line and the text of each.
+#[derive(Drop)]
+pub struct Input<'a> {
+    rest: &'a [u8],
+}
+
+impl<'a> Input<'a> {
+    // All of them.
+    pub fn new(input: &'a [u8]) -> Self
+        ensures { result.rest.now ≡ input.now }
+    {
+        Input { rest: input }
+    }
+}
+
+impl<'a> Iterator for Input<'a> {
+    type Item = (&'a [u8], &'a [u8]);
+
+    ghost use Rattle.case_input.specs.Walk.{GivesCase};
+
+    ghost next_gives = { GivesCase };
+
+    ghost remaining = { λ a. at_most (length a.rest.now) };
+
+    fn next(&mut self) -> Option<(&'a [u8], &'a [u8])> {
+        let rest = self.rest;
+        if rest.is_empty() {
+            return None;
+        }
+        let c = case_at(rest, 0);
+        self.rest = &rest[c.next..];
+        Some((&rest[..c.text], &rest[c.text..c.end]))
+    }
 }
 
 // The number, or how many elements a buffer has if that is less.

@@ -5,27 +5,21 @@
 // comes last. The words take 14.7 megabytes of the stack.
 //
 //   INPUT, WORDS             bytes that are read, and words that are lent
-//   print                    a number
 //   Told                     what is printed of a text
 //   check_first_lines        so many lines, checked
 //   build_checked            a table, built and checked
-//   answer, answer_at, answer_all     a case, the one at a position, and all of them
+//   answer                   a case
 #![tactic(auto)]
 
-ghost use Rattle.std.specs.Prelude.{◌<◌, ◌≤◌, length};
-
+use case_input::Input;
 use results::Refusal;
+use std::io::Write;
 
 // Bytes of the standard input, at most.
 const INPUT: usize = 65536;
 
 // What fourteen generators of prime 2 want: eight words of a line, fourteen generators, and 32,766 columns.
 const WORDS: usize = 3669792;
-
-fn print(number: u64) {
-    io::print_decimal(1, number);
-    io::write_all(1, b" ");
-}
 
 // What a build answers, a sum over all words, and the answer to the check of the counted lines.
 #[derive(Clone, Copy)]
@@ -52,35 +46,21 @@ fn build_checked(text: &[u8]) -> Told {
     Told { made, sum, checked }
 }
 
-fn answer(line: &[u8], text: &[u8]) {
+fn answer(rt: &HostRuntime, line: &[u8], text: &[u8]) -> std::io::Result<()> {
     let t = build_checked(text);
-    print(u64::from(results::answer(&t.made)));
-    print(t.made.unwrap_or(0) as u64);
-    print(u64::from(t.sum));
-    print(u64::from(results::answer(&t.checked)));
-    io::write_all(1, b"| ");
-    io::write_all(1, line);
+    let number = results::answer(&t.made);
+    let lines = t.made.unwrap_or(0);
+    let sum = t.sum;
+    let checked = results::answer(&t.checked);
+    print!(rt; "{number} {lines} {sum} {checked} | ")?;
+    rt.stdout().write_all(line)
 }
 
-// The case from `at` on; the position behind it.
-fn answer_at(input: &[u8], at: usize) -> usize
-    requires { at < length input.now }
-    ensures { (at < result) × (result ≤ length input.now) }
-{
-    let c = case_input::case_at(input, at);
-    answer(&input[at..c.text], &input[c.text..c.end]);
-    c.next
-}
-
-fn answer_all(input: &[u8]) {
-    let mut at: usize = 0;
-    while at < input.len() {
-        at = answer_at(input, at);
-    }
-}
-
-fn main() {
+fn main(rt: HostRuntime) -> std::io::Result<()> {
     let mut input = [0u8; INPUT];
     let n = io::read_full(0, &mut input);
-    answer_all(&input[..n]);
+    for (line, text) in Input::new(&input[..n]) {
+        answer(&rt, line, text)?;
+    }
+    Ok(())
 }
