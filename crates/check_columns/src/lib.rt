@@ -35,12 +35,7 @@ fn commutes_at(words: &[u32], s: Scope, d: Listed, e: Listed, i: u32, j: u32, c:
         return z.exp == t.exp;
     }
     let y = level::moved(words, d, j, x, s.m);
-    let a = level::moved(words, d, j, z, s.m);
-    let b = level::moved(words, e, i, y, s.m);
-    if a.row != b.row {
-        return false;
-    }
-    a.exp == b.exp
+    level::moved(words, d, j, z, s.m) == level::moved(words, e, i, y, s.m)
 }
 
 // So in every v-th column.
@@ -49,12 +44,10 @@ fn commutes(words: &[u32], s: Scope, d: Listed, e: Listed, i: u32, j: u32, v: u3
     ensures { result ≡ true → (P : Presentation) → WordOf i j [] P → Carries s words.now d e i j v P }
 {
     let deg = d.deg;
-    let mut o: u32 = 0;
-    while o < deg {
+    for o in (0..deg).step_by(level::up(v)) {
         if !commutes_at(words, s, d, e, i, j, o) {
             return false;
         }
-        o += v;
     }
     true
 }
@@ -66,12 +59,10 @@ fn carries(words: &[u32], s: Scope, d: Listed, e: Listed, i: u32, j: u32, w: &Ro
     ensures { result ≡ true → (P : Presentation) → WordOf i j w.now P → Carries s words.now d e i j v P }
 {
     let deg = d.deg;
-    let mut o: u32 = 0;
-    while o < deg {
+    for o in (0..deg).step_by(level::up(v)) {
         if !relations::intertwines_at(words, s, d, e, i, j, w, o) {
             return false;
         }
-        o += v;
     }
     true
 }

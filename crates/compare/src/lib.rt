@@ -13,7 +13,7 @@
 //   width, proper, rep_fits           all blocks of a representation
 #![tactic(auto)]
 
-ghost use Rattle.std.specs.Prelude.{◌≡◌, true, ◌+◌, ◌*◌, ◌/◌, ◌≤◌, ◌<◌, length, get_or};
+ghost use Rattle.std.specs.Prelude.{◌≡◌, true, IfSome, ◌+◌, ◌*◌, ◌/◌, ◌≤◌, ◌<◌, length, get_or};
 ghost use Rattle.level.specs.Stored.{entry_in, Holds, listed_in};
 ghost use Rattle.compare.specs.Shifted.{LineShifted, Shifted, LineSame, LinesSame};
 ghost use Rattle.compare.specs.Staged.{Staged};
@@ -74,13 +74,11 @@ fn lines_shifted(words: &[u32], at: usize, src: usize, d: u32, t: Shift, m: u32)
     requires { (8 * (at + d) ≤ length words.now) × Holds m words.now src d × (t.exp < m) × (t.row + d < 4294967296) }
     ensures { result ≡ true → Shifted m words.now at src d t }
 {
-    let mut c: u32 = 0;
-    while c < d {
+    for c in 0..d {
         let k = level::up(c);
         if !line_shifted(words, at + k, src + k, t, m) {
             return false;
         }
-        c += 1;
     }
     true
 }
@@ -101,13 +99,11 @@ pub fn lines_same(words: &[u32], at: usize, src: usize, n: u32, x: u32) -> bool
     requires { (8 * (at + n) ≤ length words.now) × (8 * (src + n) ≤ length words.now) }
     ensures { result ≡ true → LinesSame words.now at src n x }
 {
-    let mut k: u32 = 0;
-    while k < n {
+    for k in 0..n {
         let c = level::up(k);
         if !line_same(words, at + c, src + c, x) {
             return false;
         }
-        k += 1;
     }
     true
 }
@@ -254,27 +250,27 @@ fn block_fits(words: &[u32], firsts: &[u32], s: Scope, g: Stage, d: Listed, o: u
 
 // ---- One representation
 
-// The width of the blocks of d, where it is one block, or p blocks of which the generator on top moves the first; else 0.
-fn width(words: &[u32], firsts: &[u32], s: Scope, g: Stage, d: Listed) -> u32
+// The width of the blocks of d, where it is one block, or p blocks of which the generator on top moves the first.
+fn width(words: &[u32], firsts: &[u32], s: Scope, g: Stage, d: Listed) -> Option<u32>
     requires { Staged s words.now firsts.now g × Present s words.now d }
-    ensures { ¬ (result ≡ 0) → Wide s words.now g d result }
+    ensures { IfSome result (λ w. Wide s words.now g d w) }
 {
     let x = level::word_at(words, d.line, level::REF);
     let r = level::up(x);
     if g.below <= r {
-        return 0;
+        return None;
     }
     let f = rep_at(words, firsts, g.low + r);
     if f.deg == d.deg {
-        return f.deg;
+        return Some(f.deg);
     }
     if level::up(g.p) * level::up(f.deg) != level::up(d.deg) {
-        return 0;
+        return None;
     }
     if level::word_at(words, level::matrix_line(f, g.top), level::REF) == x {
-        return 0;
+        return None;
     }
-    f.deg
+    Some(f.deg)
 }
 
 // The matrices of d are matrices, where it is not one block of width w: one block is compared with matrices.
@@ -293,20 +289,17 @@ pub fn rep_fits(words: &[u32], firsts: &[u32], s: Scope, g: Stage, d: Listed) ->
     requires { Staged s words.now firsts.now g × Present s words.now d }
     ensures { result ≡ true → RepFits s words.now g d }
 {
-    let w = width(words, firsts, s, g, d);
-    if w == 0 {
+    let Some(w) = width(words, firsts, s, g, d) else {
         return false;
-    }
+    };
     if !proper(words, s, d, w) {
         return false;
     }
     let deg = d.deg;
-    let mut o: u32 = 0;
-    while o < deg {
+    for o in (0..deg).step_by(level::up(w)) {
         if !block_fits(words, firsts, s, g, d, o, w) {
             return false;
         }
-        o += w;
     }
     true
 }

@@ -5,6 +5,3 @@ use Rattle.check_columns.proofs.carries.Given as goal
 
 abbrev pub invariant-loop-o : goal.invariant-loop-o
 invariant-loop-o l = Carrying l.s l.words l.d l.e l.i l.j l.w l.v l.o
-
-abbrev pub decreases-loop-o : goal.decreases-loop-o
-decreases-loop-o l = l.deg - l.o

@@ -15,12 +15,6 @@ commutes_at-requires c = let (K, L, e, i, j, v, n, d) = c.requires in
 pub returns-then-not-commutes_at : goal.returns-then-not-commutes_at
 returns-then-not-commutes_at c = λ e. absurd (false≢true e)
 
-pub overflow_add-o : goal.overflow_add-o
-overflow_add-o c = omega (arith, c.requires.6, c.requires.7)
-
-pub loop-o-smaller : goal.loop-o-smaller
-loop-o-smaller c = omega (arith, c.requires.5)
-
 pub loop-o-preserved : goal.loop-o-preserved
 loop-o-preserved c = let t = c.commutes_at in
     carrying-more c.loop-o.invariant (λ P z. sym (t.ensures P z) ∙ c.if-not-commutes_at.false)

@@ -5,6 +5,3 @@ use Rattle.compare.proofs.lines_shifted.Given as goal
 
 abbrev pub invariant-loop-c : goal.invariant-loop-c
 invariant-loop-c l = Shifting l.m l.words l.at l.src l.t l.c
-
-abbrev pub decreases-loop-c : goal.decreases-loop-c
-decreases-loop-c l = l.d - l.c

@@ -5,6 +5,3 @@ use Rattle.compare.proofs.rep_fits.Given as goal
 
 abbrev pub invariant-loop-o : goal.invariant-loop-o
 invariant-loop-o l = Blocking l.s l.words l.g l.d l.w l.o
-
-abbrev pub decreases-loop-o : goal.decreases-loop-o
-decreases-loop-o l = l.deg - l.o

@@ -13,9 +13,6 @@ pub word_at-x-requires : goal.word_at-x-requires
 word_at-x-requires c = let I = c.requires.1 in
     (omega (arith, inside-matrix I 0 c.requires.0.whole.some, I.positive), omega arith)
 
-pub returns-then-g-r : goal.returns-then-g-r
-returns-then-g-r c = λ n. absurd (n refl)
-
 pub overflow_add-g : goal.overflow_add-g
 overflow_add-g c = omega (arith, low-place c.requires.0 c.up-r.result (omega (arith, c.if-g-r.false)), c.well_formed)
 
@@ -23,7 +20,7 @@ pub rep_at-f-requires : goal.rep_at-f-requires
 rep_at-f-requires c = low-place c.requires.0 c.up-r.result (omega (arith, c.if-g-r.false))
 
 pub returns-then-f-d : goal.returns-then-f-d
-returns-then-f-d c = λ n.
+returns-then-f-d c =
     record {
       first = c.rep_at-f.result;
       found = low-at c.requires.0 c.up-r.result (omega (arith, c.if-g-r.false)) c.rep_at-f.ensures (c.up-r.ensures ∙ c.word_at-x.ensures);
@@ -38,9 +35,6 @@ overflow_mul-up c = let S = c.requires.0 in
     let q : c.up.result * c.up-2.result ≤ c.up.result * 16777216 = mul-le-mul_left c.up.result n in
     omega (arith, q, c.up.ensures)
 
-pub returns-then-up : goal.returns-then-up
-returns-then-up c = λ n. absurd (n refl)
-
 pub matrix_line-requires : goal.matrix_line-requires
 matrix_line-requires c = let S = c.requires.0 in
     let F = low-at S c.up-r.result (omega (arith, c.if-g-r.false)) c.rep_at-f.ensures c.up-r.ensures in
@@ -51,11 +45,8 @@ word_at-requires c = let S = c.requires.0 in
     let F = low-at S c.up-r.result (omega (arith, c.if-g-r.false)) c.rep_at-f.ensures c.up-r.ensures in
     (omega (arith, inside-matrix (found_inside S.whole S.short F) c.args.g.top S.level.1, F.positive, c.matrix_line.ensures), omega arith)
 
-pub returns-then-word_at-x : goal.returns-then-word_at-x
-returns-then-word_at-x c = λ n. absurd (n refl)
-
 pub returns : goal.returns
-returns c = λ n.
+returns c =
     let a = c.args in
     let T = a.words.now in
     record {
