@@ -1,11 +1,10 @@
 -- `heads_behind` meets its contract: what is left to walk says what the whole walk says.
-use mathlib.Core.Path.{◌≡◌, sym, ◌∙◌, ap, subst}
+use mathlib.Core.Path.{◌≡◌, sym, ◌∙◌, subst}
 use mathlib.Core.Bool.{true}
 use Prim.Native.Nat.{◌*◌, ◌≤◌, ◌<◌}
 use native.Mathlib.Omega.{arith}
 use Rattle.definitions.specs.Table.{line_count}
-use Rattle.seek.proofs.Halves.{line-there, lines-there}
-use Rattle.check_heads.specs.declared.Place.{Place}
+use Rattle.seek.proofs.Halves.{line-there}
 use Rattle.check_heads.specs.Places.{orders_in, place_ok}
 use Rattle.check_heads.proofs.Places.{Stepped, opened-stepped, stepped-more, stepped-inside, stepped-forth}
 use Rattle.check_heads.proofs.Places.{stepped-fails, stepped-short, stepped-all, uneven}
@@ -27,19 +26,12 @@ none c = omega (arith, c.requires.0.lines_are, c.loop-p-test.false)
 pub returns-then-words-ne0 : goal.returns-then-words-ne0
 returns-then-words-ne0 c = let a = c.args in uneven a.s.gens a.words.now (orders_in a.orders.now) c.if-words-ne0.true
 
-pub overflow_mul-p : goal.overflow_mul-p
-overflow_mul-p c = let room = subst (λ n. c.args.k * n ≤ line_count c.args.words.now) (sym c.up.ensures) c.requires.1.room in
-    omega (arith, lines-there c.args.words.now (c.args.k * c.up.result) room, c.well_formed)
-
 pub loop-p-init : goal.loop-p-init
 loop-p-init c = subst (λ n. Stepped c.args.s.gens c.args.words.now (orders_in c.args.orders.now) (record { line = c.args.k * n; level = 1; rep = c.args.k }))
     (sym c.up.ensures) (opened-stepped c.requires.0.some c.requires.1)
 
 pub turned-t-requires : goal.turned-t-requires
 turned-t-requires c = (line-there _ _ (more c), omega (arith, c.loop-p.invariant.levels, c.requires.0.few))
-
-pub place_ok-requires : goal.place_ok-requires
-place_ok-requires c = (c.requires.0, omega (arith, c.loop-p-test.true, ap (λ (t : Place). t.line) c.turned-t.ensures))
 
 pub returns-then-not-place_ok : goal.returns-then-not-place_ok
 returns-then-not-place_ok c = stepped-fails _ _ _ _ _ c.loop-p.invariant (more (goal.at.returns-then-not-place_ok c).In-loop-p) c.turned-t.ensures

@@ -4,7 +4,7 @@ use Prim.Native.Nat.{◌*◌, ◌≤◌}
 use native.Mathlib.Omega.{arith}
 use Rattle.numbers.proofs.Bools.{refuted}
 use Rattle.check_heads.specs.Places.{orders_in}
-use Rattle.check_heads.proofs.Places.{size-told, size-last, size_fits}
+use Rattle.check_heads.proofs.Places.{size-told, size-last}
 use Rattle.check_heads.proofs.size_ok.Goals as goal
 
 pub returns-then-s-p : goal.returns-then-s-p
@@ -18,10 +18,6 @@ returns-then-up-times c = let up2 = c.up in
     let ord = orders_in c.args.orders.now in
     let e = ap ord c.up-i.ensures in
     refuted _ (λ h. omega (arith, e, up2.ensures, c.times.ensures, (size-told c.args.s ord c.args.p c.args.d h).square))
-
-pub overflow_add-result : goal.overflow_add-result
-overflow_add-result c = let fits = size_fits c.args.s c.args.p c.args.d c.requires.0 c.requires.1 c.requires.2 (omega (arith, c.ranges)) in
-    omega (arith, fits, c.times-2.ensures)
 
 pub returns : goal.returns
 returns c = let times2 = c.times-2 in
