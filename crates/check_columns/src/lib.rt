@@ -35,7 +35,9 @@ fn commutes_at(words: &[u32], s: Scope, d: Listed, e: Listed, i: u32, j: u32, c:
         return z.exp == t.exp;
     }
     let y = level::moved(words, d, j, x, s.m);
-    level::moved(words, d, j, z, s.m) == level::moved(words, e, i, y, s.m)
+    let a = level::moved(words, d, j, z, s.m);
+    let b = level::moved(words, e, i, y, s.m);
+    a == b
 }
 
 // So in every v-th column.

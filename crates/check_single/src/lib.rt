@@ -2,14 +2,14 @@
 // any degree by the same call. The tests are part of the fast acceptance test, and by design sound but not complete: `true` implies the
 // condition, `false` implies nothing. `checker::judge` is exact.
 //
-//   SMALL, NONE, lines_value     lines that are those of a representation below, and the value of a word on them
+//   SMALL, lines_value           lines that are those of a representation below, and the value of a word on them
 //   single_takes, single_led, singles_led     the generator on top and those above it, on a representation of degree 1
 //   single_value                 a representation of degree 1, compared with those below, and the value of the power word
 //   times, single_power          an exponent, several times, and the power relation of the generator on top
 //   rep_passes                   both of a representation of any degree
 #![tactic(auto)]
 
-ghost use Rattle.std.specs.Prelude.{◌≡◌, true, ℕ, suc, ◌+◌, ◌*◌, ◌%◌, ◌≤◌, ◌<◌, length};
+ghost use Rattle.std.specs.Prelude.{◌≡◌, true, IfSome, ℕ, suc, ◌+◌, ◌*◌, ◌%◌, ◌≤◌, ◌<◌, length};
 ghost use Rattle.definitions.specs.Presentation.{max_generators};
 ghost use Rattle.definitions.specs.Table.{EXP, word_at};
 ghost use Rattle.seek.specs.Seek.{Found};
@@ -26,30 +26,25 @@ use seek::Scope;
 // No exponent of a word of a right presentation is larger.
 const SMALL: u32 = 65535;
 
-// What is no value of a word.
-const NONE: usize = 18446744073709551615;
-
 // Where the n lines from `at` on refer to x and are those from src on: the exponents of these lines, each times that of the word u,
-// added up. NONE where they are not, or u has an exponent that is too large.
-fn lines_value(words: &[u32], at: usize, src: usize, n: u32, x: u32, u: &Row) -> usize
+// added up. None where they are not, or u has an exponent that is too large.
+fn lines_value(words: &[u32], at: usize, src: usize, n: u32, x: u32, u: &Row) -> Option<usize>
     requires { (8 * (at + n) ≤ length words.now) × (8 * (src + n) ≤ length words.now) × (n ≤ max_generators) }
-    ensures { result < 18446744073709551615 → LinesValue words.now at src n x u.now result }
+    ensures { IfSome result (λ y. LinesValue words.now at src n x u.now y) }
 {
     let mut y: usize = 0;
-    let mut k: u32 = 0;
-    while k < n {
+    for k in 0..n {
         let c = level::up(k);
         let a = u[c];
         if SMALL < a {
-            return NONE;
+            return None;
         }
         if !compare::line_same(words, at + c, src + c, x) {
-            return NONE;
+            return None;
         }
         y += level::up(a) * level::up(level::word_at(words, at + c, level::EXP));
-        k += 1;
     }
-    y
+    Some(y)
 }
 
 // Generator g takes d, of degree 1, to e, as it takes what d refers to, up to a power of the root; its column refers to x.
@@ -119,25 +114,32 @@ fn singles_led(words: &[u32], firsts: &[u32], s: Scope, g: Stage, d: Listed, f: 
 }
 
 // The value of the word u on d, of degree 1, where d fits on the level below: it refers to a representation of degree 1, whose lines
-// it has below the top. NONE where it does not fit.
-fn single_value(words: &[u32], firsts: &[u32], s: Scope, g: Stage, d: Listed, u: &Row) -> usize
+// it has below the top. None where it does not fit.
+fn single_value(
+    words: &[u32],
+    firsts: &[u32],
+    s: Scope,
+    g: Stage,
+    d: Listed,
+    u: &Row,
+) -> Option<usize>
     requires { Staged s words.now firsts.now g × Present s words.now d × (d.deg ≡ 1) }
-    ensures { result < 18446744073709551615 → SingleValue s words.now g d u.now result }
+    ensures { IfSome result (λ y. SingleValue s words.now g d u.now y) }
 {
     let x = level::word_at(words, d.line, level::REF);
     let r = level::up(x);
     if g.below <= r {
-        return NONE;
+        return None;
     }
     let f = compare::rep_at(words, firsts, g.low + r);
     if f.deg != 1 {
-        return NONE;
+        return None;
     }
     if !single_takes(words, s, d, d, f, g.top, x) {
-        return NONE;
+        return None;
     }
     if !singles_led(words, firsts, s, g, d, f) {
-        return NONE;
+        return None;
     }
     lines_value(words, d.line, f.line, g.top, x, u)
 }
@@ -173,10 +175,9 @@ pub fn rep_passes(words: &[u32], firsts: &[u32], rows: &Rows, s: Scope, g: Stage
     let t = level::up(g.top);
     let at = rows::pair(t, t);
     if d.deg == 1 {
-        let y = single_value(words, firsts, s, g, d, &rows[at]);
-        if y == NONE {
+        let Some(y) = single_value(words, firsts, s, g, d, &rows[at]) else {
             return false;
-        }
+        };
         return single_power(words, d, g.top, g.p, y, s.m);
     }
     if !compare::rep_fits(words, firsts, s, g, d) {

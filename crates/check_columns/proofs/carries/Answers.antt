@@ -1,8 +1,9 @@
 -- `carries` asks column by column.
 use mathlib.Core.Path.{sym, ◌∙◌}
 use mathlib.Core.Bool.{false≢true}
+use Rattle.std.proofs.Common.{◌+◌, [], subst}
 use native.Mathlib.Omega.{arith}
-use Rattle.check_columns.proofs.Carrying.{carrying-none, carrying-more, carrying-all}
+use Rattle.check_columns.proofs.Carrying.{Carrying, carrying-none, carrying-more, carrying-all}
 use Rattle.check_columns.proofs.carries.Goals as goal
 
 pub loop-o-init : goal.loop-o-init
@@ -17,8 +18,12 @@ returns-then-not-intertwines_at c = λ e. absurd (false≢true e)
 
 pub loop-o-preserved : goal.loop-o-preserved
 loop-o-preserved c = let t = c.intertwines_at in
-    carrying-more c.loop-o.invariant (λ P z. sym (t.ensures P z) ∙ c.if-not-intertwines_at.false)
+    let a = c.args in
+    subst (λ k. Carrying a.s a.words.now a.d a.e a.i a.j a.w.now a.v (c.loop-o.o + k)) (sym c.up-o-step.ensures) (carrying-more c.loop-o.invariant (λ P z. sym (t.ensures P z) ∙ c.if-not-intertwines_at.false))
+
+pub returns-else-not-intertwines_at : goal.returns-else-not-intertwines_at
+returns-else-not-intertwines_at c = λ e. let t = c.intertwines_at in
+    carrying-all (carrying-more c.loop-o.invariant (λ P z. sym (t.ensures P z) ∙ c.if-not-intertwines_at.false)) (omega (arith, c.up-o-step.ensures))
 
 pub returns : goal.returns
-returns c = λ e.
-    carrying-all c.loop-o.invariant (omega arith)
+returns c = λ e. carrying-all c.loop-o.invariant (omega arith)

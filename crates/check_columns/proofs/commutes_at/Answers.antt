@@ -3,7 +3,7 @@ use mathlib.Core.Path.{sym, ◌∙◌, subst}
 use Prim.Native.Nat.{◌<◌}
 use mathlib.Core.List.{[]}
 use Rattle.level.specs.Stored.{Below}
-use Rattle.relations.proofs.Kept.{kept-stored, kept-column, entries-row, entries-exp}
+use Rattle.relations.proofs.Kept.{kept-stored, kept-column, entries-same}
 use Rattle.relations.proofs.Single.{single-intertwiner}
 use Rattle.check_columns.proofs.Carrying.{plain-conjugated, plain_moved}
 use Rattle.check_columns.proofs.commutes_at.Goals as goal
@@ -33,16 +33,9 @@ pub moved-b-requires : goal.moved-b-requires
 moved-b-requires c = let (K, L, e, i, j, h) = c.requires in
     (kept-stored L _ i, subst (λ d. Below c.args.s.m d c.moved-y.result) (sym e) c.moved-y.ensures.1)
 
-pub returns-then-a-b : goal.returns-then-a-b
-returns-then-a-b c = λ P is.
-    let x = c.args in
-    entries-row c.moved-a.result c.moved-b.result c.if-a-b.true
-    ∙ plain_moved x.s.m x.words.now x.d x.e P x.i x.j x.c c.moved-z.ensures.0 c.moved-z.ensures.1 c.moved-y.ensures.0
-    c.moved-a.ensures.0 c.moved-b.ensures.0 is
-
 pub returns : goal.returns
 returns c = λ P is.
     let x = c.args in
-    entries-exp c.moved-a.result c.moved-b.result c.if-a-b.false
+    c.eq.ensures ∙ entries-same c.moved-a.result c.moved-b.result
     ∙ plain_moved x.s.m x.words.now x.d x.e P x.i x.j x.c c.moved-z.ensures.0 c.moved-z.ensures.1 c.moved-y.ensures.0
     c.moved-a.ensures.0 c.moved-b.ensures.0 is

@@ -17,9 +17,6 @@ offset_bounds-u-c c = omega (arith, c.requires.2, c.up-c.ensures)
 pub bounds-u-c : goal.bounds-u-c
 bounds-u-c c = omega (arith, c.requires.2, c.up-c.ensures)
 
-pub returns-then-a-gt-SMALL : goal.returns-then-a-gt-SMALL
-returns-then-a-gt-SMALL c = λ e. absurd (omega (arith, e))
-
 pub overflow_add-at : goal.overflow_add-at
 overflow_add-at c = omega (arith, c.requires.0, c.up-c.ensures, c.well_formed)
 
@@ -28,9 +25,6 @@ overflow_add-src c = omega (arith, c.requires.1, c.up-c.ensures, c.well_formed)
 
 pub line_same-requires : goal.line_same-requires
 line_same-requires c = (omega (arith, c.requires.0, c.up-c.ensures), omega (arith, c.requires.1, c.up-c.ensures))
-
-pub returns-then-not-line_same : goal.returns-then-not-line_same
-returns-then-not-line_same c = λ e. absurd (omega (arith, e))
 
 pub overflow_add-at-in-loop-k : goal.overflow_add-at-in-loop-k
 overflow_add-at-in-loop-k c = omega (arith, c.requires.0, c.up-c.ensures, c.well_formed)
@@ -63,6 +57,6 @@ loop-k-preserved c = let a = c.args in
     (summed-more l.invariant.0 here e q, omega arith)
 
 pub returns : goal.returns
-returns c = λ e.
+returns c =
     let l = c.loop-k in
     summed-all l.invariant.0 (omega (arith, l.invariant.1))

@@ -5,6 +5,3 @@ use Rattle.check_single.proofs.lines_value.Given as goal
 
 abbrev pub invariant-loop-k : goal.invariant-loop-k
 invariant-loop-k l = SummedLines l.words l.at l.src l.k l.x l.u l.y × (l.k ≤ l.n)
-
-abbrev pub decreases-loop-k : goal.decreases-loop-k
-decreases-loop-k l = l.n - l.k

@@ -14,17 +14,14 @@ pub pair-at-requires : goal.pair-at-requires
 pair-at-requires c = let S = c.requires.0 in
     (omega arith, omega (arith, c.up-t.ensures, S.level.1, S.whole.few))
 
-pub single_value-y-requires : goal.single_value-y-requires
-single_value-y-requires c = let (S, (r, G)) = c.requires in
+pub single_value-requires : goal.single_value-requires
+single_value-requires c = let (S, (r, G)) = c.requires in
     (S, found_inside S.whole S.short G, c.if-d-eq1.true)
-
-pub returns-then-y : goal.returns-then-y
-returns-then-y c = λ e. absurd (false≢true e)
 
 pub single_power-requires : goal.single_power-requires
 single_power-requires c = let (S, (r, G)) = c.requires in
     let one = c.if-d-eq1.true in
-    let F = c.single_value-y.ensures (omega (arith, c.if-y.false)) in
+    let F = c.in-Some.ensures in
     let M = fits-stored S G F.fits in
     (power.line-room M one c.args.g.top S.level.1, power.exponent_below M one c.args.g.top S.level.1, S.modulus.0, S.modulus.1)
 
@@ -33,7 +30,7 @@ returns-then-d-eq1 c = λ e.
     let (S, (r, G)) = c.requires in
     let a = c.args in
     let rows = a.rows.now in
-    let F = c.single_value-y.ensures (omega (arith, c.if-y.false)) in
+    let F = c.in-Some.ensures in
     let word = ap (λ t. get_or rows t []) c.pair-at.ensures.0 in (
       F.fits,
       record {
