@@ -1,6 +1,6 @@
 -- Rows of exponents, and the normal forms that they say.
 --
---   same-rows                      the comparison of the first exponents of two rows
+--   same_none, same_more, same_differs    the comparison of two rows from the top down
 --   zeros, empty-is                the row of zeros; a row that is compared with it
 --   single-row                     the row of an exponent of one generator
 --   generator-row, generator-is    the row of a generator, and the normal form that it says
@@ -11,18 +11,16 @@
 --   word_small                     rows in range: the word of a pair
 --   reads-small                    rows that a presentation has are in range
 use mathlib.Core.Path.{◌≡◌, refl, sym, ◌∙◌, ap, ap₂, subst}
-use mathlib.Core.Logic.{by_cases}
-use mathlib.Core.Bool.{false, ◌&&◌, cond}
-use mathlib.Core.List.{List, [], ◌∷◌}
-use Prim.Native.Nat.{ℕ, zero, suc, ◌*◌, ◌≤◌, ◌<◌}
+use mathlib.Core.Logic.{◌≢◌, by_cases}
+use mathlib.Core.Bool.{Bool, true, false, ◌&&◌, cond}
+use mathlib.Core.List.{List, []}
+use Prim.Native.Nat.{ℕ, zero, suc, ◌*◌, ◌-◌, ◌≤◌, ◌<◌}
 use native.Mathlib.Omega.{arith}
 use native.Mathlib.Decide.{dec_lt, ℕ_discrete}
 use lib.Dec.{eqb, leb, ltb}
-use lib.Pointwise.{pointwise}
-use Rattle.std.proofs.Math.Bool.{and_comm, and_assoc}
-use lib.ListN.{length, get_or, set, take, replicate, get_or-replicate, get_or-eq_default, length-replicate}
+use lib.ListN.{length, get_or, set, replicate, get_or-replicate, get_or-eq_default, length-replicate}
 use lib.Seq.{get_or-set_same, get_or-set_other}
-use borrow.Author.Tests.{le-ltb, lt-leb}
+use borrow.Author.Tests.{eq-eqb, ne_eqb, le-ltb, lt-leb}
 use Rattle.definitions.specs.Text.{largest}
 use Rattle.definitions.specs.Presentation.{max_generators, Presentation, Valid, to_nf, trivial, pair_number, allowed}
 use Rattle.definitions.specs.Consistency.{same_form, generator}
@@ -34,22 +32,24 @@ use Rattle.rows.specs.Rows.{Small, Ranged, Reads, Generator, Single}
 
 -- ---- Rows that say one form
 
--- one exponent more
-taken-suc : (i : ℕ) (x y : List ℕ) → i < length x → i < length y
-    → pointwise eqb (take (suc i) x) (take (suc i) y) ≡ (eqb (get_or x i 0) (get_or y i 0) && pointwise eqb (take i x) (take i y))
-taken-suc zero (a ∷ x) (b ∷ y) l h = refl
-taken-suc zero (a ∷ x) [] l h = absurd (omega arith)
-taken-suc zero [] y l h = absurd (omega arith)
-taken-suc (suc i) [] y l h = absurd (omega arith)
-taken-suc (suc i) (a ∷ x) [] l h = absurd (omega arith)
-taken-suc (suc i) (a ∷ x) (b ∷ y) l h = ap (λ t. eqb a b && t) (taken-suc i x y (omega arith) (omega arith))
-    ∙ sym (and_assoc (eqb a b) _ _) ∙ ap (λ t. t && pointwise eqb (take i x) (take i y)) (and_comm (eqb a b) _) ∙ and_assoc _ (eqb a b) _
-
-pub same-rows : (i : ℕ) (x y : List ℕ) → i ≤ length x → i ≤ length y → pointwise eqb (take i x) (take i y) ≡ same_form i (to_nf i x) (to_nf i y)
+same-suc : (k : ℕ) (x y : List ℕ) (b : Bool) → eqb (get_or x k 0) (get_or y k 0) ≡ b
+    → same_form (suc k) (to_nf (suc k) x) (to_nf (suc k) y) ≡ (b && same_form k (to_nf k x) (to_nf k y))
 unfolding same_form to_nf
-same-rows zero x y l h = refl
-same-rows (suc i) x y l h = taken-suc i x y (omega arith) (omega arith)
-    ∙ ap (λ t. eqb (get_or x i 0) (get_or y i 0) && t) (same-rows i x y (omega arith) (omega arith))
+same-suc k x y b q = ap (λ t. t && same_form k (to_nf k x) (to_nf k y)) q
+
+pub same_more : (k : ℕ) (x y : List ℕ) → 0 < k → get_or x (k - 1) 0 ≡ get_or y (k - 1) 0
+    → same_form k (to_nf k x) (to_nf k y) ≡ same_form (k - 1) (to_nf (k - 1) x) (to_nf (k - 1) y)
+same_more k x y l q = let e : suc (k - 1) ≡ k = omega arith in
+    subst (λ m. same_form m (to_nf m x) (to_nf m y) ≡ same_form (k - 1) (to_nf (k - 1) x) (to_nf (k - 1) y)) e
+    (same-suc (k - 1) x y true (eq-eqb (get_or x (k - 1) 0) (get_or y (k - 1) 0) q))
+
+pub same_differs : (k : ℕ) (x y : List ℕ) → 0 < k → get_or x (k - 1) 0 ≢ get_or y (k - 1) 0 → same_form k (to_nf k x) (to_nf k y) ≡ false
+same_differs k x y l q = let e : suc (k - 1) ≡ k = omega arith in
+    subst (λ m. same_form m (to_nf m x) (to_nf m y) ≡ false) e (same-suc (k - 1) x y false (ne_eqb (get_or x (k - 1) 0) (get_or y (k - 1) 0) q))
+
+pub same_none : (x y : List ℕ) → same_form 0 (to_nf 0 x) (to_nf 0 y) ≡ true
+unfolding same_form
+same_none x y = refl
 
 -- ---- Generators
 
