@@ -3,7 +3,6 @@
 --   product-fits               a bound
 --   origin-extends             what the notes have is what extensions are copied from
 --   extends-copies             and what one generator asks for
---   power-known                the power of the generator on top, read in a word
 --   targets-small              bounds of what is held of targets
 --   factor-top, factor-other   the constants of the generators
 --   piece-copied, piece-lines, copy-length     the lines of a generator as a piece, and their length
@@ -27,7 +26,7 @@ use mathlib.Core.Bool.{cond}
 use Rattle.numbers.proofs.Bools.{cond-true, cond-false, cond-eq, cond-ne}
 use Rattle.definitions.specs.declared.Entry.{Entry}
 use Rattle.definitions.specs.Lists.{blocks}
-use Rattle.definitions.specs.Presentation.{max_order, max_modulus, to_nf, pair_number}
+use Rattle.definitions.specs.Presentation.{max_order, max_modulus, to_nf}
 use Rattle.definitions.specs.Monomial.{Matrix, entry, col, less, scale}
 use Rattle.definitions.specs.Table.{line_of, rep_words}
 use Rattle.numbers.proofs.Blocks.{length-table, blocks-below, length-even}
@@ -42,7 +41,7 @@ use Rattle.lines.proofs.Written.{copy-block}
 use Rattle.lines.proofs.Appending.{Going, going_more, going-even, space-none}
 use Rattle.survey.specs.declared.Frame.{Frame}
 use Rattle.survey.specs.declared.Note.{Note}
-use Rattle.survey.specs.Below.{low_of, deg_of, matrix_of, source_in, LevelStands, Fixed, Sound, Surveyed}
+use Rattle.survey.specs.Below.{low_of, deg_of, matrix_of, source_in, LevelStands, Fixed, Surveyed}
 use Rattle.survey.proofs.Counting.{number_fits}
 use Rattle.survey.proofs.Level.{located-stored, located-degree}
 use Rattle.targets.specs.declared.Target.{Target}
@@ -103,14 +102,6 @@ extends-copies {f} {W} {rows} {targets} {o} E =
     }
 
 -- ---- References
-
-pub power-known : {f : Frame} {W : List ℕ} {rows : List (List ℕ)} → Sound f W rows → (g : ℕ) → f.top < g → g < f.gens
-    → {n a t : ℕ} → n ≡ pair_number a t → a ≡ g → t ≡ f.top
-    → (get_or (get_or rows n []) t 0 + 1 ≡ power_of f rows g) × (get_or (get_or rows n []) t 0 + 1 ≤ f.p)
-power-known {f} {W} {rows} S g h l {n} {a} {t} en ea et =
-    let v : get_or (get_or rows n []) t 0 ≡ get_or (get_or rows (pair_number g f.top) []) f.top 0 =
-    ap₂ (λ i j. get_or (get_or rows i []) j 0) (en ∙ ap₂ pair_number ea et) et in
-    (ap (λ x. x + 1) v ∙ add-one _, omega (arith, v, S.words.below g h l))
 
 module _ {f : Frame} {W : List ℕ} {rows : List (List ℕ)} {r : ℕ} {targets : List Target} (R : Aimed f W rows r targets) (g : ℕ) (l : g < f.gens) where
   pub targets-small : f.top < g → (get_or (starts targets) g 0 ≤ 268435456) × (get_or (landings targets) g 0 ≤ max_modulus)

@@ -179,7 +179,7 @@ pub fn append_extensions(
     ensures { Appended words.old at (extensions_words f (low_of f words.old) rows.now r) words.new result }
 {
     let n = 8 * f.end;
-    let mut targets = [Target::default(); GENERATORS];
+    let mut targets = [targets::BLANK; GENERATORS];
     targets::find_targets(&words[..n], rows, notes, &mut targets, f, r);
     let o = find_origin(&words[..n], notes, f, r);
     append_each(words, rows, &targets, f, o, at)

@@ -18,7 +18,7 @@ fn reference(rows: &Rows, n: u32, p: u32, k: u32, g: u32) -> u32
     if g == 0 {
         return 0;
     }
-    let w = rows::word(rows, level::up(g), 0);
+    let w = rows::word(rows, g as usize, 0);
     k * (w[0] + 1) % p
 }
 
@@ -47,9 +47,9 @@ fn append_root(words: &mut [u32], rows: &Rows, n: u32, p: u32, m: u32, at: usize
             rep: k,
             deg: 1,
             generator: g + 1,
-            refn: refn,
+            refn,
         };
-        pos = lines::put_line(words, pos, h, 0, Entry { row: 0, exp: exp });
+        pos = lines::put_line(words, pos, h, 0, Entry { row: 0, exp });
     }
     pos
 }
@@ -59,7 +59,7 @@ pub fn first_level(words: &mut [u32], rows: &Rows, n: u32, p: u32, m: u32) -> us
     requires { (n ≤ max_generators) × (p ≤ max_order) × (m ≤ max_modulus) × WordsBelow n p rows.now × (8 * (p * n) ≤ length words.old) }
     ensures { Wrote words.old 0 (first_words n p m rows.now) words.new (8 * result) }
 {
-    let mut pos = 0usize;
+    let mut pos = 0;
     for k in 0..p {
         pos = append_root(words, rows, n, p, m, pos, k);
     }

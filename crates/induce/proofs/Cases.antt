@@ -2,11 +2,9 @@
 --
 --   to-next, to_last, to-above              the block to which it takes a block
 --   by_next, by_last, by-above              the constant there
---   block-fits                              the columns of a block are among all
 use mathlib.Core.Path.{◌≡◌, sym, ◌∙◌}
 use mathlib.Core.List.{List, []}
-use Prim.Native.Nat.{ℕ, suc, ◌+◌, ◌*◌, ◌≤◌, ◌<◌}
-use native.Mathlib.Nat.{mul-le-mul_right}
+use Prim.Native.Nat.{ℕ, suc, ◌≤◌, ◌<◌}
 use native.Mathlib.Omega.{arith}
 use lib.ListN.{get_or}
 use Rattle.numbers.proofs.Bools.{cond-lt, cond-ge, cond-eq, cond-ne}
@@ -44,7 +42,3 @@ module _ (f : Frame) (notes : List Note) (blocks : List Block) (r g b : ℕ) whe
   pub by-above : f.top < g → get_or (scalars blocks) b 0 ≡ factor_in f notes blocks r g b
   unfolding factor_in
   by-above h = sym (cond-ne g f.top _ _ (λ e. omega (arith, e)))
-
--- block b stays within p blocks
-pub block-fits : (p d b x : ℕ) → b < p → p * d ≤ x → b * d + d ≤ x
-block-fits p d b x h l = let a : suc b * d ≤ p * d = mul-le-mul_right d (omega arith) in omega (arith, a)

@@ -1,7 +1,6 @@
 -- The lines of an induced representation, block by block.
 --
 --   cell-is                    a block with the constants of the formulas gives the lines of that block
---   cell-single                a block of degree 1
 --   induced-words              the blocks of a generator, one behind the other
 --   cell-length, induced-length      how many words
 --   cell-held                  the matrix of a block stands below
@@ -33,7 +32,7 @@ use Rattle.orbits.specs.Blocks.{member_of}
 use Rattle.orbits.proofs.Blocks.{orbit-degree}
 use Rattle.induce.specs.declared.Induction.{Induction}
 use Rattle.induce.specs.declared.Cell.{Cell}
-use Rattle.induce.specs.Inducing.{head_of, cell_words, block_words, induced_words}
+use Rattle.induce.specs.Inducing.{cell_words, block_words, induced_words}
 
 module _ (f : Frame) (W : List ℕ) (rows : List (List ℕ)) (i : Induction) (g : ℕ) where
   abbrev S : Source
@@ -124,16 +123,6 @@ module _ (f : Frame) (W : List ℕ) (rows : List (List ℕ)) (i : Induction) (g 
 pub cell-length : (f : Frame) (W : List ℕ) (i : Induction) (g : ℕ) (q : Cell) → length (cell_words f W i g q) ≡ 8 * i.deg
 unfolding block_lines head_line
 cell-length f W i g q = length-even _ 8 i.deg (λ c l. refl) ∙ omega arith
-
--- a block of degree 1
-pub cell-single : (f : Frame) (W : List ℕ) (i : Induction) (g : ℕ) (q : Cell) → i.deg ≡ 1
-    → block_lines f.m (head_of f i g q.refn) (record { src = q.src; deg = i.deg; col = q.from; row = q.to; by = q.by }) W ≡ cell_words f W i g q
-cell-single f W i g q e =
-    ap₂ (λ x y. block_lines f.m (head_of f i g q.refn) (record { src = q.src; deg = i.deg; col = x; row = y; by = q.by }) W)
-    (once q.from) (once q.to)
-  where
-    once : (n : ℕ) → n ≡ n * i.deg
-    once n = let k : n ≡ n * 1 = omega arith in k ∙ ap (λ d. n * d) (sym e)
 
 pub cell-held : {f : Frame} {W : List ℕ} {q : ℕ} {D : Listed} → Located f W q D → (g src d : ℕ) → g < f.gens → src ≡ line_in D g → D.deg ≡ d
     → Holds f.m W src d

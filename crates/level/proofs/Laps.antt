@@ -3,10 +3,9 @@
 --   lapping-once, lapping-more a first turn, and one turn more
 --   closed-early, closed-late  a lap that ends before its last turn is closed, and so is one of as many turns as the degree
 --   laps-power                 laps, and the turns behind them, are a power
---   power-turns, turns-power   a power that is not below zero is so many turns
+--   power-turns                a power that is not below zero is so many turns
 use mathlib.Core.Path.{◌≡◌, sym, ap, ap₂, ◌∙◌}
 use mathlib.Core.Logic.{by_cases}
-use mathlib.Core.Bool.{Bool, true, false}
 use mathlib.Core.List.{List}
 use Prim.Native.Nat.{ℕ, zero, suc, ◌+◌, ◌-◌, ◌*◌, ◌%◌, ◌<◌}
 use native.Mathlib.Nat.{mod-lt, mod-eq_of_lt, mod-add-mod, add-mod-mod, add-mod_left, mul_comm}
@@ -24,8 +23,9 @@ use Rattle.columns.proofs.Columns.{In, iter-in}
 use Rattle.columns.proofs.Inverses.{Monomial, monomial-injects}
 use Rattle.columns.proofs.Powers.{act-forward, act-back, row-turned, turned-back}
 use Rattle.signed.specs.declared.Signed.{Signed}
+use Rattle.signed.specs.declared.Signed.TheVariants.{Forward, Back}
 use Rattle.signed.specs.declared.Rounds.{Rounds}
-use Rattle.signed.specs.Signs.{signed, number, MakeUp, RoundsOf}
+use Rattle.signed.specs.Signs.{number, MakeUp, RoundsOf}
 use Rattle.level.specs.declared.Lap.{Lap}
 use Rattle.level.specs.Stored.{matrix_in, Below, Holds}
 use Rattle.level.specs.Laps.{Lapping, LapOf, ClosedLap, gained}
@@ -96,11 +96,6 @@ module _ {m : ℕ} {W : List ℕ} {at d : ℕ} (H : Holds m W at d) where
 
     pub power-turns : (k : ℕ) → act m (signed_power m d (matrix_in W at d) (pos k)) x ≡ iter (act m (matrix_in W at d)) k x
     power-turns k = act-forward m positive d K k x inside
-
-    -- a number by its sign and size
-    pub turns-power : (k : Signed) {y : Entry} → k.back ≡ false → y ≡ iter (act m (matrix_in W at d)) k.size x
-        → y ≡ act m (signed_power m d (matrix_in W at d) (number k)) x
-    turns-power k b e = e ∙ sym (power-turns k.size) ∙ ap (λ (t : Bool). act m (signed_power m d M (signed t k.size)) x) (sym b)
 
     -- ---- Laps
 
@@ -175,12 +170,12 @@ module _ {m : ℕ} {W : List ℕ} {at d : ℕ} (H : Holds m W at d) where
           ap (λ n. iter turn n (entry r t)) (mul_comm q w.turns) ∙ sym (iter-iter turn w.turns q (entry r t))
           ∙ iter-fixed m r (less m w.to.exp x.exp) (iter turn w.turns) lap-adds q t l
 
-      laps-lead : (back : Bool) (n q t : ℕ) → MakeUp back n w.turns q t
-          → iter (act m (matrix_in W at d)) t (entry x.row ((x.exp + q * gained m back x.exp w.to.exp) % m))
-          ≡ act m (signed_power m d (matrix_in W at d) (signed back n)) x
-      laps-lead false n q t e =
+      laps-lead : (k : Signed) (q t : ℕ) → MakeUp k w.turns q t
+          → iter (act m (matrix_in W at d)) t (entry x.row ((x.exp + q * gained m k x.exp w.to.exp) % m))
+          ≡ act m (signed_power m d (matrix_in W at d) (number k)) x
+      laps-lead (Forward n) q t e =
           ap (iter turn t) (sym (laps-add q x.exp X.exp)) ∙ iter-add turn (q * w.turns) t x ∙ ap (λ k. iter turn k x) (sym e) ∙ sym (power-turns n)
-      laps-lead true n q t e =
+      laps-lead (Back n) q t e =
           let a : ℕ = x.exp in
           let b : ℕ = w.to.exp in
           let y : Entry = entry r ((a + q * less m a b) % m) in
@@ -192,9 +187,9 @@ module _ {m : ℕ} {W : List ℕ} {at d : ℕ} (H : Holds m W at d) where
           sym (turned-back m positive d K (suc n) (iter turn t y) (iter-in m positive d K.square t y Y))
           ∙ ap (iter (act m (inverse m M)) (suc n)) all ∙ sym (act-back m positive d K n x inside)
 
-      pub laps-power : {k : Signed} {s : Rounds} {e t : ℕ} {y : Entry} → RoundsOf k w.turns s → e ≡ gained m k.back x.exp w.to.exp
+      pub laps-power : {k : Signed} {s : Rounds} {e t : ℕ} {y : Entry} → RoundsOf k w.turns s → e ≡ gained m k x.exp w.to.exp
           → t ≡ (x.exp + s.rounds * e) % m → y ≡ iter (act m (matrix_in W at d)) s.rest (entry x.row t)
           → y ≡ act m (signed_power m d (matrix_in W at d) (number k)) x
       laps-power {k} {s} R e t y =
           y ∙ ap (λ z. iter turn s.rest (entry r z)) (t ∙ ap (λ z. (x.exp + s.rounds * z) % m) e)
-          ∙ laps-lead k.back k.size s.rounds s.rest R.make_up
+          ∙ laps-lead k s.rounds s.rest R.make_up

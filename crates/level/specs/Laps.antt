@@ -4,11 +4,13 @@
 --   Lapping m W at d most x w  the same, at most `most` times, and its basis index did not come again before the last turn
 --   LapOf m W at d most x w    a lap: the same, and the last turn is the last that is allowed, or brings the basis index again
 --   ClosedLap m W at d x w     turns that bring the basis index again
---   gained m back a b          what a lap adds to an exponent that it takes from a to b; back, what it takes off
-use Rattle.std.specs.Prelude.{◌≡◌, Bool, true, false, List, ℕ, ◌≤◌, ◌<◌}
+--   gained m k a b             what a lap adds to an exponent that it takes from a to b, for the number k; back, what it takes off
+use Rattle.std.specs.Prelude.{◌≡◌, List, ℕ, ◌≤◌, ◌<◌}
 use Rattle.definitions.specs.declared.Entry.{Entry}
 use Rattle.definitions.specs.Lists.{iter}
 use Rattle.definitions.specs.Monomial.{less, act}
+use Rattle.signed.specs.declared.Signed.{Signed}
+use Rattle.signed.specs.declared.Signed.TheVariants.{Forward, Back}
 use Rattle.level.specs.declared.Lap.{Lap}
 use Rattle.level.specs.Stored.{matrix_in, Below}
 
@@ -31,6 +33,6 @@ module _ (m : ℕ) (W : List ℕ) (at d : ℕ) where
     pub lapped : Lapped x w
     pub row : w.to.row ≡ x.row
 
-abbrev pub gained : ℕ → Bool → ℕ → ℕ → ℕ
-gained m false a b = less m b a
-gained m true a b = less m a b
+abbrev pub gained : ℕ → Signed → ℕ → ℕ → ℕ
+gained m (Forward n) a b = less m b a
+gained m (Back n) a b = less m a b

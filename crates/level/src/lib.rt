@@ -76,7 +76,7 @@ pub fn column(words: &[u32], at: usize, d: u32, k: u32, m: u32) -> Entry
     requires { Holds m words.now at d × (k < d) }
     ensures { (result ≡ entry_in words.now (at + k)) × Below m d result }
 {
-    entry_at(words, at + up(k))
+    entry_at(words, at + k as usize)
 }
 
 // The matrix of degree d at line `at`, on the x.exp-th power of the root times basis vector x.row.
@@ -97,7 +97,7 @@ fn add_rounds(a: u32, k: usize, b: u32, m: u32) -> u32
     requires { (a < m) × (b < m) × (m ≤ 2147483648) × (k ≤ 4294967296) }
     ensures { (result ≡ (a + k * b) % m) × (result < m) }
 {
-    ((up(a) + k * up(b)) % up(m)) as u32
+    ((a as usize + k * b as usize) % m as usize) as u32
 }
 
 // a + k * b modulo m.
@@ -108,7 +108,7 @@ pub fn add_times(a: u32, k: u32, b: u32, m: u32) -> u32
     if k == 1 {
         return modular::add_mod(a, b, m);
     }
-    add_rounds(a, up(k), b, m)
+    add_rounds(a, k as usize, b, m)
 }
 
 // A matrix k times on an entry, turn by turn.
@@ -118,7 +118,7 @@ fn steps(words: &[u32], at: usize, d: u32, k: u32, x: Entry, m: u32) -> Entry
     ensures { (result ≡ iter (act m (matrix_in words.now at d)) k x) × Below m d result }
 {
     let mut r = x;
-    for i in 0..k {
+    for _ in 0..k {
         r = apply(words, at, d, r, m);
     }
     r
@@ -143,21 +143,18 @@ fn lap_from(words: &[u32], at: usize, d: u32, most: u32, x: Entry, m: u32) -> La
         to = apply(words, at, d, to, m);
         turns += 1;
     }
-    Lap {
-        turns: turns,
-        to: to,
-    }
+    Lap { turns, to }
 }
 
-// What a lap that takes exponent a to b adds; back, what it takes off.
-fn gain(back: bool, a: u32, b: u32, m: u32) -> u32
+// What a lap that takes exponent a to b adds for the number k: back, it is taken off.
+fn gain(k: Signed, a: u32, b: u32, m: u32) -> u32
     requires { (a < m) × (b < m) × (m ≤ 2147483648) }
-    ensures { (result ≡ gained m back a b) × (result < m) }
+    ensures { (result ≡ gained m k a b) × (result < m) }
 {
-    if back {
-        return modular::sub_mod(a, b, m);
+    match k {
+        Signed::Forward(_) => modular::sub_mod(b, a, m),
+        Signed::Back(_) => modular::sub_mod(a, b, m),
     }
-    modular::sub_mod(b, a, m)
 }
 
 // The k-th power of a matrix on an entry whose basis index comes again after the lap w: whole laps at once, then the turns that
@@ -168,7 +165,7 @@ fn after_laps(words: &[u32], at: usize, d: u32, k: Signed, x: Entry, w: Lap, m: 
     ensures { (result ≡ act m (signed_power m d (matrix_in words.now at d) (number k)) x) × Below m d result }
 {
     let s = signed::rounds_of(k, w.turns);
-    let e = gain(k.back, x.exp, w.to.exp, m);
+    let e = gain(k, x.exp, w.to.exp, m);
     let y = Entry {
         row: x.row,
         exp: add_rounds(x.exp, s.rounds, e, m),
@@ -190,18 +187,14 @@ fn power_of(words: &[u32], at: usize, d: u32, k: u32, x: Entry, m: u32) -> Entry
     if z.row == x.row {
         return Entry {
             row: x.row,
-            exp: add_rounds(x.exp, up(k), z.exp, m),
+            exp: add_rounds(x.exp, k as usize, z.exp, m),
         };
     }
     let w = lap_from(words, at, d, k, x, m);
     if w.turns == k {
         return w.to;
     }
-    let e = Signed {
-        back: false,
-        size: k,
-    };
-    after_laps(words, at, d, e, x, w, m)
+    after_laps(words, at, d, Signed::Forward(k), x, w, m)
 }
 
 // The power with any signed word as its exponent: 0 is the identity, and below zero are the powers of the inverse.
@@ -210,12 +203,13 @@ pub fn power_entry(words: &[u32], at: usize, d: u32, k: i32, x: Entry, m: u32) -
     requires below { Below m d x }
     ensures { (result ≡ act m (signed_power m d (matrix_in words.now at d) k) x) × Below m d result }
 {
-    let e = signed::signed_of(k);
-    if e.back {
-        let w = lap_from(words, at, d, d, x, m);
-        return after_laps(words, at, d, e, x, w, m);
+    match Signed::from(k) {
+        Signed::Forward(n) => power_of(words, at, d, n, x, m),
+        Signed::Back(n) => {
+            let w = lap_from(words, at, d, d, x, m);
+            after_laps(words, at, d, Signed::Back(n), x, w, m)
+        }
     }
-    power_of(words, at, d, e.size, x, m)
 }
 
 // A matrix k times on an entry: the power, for an exponent of a word. What the call hands back is made anew of its fields, so
@@ -244,16 +238,15 @@ fn walk_word(words: &[u32], at: usize, d: u32, w: &Row, n: usize, x: Entry, m: u
     let mut row = x.row;
     let mut exp = x.exp;
     let mut g = at;
-    for k in 0..n {
-        let e = w[k];
+    for &e in &w[..n] {
         if e != 0 {
-            let y = apply_times(words, g, d, e, Entry { row: row, exp: exp }, m);
+            let y = apply_times(words, g, d, e, Entry { row, exp }, m);
             row = y.row;
             exp = y.exp;
         }
-        g += up(d);
+        g += d as usize;
     }
-    Entry { row: row, exp: exp }
+    Entry { row, exp }
 }
 
 // A matrix of degree 1, k times: e is the exponent of the root.
@@ -293,7 +286,7 @@ pub fn representation(words: &[u32], line: usize) -> Listed
     ensures { result ≡ listed_in words.now line }
 {
     Listed {
-        line: line,
+        line,
         deg: word_at(words, line, DEG),
     }
 }
@@ -303,7 +296,7 @@ pub fn matrix_line(d: Listed, g: u32) -> usize
     requires { 8 * line_in d g < 18446744073709551616 }
     ensures { result ≡ line_in d g }
 {
-    d.line + up(g) * up(d.deg)
+    d.line + g as usize * d.deg as usize
 }
 
 // Where the intertwiner of generator g leads.
@@ -378,7 +371,7 @@ pub fn scaled_times(words: &[u32], d: Listed, g: u32, c: u32, k: u32, x: Entry, 
         };
     }
     let mut r = y;
-    for i in 1..k {
+    for _ in 1..k {
         r = scaled(words, d, g, c, r, m);
     }
     r

@@ -5,7 +5,6 @@
 --   stage-one          level 1 is written
 --   stage-placed, stage-asks   what the next level asks
 --   stage-next         it is written
---   stage-last         all levels are
 use mathlib.Core.Path.{◌≡◌, refl, sym, ap, ap₂, ◌∙◌, subst}
 use mathlib.Core.List.{List, ◌++◌}
 use Prim.Native.Nat.{ℕ, suc, ◌+◌, ◌*◌, ◌-◌, ◌≤◌, ◌<◌}
@@ -64,11 +63,6 @@ module _ {A : Accepted} {rows : List (List ℕ)} {primes : List ℕ} {n m have :
         base_is = λ l. (one_placed A rows G.reads l).base_is;
         reps_is = q ∙ sym (one-reps A);
       }
-
-  -- ---- All of them
-
-  pub stage-last : {base reps end : ℕ} {w₀ w : List ℕ} → BuiltTo A n base reps end w₀ w → Wrote w₀ 0 (up_to A A.C.P.n) w (8 * end)
-  stage-last S = (built-as G.n_is S).wrote
 
   -- ---- The next
 

@@ -15,9 +15,8 @@ ghost use Rattle.levels.specs.Given.{Given, AllWritten};
 ghost use Rattle.levels.specs.Climbing.{LevelsWritten};
 
 use builder::Written;
-use orbits::Block;
 use rows::{DEGREES, ORDER, Row, Rows};
-use survey::{Frame, Note};
+use survey::Frame;
 
 // Elements more of an array, so that no two lie whole pages apart.
 const SPARE: usize = 16;
@@ -47,8 +46,8 @@ fn level_with<const NOTES: usize, const BLOCKS: usize>(
     requires lengths { (NOTES ≤ max_order) × (BLOCKS ≤ max_order) }
     ensures { LevelMade f words.old rows.now result words.new }
 {
-    let mut notes = [Note::default(); NOTES];
-    let mut blocks = [Block::default(); BLOCKS];
+    let mut notes = [survey::BLANK; NOTES];
+    let mut blocks = [orbits::BLANK; BLOCKS];
     builder::append_level(words, rows, &mut notes, &mut blocks, f)
 }
 

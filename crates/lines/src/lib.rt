@@ -56,15 +56,14 @@ pub fn append_copy(words: &mut [u32], low: usize, at: usize, h: Head, src: usize
     requires { (src + h.deg ≤ low) × Space low at (8 * h.deg) words.old }
     ensures { Appended words.old at (copy_lines h src (take (8 * low) words.old)) words.new result }
 {
-    let deg = h.deg;
     let n = 8 * low;
-    if deg == 1 {
+    if h.deg == 1 {
         let x = level::entry_at(&words[..n], src);
         return put_line(words, at, h, 0, x);
     }
     let mut pos = at;
-    for k in 0..deg {
-        let x = level::entry_at(&words[..n], src + level::up(k));
+    for k in 0..h.deg {
+        let x = level::entry_at(&words[..n], src + k as usize);
         pos = put_line(words, pos, h, k, x);
     }
     pos
@@ -101,13 +100,12 @@ pub fn append_block(words: &mut [u32], low: usize, at: usize, h: Head, b: Piece,
     requires { Copied m (take (8 * low) words.old) b × Space low at (8 * b.deg) words.old }
     ensures { Appended words.old at (block_lines m h b (take (8 * low) words.old)) words.new result }
 {
-    let deg = b.deg;
-    if deg == 1 {
+    if b.deg == 1 {
         return append_line(words, low, at, h, b, m);
     }
     let n = 8 * low;
     let mut pos = at;
-    for k in 0..deg {
+    for k in 0..b.deg {
         let x = block_entry(&words[..n], b, k, m);
         pos = put_line(words, pos, h, b.col + k, x);
     }

@@ -1,6 +1,6 @@
 // The blocks of an orbit of the generator on top: how that generator moves them, and the scalars of the generators above it.
 //
-//   Block                        what is listed of a block
+//   Block, BLANK                 what is listed of a block; one of which nothing is
 //   list_orbit                   lists the representations of the blocks
 //   of_block                     the representation of a block, by its first line
 //   cycle, cycle_times           the generator on top of the induced representation on an entry in a block
@@ -22,11 +22,17 @@ use rows::{Row, Rows};
 use survey::{Frame, Note};
 
 // What is listed of a block: its representation, and its scalar for a generator.
-#[derive(Clone, Copy, Default)]
+#[derive(Clone, Copy)]
 pub struct Block {
     pub member: u32,
     pub scalar: u32,
 }
+
+// A block of which nothing is listed.
+pub const BLANK: Block = Block {
+    member: 0,
+    scalar: 0,
+};
 
 // Lists the orbit of r.
 pub fn list_orbit(low: &[u32], notes: &[Note], blocks: &mut [Block], f: Frame, r: u32)

@@ -19,6 +19,7 @@ ghost use Rattle.level.specs.Stored.{Holds};
 
 use definitions::Entry;
 use level::Listed;
+use signed::Signed;
 
 // Bytes of the standard input, at most.
 const INPUT: usize = 65536;
@@ -63,13 +64,13 @@ fn print(number: u64) {
 }
 
 fn print_exponent(k: i32) {
-    let s = signed::signed_of(k);
-    if s.back {
-        io::write_all(1, b"-");
-        print(s.size as u64 + 1);
-        return;
+    match Signed::from(k) {
+        Signed::Forward(n) => print(n as u64),
+        Signed::Back(n) => {
+            io::write_all(1, b"-");
+            print(n as u64 + 1);
+        }
     }
-    print(s.size as u64);
 }
 
 // Column c of the k-th power, times the (c mod m)-th power of the root.

@@ -4,8 +4,7 @@
 --   NotingRun                  a run that began with representation r has come to q
 --   run_none, run_room, run_more      its beginning, a note that is there, and one representation more
 --   run-there, run_small       there are words at its line, and the line is small
---   run-stops, run-all         its end: at another degree, or behind all
-use mathlib.Core.Path.{◌≡◌, refl, ap, sym, ◌∙◌, subst}
+use mathlib.Core.Path.{◌≡◌, refl, ap, sym, ◌∙◌}
 use mathlib.Core.List.{List}
 use Prim.Native.Nat.{ℕ, ◌+◌, ◌*◌, ◌≤◌, ◌<◌}
 use native.Mathlib.Omega.{arith}
@@ -15,7 +14,7 @@ use Rattle.level.specs.declared.Listed.{Listed}
 use Rattle.survey.specs.declared.Frame.{Frame}
 use Rattle.survey.specs.declared.Note.{Note}
 use Rattle.survey.specs.Notes.{firsts}
-use Rattle.survey.specs.Below.{first_of, deg_of, Located, Lines, FirstsTo, RunNoted}
+use Rattle.survey.specs.Below.{first_of, deg_of, Located, Lines, FirstsTo}
 use Rattle.survey.proofs.Notes.{filled_none, filled_note}
 use Rattle.survey.proofs.Level.{first_next, first-room, first_below, located-degree}
 
@@ -62,17 +61,3 @@ module _ {f : Frame} {W : List ℕ} {notes₀ : List Note} {r : ℕ} {D : Listed
     run_small h =
         let e : f.gens * D.deg ≡ f.gens * deg_of f W r = ap (λ x. f.gens * x) (located-degree L) in
         omega (arith, R.reached, first_below f W L.stands q h, first_below f W L.stands r L.listed, e, L.stands.short.1)
-
-    pub run-all : q ≡ f.reps → RunNoted f W notes₀ notes r (record { rep = f.reps; line = line })
-    run-all e = record {
-      forth = L.listed;
-      within = omega arith;
-      len = R.len;
-      noted = subst (FirstsTo f W notes) e R.noted;
-      behind = R.reached ∙ ap (first_of f W) e;
-    }
-
-    pub run-stops : ¬ (word_at W line DEG ≡ D.deg) → RunNoted f W notes₀ notes r (record { rep = q; line = line })
-    run-stops v =
-        let other : ¬ (q ≡ r) = λ e. v (ap (λ x. word_at W x DEG) (R.reached ∙ ap (first_of f W) e) ∙ sym (located-degree L)) in
-        record { forth = omega (arith, R.forth, other); within = R.within; len = R.len; noted = R.noted; behind = R.reached }

@@ -10,7 +10,6 @@
 --   marked-leaders .. marked-firsts      what is noted then
 --   Filled, filled_none, filled_more, filled_note      numbers that are noted up to a representation
 --   cleared_more               one more note that is an orbit of its own
---   array-filled               a number that is noted of all representations
 use mathlib.Core.Path.{◌≡◌, refl, ap, sym, ◌∙◌, subst}
 use mathlib.Core.Logic.{by_cases}
 use mathlib.Core.List.{List, map}
@@ -129,7 +128,3 @@ cleared_more {k} {a} notes l C = record {
         ∙ filled_more (positions notes) (λ j. 0) k 0 (omega (arith, length-map notes (λ (n : Note). n.position))) refl (λ j i. (C.alone j i).1) q h,
   );
 }
-
-pub array-filled : {f : Frame} {W : List ℕ} {g : ℕ → ℕ} {r : ℕ} (h : Note → ℕ) (notes : List Note) → f.reps ≤ length notes → Filled (map h notes) g r
-    → r ≡ f.reps → Array f W (map h notes) g
-array-filled h notes l F e = record { long = omega (arith, length-map notes h); at = λ j i. F j (omega (arith, e)) }

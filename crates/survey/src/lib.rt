@@ -1,7 +1,7 @@
 // What is to be known of a level before the next is written: where its representations begin, the orbits of the generator
 // on top, the numbers of what they give, and the constants that close each orbit.
 //
-//   Note                         what is noted of a representation
+//   Note, BLANK                  what is noted of a representation; a note of nothing
 //   Frame                        what a level is made with
 //   listed, member               a representation by its first line
 //   top_target                   where the generator on top leads it
@@ -25,7 +25,7 @@ use rows::Row;
 
 // What is noted of a representation: its first line; the least representation of its orbit, and its position from that on; the
 // number of the first representation above it; and, at the least of an orbit, the constant that closes that.
-#[derive(Clone, Copy, Default)]
+#[derive(Clone, Copy)]
 pub struct Note {
     pub first: u32,
     pub leader: u32,
@@ -33,6 +33,15 @@ pub struct Note {
     pub number: u32,
     pub shift: u32,
 }
+
+// A note of nothing.
+pub const BLANK: Note = Note {
+    first: 0,
+    leader: 0,
+    position: 0,
+    number: 0,
+    shift: 0,
+};
 
 // What a level is made with: the modulus, the generator on top (from 0), how many generators there are, the prime of the
 // one on top, the first line of the level below, how many representations that has, and the line behind it.

@@ -2,7 +2,6 @@
 --
 --   around-rows, shift-closing       the constant of an orbit asks for the power word alone
 --   shift-below                it is below the modulus
---   divide-below               a quotient of a number below m
 --   step-positive              m / p is not 0
 --   root-asked, root-known     what is asked for the constant of extension 0, and what it is
 --   target-known               where an intertwiner leads a representation
@@ -14,7 +13,7 @@ use mathlib.Core.Logic.{by_cases}
 use mathlib.Core.List.{List, []}
 use Prim.Native.Nat.{ℕ, zero, suc, ◌+◌, ◌*◌, ◌/◌, ◌<◌}
 use native.Mathlib.Omega.{arith}
-use native.Mathlib.Nat.{mod-lt, div-le_self}
+use native.Mathlib.Nat.{mod-lt}
 use native.Mathlib.Decide.{ℕ_discrete}
 use lib.ListN.{length, get_or, set, length-map}
 use lib.Seq.{get_or-set_same, get_or-set_other}
@@ -60,9 +59,6 @@ module _ (f : Frame) (W : List ℕ) (rows : List (List ℕ)) where
       → less f.m a b / (f.m / f.p) ≡ landing (source_in f W rows) j r
   unfolding landing conjugated_in top_entry to_nf
   landing_is j r a b e e' = ap₂ (λ x y. less f.m x y / (f.m / f.p)) e e'
-
-pub divide-below : (x p m : ℕ) → x < m → x / p < m
-divide-below x p m h = omega (arith, div-le_self x p)
 
 pub step-positive : (f : Frame) (W : List ℕ) → LevelStands f W → 0 < f.m / f.p
 step-positive f W S = go (f.m / f.p) S.whole

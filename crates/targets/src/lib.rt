@@ -1,6 +1,6 @@
 // Where the intertwiners lead the extensions of a representation that the generator on top fixes.
 //
-//   Target                       where that of one generator leads
+//   Target, BLANK                where that of one generator leads; one that is not found yet
 //   conjugated                   column 0 moved by a conjugate of a generator
 //   root                         the constant of extension 0
 //   landing                      the number of the extension to which extension 0 goes
@@ -22,11 +22,17 @@ use survey::{Frame, Note};
 
 // Where the intertwiner of a generator leads extension 0: to the first extension of the target, by its number, and so many
 // behind it.
-#[derive(Clone, Copy, Default)]
+#[derive(Clone, Copy)]
 pub struct Target {
     pub start: u32,
     pub landing: u32,
 }
+
+// A target that is not found yet.
+pub const BLANK: Target = Target {
+    start: 0,
+    landing: 0,
+};
 
 // Column 0 of d moved by j⁻¹ g j in extension 0: by the word w of the two, the part of g scaled by c, and once more by g.
 fn conjugated(low: &[u32], w: &Row, d: Listed, g: u32, c: u32, m: u32) -> Entry

@@ -1,32 +1,13 @@
 -- `append_above`, case by case.
-use mathlib.Core.Path.{sym}
-use native.Mathlib.Omega.{arith}
-use lib.Seq.{length-take-le}
 use Rattle.text.proofs.Writing.{wrote_as}
-use Rattle.survey.proofs.Notes.{there, noted-led, noted_other}
+use Rattle.survey.proofs.Notes.{noted-led, noted_other}
 use Rattle.builder.proofs.InWords.{above-nothing, extensions-asked, extensions-above, induction-asked, induction-above}
-use Rattle.lines.proofs.Appending.{space-low}
 use Rattle.builder.proofs.append_above.Goals as goal
-
-pub bounds-notes-r : goal.bounds-notes-r
-bounds-notes-r c = there (λ n. n.leader) _ c.requires.surveyed.0.orbited.leaders_are.long c.requires.surveyed.1
 
 pub returns-then-notes-r : goal.returns-then-notes-r
 returns-then-notes-r c = let Y = c.requires.surveyed.0 in
     let other = noted_other Y.orbited c.requires.surveyed.1 c.if-notes-r.true in
     above-nothing c.args.f _ c.args.rows.now Y.sound.stands c.args.r c.requires.surveyed.1 other c.requires.space
-
-pub overflow_mul-n : goal.overflow_mul-n
-overflow_mul-n c = omega (arith, space-low c.requires.space)
-
-pub slice_bounds-top_target-end : goal.slice_bounds-top_target-end
-slice_bounds-top_target-end c = omega (arith, space-low c.requires.space)
-
-pub slice_bounds-top_target-end-2 : goal.slice_bounds-top_target-end-2
-slice_bounds-top_target-end-2 c = sym (length-take-le _ _ (space-low c.requires.space))
-
-pub top_target-requires : goal.top_target-requires
-top_target-requires c = let P = c.requires.surveyed in (P.0.sound.stands, P.0.orbited.lines, P.1)
 
 pub append_extensions-requires : goal.append_extensions-requires
 append_extensions-requires c = let P = c.requires.surveyed in

@@ -1,25 +1,9 @@
 -- `survey_level` notes one field behind the other.
 use mathlib.Core.Path.{refl}
-use native.Mathlib.Omega.{arith}
 use Rattle.survey.specs.Notes.{without_number}
 use Rattle.survey.proofs.Notes.{kept, orbit_of, orbits_kept}
 use Rattle.builder.proofs.Named.{surveyed}
 use Rattle.builder.proofs.survey_level.Goals as goal
-
-pub find_lines-requires : goal.find_lines-requires
-find_lines-requires c = (c.requires.0.stands, c.requires.1)
-
-pub mark_orbits-requires : goal.mark_orbits-requires
-mark_orbits-requires c = (c.requires.0.stands, c.find_lines.ensures.0)
-
-pub count_numbers-x-requires : goal.count_numbers-x-requires
-count_numbers-x-requires c = (c.requires.0.stands, c.mark_orbits.ensures.0)
-
-pub word-u-requires : goal.word-u-requires
-word-u-requires c = (omega arith, omega (arith, c.requires.0.stands.gens))
-
-pub top-n-requires : goal.top-n-requires
-top-n-requires c = omega (arith, c.requires.0.stands.gens)
 
 pub find_shifts-requires : goal.find_shifts-requires
 find_shifts-requires c = (

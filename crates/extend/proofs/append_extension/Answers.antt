@@ -12,12 +12,6 @@ use Rattle.extend.proofs.append_extension.Goals as goal
 pub append_low-pos-requires : goal.append_low-pos-requires
 append_low-pos-requires c = let E = c.requires.extends.0 in record { copies = (extends-copies E, c.requires.extends.1); space = low-space E c.requires.space }
 
-pub loop-g-init : goal.loop-g-init
-loop-g-init c = (search rules, λ w a G. G)
-
-pub reference-x-requires : goal.reference-x-requires
-reference-x-requires c = ((_, (_, c.requires.extends.0.aimed)), c.loop-g.invariant.0, search rules, c.requires.extends.1)
-
 pub append_matrix-pos-requires : goal.append_matrix-pos-requires
 append_matrix-pos-requires c = let l = c.loop-g in
     let f = c.args.f in let o = c.args.o in let E = c.requires.extends.0 in

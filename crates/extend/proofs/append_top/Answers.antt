@@ -2,21 +2,8 @@
 use native.Mathlib.Omega.{arith}
 use Rattle.text.proofs.Writing.{wrote_as}
 use Rattle.survey.specs.Below.{low_of}
-use Rattle.survey.proofs.Level.{located-line}
 use Rattle.extend.proofs.Extensions.{factor-top, piece-copied, piece-lines}
 use Rattle.extend.proofs.append_top.Goals as goal
-
-pub overflow_mul-c : goal.overflow_mul-c
-overflow_mul-c c = let C = c.requires.copies.0 in
-    omega (arith, C.factor_below _ c.requires.copies.1, C.located.stands.modulus)
-
-pub overflow_add-c : goal.overflow_add-c
-overflow_add-c c = let C = c.requires.copies.0 in
-    omega (arith, C.factor_below _ c.requires.copies.1, C.located.stands.modulus)
-
-pub matrix_line-requires : goal.matrix_line-requires
-matrix_line-requires c = let S = c.requires.copies.0.located in
-    located-line S _ (omega (arith, S.stands.gens))
 
 pub append_block-requires : goal.append_block-requires
 append_block-requires c = let C = c.requires.copies.0 in

@@ -12,9 +12,6 @@ use Rattle.extend.proofs.reference.Goals as goal
 abbrev blank : Target
 blank = record { start = 0; landing = 0 }
 
-pub power-a-requires : goal.power-a-requires
-power-a-requires c = ((c.requires.0.0, c.requires.0.1.1.sound), c.requires.1, c.requires.2)
-
 pub overflow_add-result : goal.overflow_add-result
 overflow_add-result c = let R = c.requires.0.1.1 in
     let t : Target = get_or c.args.targets.now c.args.g blank in

@@ -10,21 +10,18 @@ use Rattle.first.proofs.Lines.{root_line-is, root_line-length}
 use Rattle.first.proofs.append_root.Goals as goal
 
 pub loop-g-init : goal.loop-g-init
-loop-g-init c = (search rules, going-none (omega arith) (omega arith))
+loop-g-init c = going-none (omega arith) (omega arith)
 
 pub put_line-pos-requires : goal.put_line-pos-requires
 put_line-pos-requires c = let long = root_line-length c.args.n c.args.p c.args.m c.args.rows.now c.args.k in
-    going-line _ long c.loop-g.invariant.1 (search rules) c.requires.5
+    going-line _ long c.loop-g.invariant (search rules) c.requires.5
 
 pub loop-g-preserved : goal.loop-g-preserved
 unfolding head_line
 loop-g-preserved c = let l = c.loop-g in
     let line = root_line-is c.args.n c.args.p c.args.m c.args.rows.now c.args.k l.g _ _ c.reference-refn.ensures c.exponent-exp.ensures in
-    (search rules, going_more l.invariant.1 (wrote_as c.put_line-pos.ensures line))
-
-pub shape_of-words : goal.shape_of-words
-shape_of-words c = c.loop-g.invariant.1.len
+    going_more l.invariant (wrote_as c.put_line-pos.ensures line)
 
 pub returns : goal.returns
 unfolding root_words
-returns c = let e : c.loop-g.g ≡ c.args.n = omega arith in rw e at c.loop-g.invariant.1.wrote
+returns c = let e : c.loop-g.g ≡ c.args.n = omega arith in rw e at c.loop-g.invariant.wrote

@@ -1,11 +1,7 @@
 -- `append_root` appends a line for each generator.
-use Prim.Native.Nat.{◌-◌, ◌≤◌}
 use Rattle.lines.proofs.Appending.{Going}
 use Rattle.first.specs.Roots.{root_line}
 use Rattle.first.proofs.append_root.Given as goal
 
 abbrev pub invariant-loop-g : goal.invariant-loop-g
-invariant-loop-g l = (l.g ≤ l.n) × Going 0 (root_line l.p l.m l.rows l.k) l.initial.words l.at l.g l.words l.pos
-
-abbrev pub decreases-loop-g : goal.decreases-loop-g
-decreases-loop-g l = l.n - l.g
+invariant-loop-g l = Going 0 (root_line l.p l.m l.rows l.k) l.initial.words l.at l.g l.words l.pos

@@ -1,50 +1,15 @@
 -- `append_generator` finds scalars and reference, and appends.
-use mathlib.Core.Path.{sym}
 use Prim.Native.Nat.{◌≤◌}
 use native.Mathlib.Omega.{arith}
-use lib.Seq.{length-take-le}
 use Rattle.text.proofs.Writing.{wrote_as}
-use Rattle.lines.proofs.Appending.{space-low}
 use Rattle.survey.specs.Below.{low_of}
 use Rattle.induce.proofs.Generators.{stills-are, cells_are, scalars-small}
 use Rattle.induce.proofs.append_generator.Goals as goal
-
-pub append_below-requires : goal.append_below-requires
-append_below-requires c = (
-  record {
-    listing = record { rows = c.args.rows.now; known = c.requires.inducing.0 };
-    degree = c.requires.deg_value.0;
-    inside = c.requires.inducing.1;
-  },
-  c.requires.deg_value.1,
-)
 
 pub returns-then-g-f : goal.returns-then-g-f
 returns-then-g-f c = let a = c.args in
     let are = stills-are _ (low_of a.f a.words.now) _ _ _ _ c.requires.inducing.0 _ in
     record { appended = wrote_as c.append_below.ensures (are c.if-g-f.true c.requires.deg_value.0); inducing_2 = c.requires.inducing.0 }
-
-pub overflow_mul-n : goal.overflow_mul-n
-overflow_mul-n c = omega (arith, space-low c.requires.deg_value.1)
-
-pub slice_bounds-induced_target-end : goal.slice_bounds-induced_target-end
-slice_bounds-induced_target-end c = space-low c.requires.deg_value.1
-
-pub slice_bounds-induced_target-end-2 : goal.slice_bounds-induced_target-end-2
-slice_bounds-induced_target-end-2 c = sym (length-take-le _ _ (space-low c.requires.deg_value.1))
-
-pub induced_target-x-requires : goal.induced_target-x-requires
-induced_target-x-requires c = let I = c.requires.inducing.0 in
-    ((c.args.rows.now, I.surveyed), I.leads.listed, c.requires.inducing.1)
-
-pub slice_bounds-find_scalars-end : goal.slice_bounds-find_scalars-end
-slice_bounds-find_scalars-end c = space-low c.requires.deg_value.1
-
-pub slice_bounds-find_scalars-end-2 : goal.slice_bounds-find_scalars-end-2
-slice_bounds-find_scalars-end-2 c = sym (length-take-le _ _ (space-low c.requires.deg_value.1))
-
-pub find_scalars-requires : goal.find_scalars-requires
-find_scalars-requires c = c.requires.inducing
 
 pub append_cells-requires : goal.append_cells-requires
 append_cells-requires c = let a = c.args in

@@ -2,10 +2,9 @@
 use mathlib.Core.Path.{◌≡◌, sym, ap, ◌∙◌, subst}
 use Prim.Native.Nat.{◌<◌}
 use native.Mathlib.Omega.{arith}
-use lib.Seq.{length-take-le}
 use Rattle.definitions.specs.Lists.{blocks}
 use Rattle.text.proofs.Writing.{wrote_as}
-use Rattle.lines.proofs.Appending.{going_more, going-even, space-none, space-low}
+use Rattle.lines.proofs.Appending.{going_more, going-even, space-none}
 use Rattle.survey.specs.Below.{low_of}
 use Rattle.orbits.specs.Blocks.{Inducing}
 use Rattle.induce.specs.declared.Induction.{Induction}
@@ -14,18 +13,6 @@ use Rattle.induce.proofs.Cells.{induced-length}
 use Rattle.induce.proofs.Generators.{induced-degree, induction-is, induction-room}
 use borrow.Author.Rules.{rules}
 use Rattle.induce.proofs.append_induction.Goals as goal
-
-pub overflow_mul-n : goal.overflow_mul-n
-overflow_mul-n c = omega (arith, space-low c.requires.space)
-
-pub slice_bounds-find_induction-end : goal.slice_bounds-find_induction-end
-slice_bounds-find_induction-end c = space-low c.requires.space
-
-pub slice_bounds-find_induction-end-2 : goal.slice_bounds-find_induction-end-2
-slice_bounds-find_induction-end-2 c = sym (length-take-le _ _ (space-low c.requires.space))
-
-pub find_induction-i-requires : goal.find_induction-i-requires
-find_induction-i-requires c = ((c.args.rows.now, c.requires.surveyed.0), c.requires.surveyed.1.listed, c.requires.surveyed.2)
 
 pub loop-g-init : goal.loop-g-init
 loop-g-init c = let a = c.args in

@@ -5,15 +5,12 @@ use native.Mathlib.Omega.{arith}
 use lib.ListN.{get_or, get_or-map}
 use Rattle.survey.specs.declared.Note.{Note}
 use Rattle.survey.specs.Notes.{shifts}
-use Rattle.survey.proofs.Notes.{blank, there}
+use Rattle.survey.proofs.Notes.{blank}
 use Rattle.orbits.specs.declared.Block.{Block}
 use Rattle.orbits.specs.Blocks.{scalars}
-use Rattle.orbits.proofs.Blocks.{blank as blank_block, listing-stands, block-there}
+use Rattle.orbits.proofs.Blocks.{blank as blank_block, listing-stands}
 use Rattle.induce.proofs.Cases.{by_next, by_last, by-above}
 use Rattle.induce.proofs.block_by.Goals as goal
-
-pub bounds-blocks-b : goal.bounds-blocks-b
-bounds-blocks-b c = block-there _ c.requires.0.1.writing.listing.known.orbit_is _ c.requires.1
 
 pub returns-then-g-f : goal.returns-then-g-f
 returns-then-g-f c = let a = c.args in
@@ -21,13 +18,6 @@ returns-then-g-f c = let a = c.args in
     let e : (get_or a.blocks.now a.b blank_block).scalar ≡ get_or (scalars a.blocks.now) a.b 0 = sym (get_or-map (λ (b : Block). b.scalar) a.blocks.now a.b blank_block) in
     let small = c.requires.0.1.scalars_below above _ c.requires.1 in
     (e ∙ by-above _ _ _ _ _ _ above, subst (λ x. x < a.f.m) (sym e) small)
-
-pub overflow_add-b : goal.overflow_add-b
-overflow_add-b c = omega (arith, c.requires.1, (listing-stands c.requires.0.1.writing.listing).prime.1)
-
-pub bounds-notes-i : goal.bounds-notes-i
-bounds-notes-i c = let I = c.requires.0.1.writing.listing.known in
-    there (λ n. n.shift) _ I.surveyed.shifts_are.long I.leads.listed
 
 pub returns-then-b-f : goal.returns-then-b-f
 returns-then-b-f c = let a = c.args in

@@ -1,18 +1,13 @@
 -- `find_still` reads the representation of the block.
 use mathlib.Core.Path.{sym, ap, ◌∙◌, subst}
 use Prim.Native.Nat.{◌*◌, ◌≤◌}
-use native.Mathlib.Omega.{arith}
 use Rattle.level.specs.declared.Listed.{Listed}
 use Rattle.level.specs.Stored.{line_in}
 use Rattle.survey.specs.Below.{deg_of, Located}
-use Rattle.survey.proofs.Level.{located-line}
 use Rattle.orbits.specs.Blocks.{member_of}
-use Rattle.orbits.proofs.Blocks.{orbit-degree, listing-stands, block-there, block-member, block-degree}
+use Rattle.orbits.proofs.Blocks.{orbit-degree, listing-stands, block-member, block-degree}
 use Rattle.induce.proofs.Cells.{cell-held}
 use Rattle.induce.proofs.find_still.Goals as goal
-
-pub bounds-blocks-b : goal.bounds-blocks-b
-bounds-blocks-b c = block-there _ c.requires.0.listing.known.orbit_is _ c.requires.1
 
 pub member-e-requires : goal.member-e-requires
 member-e-requires c = let W = c.args.low.now in let R = c.requires.0 in
@@ -21,9 +16,6 @@ member-e-requires c = let W = c.args.low.now in let R = c.requires.0 in
     let same = orbit-degree _ _ (listing-stands L) _ _ L.known.leads.listed in
     let degree = R.degree ∙ sym (ap (deg_of c.args.f W) o.0 ∙ same) in
     (listing-stands L, L.known.surveyed.orbited.lines, o.1, degree)
-
-pub matrix_line-requires : goal.matrix_line-requires
-matrix_line-requires c = located-line c.member-e.ensures _ (omega (arith, c.requires.0.inside))
 
 pub returns : goal.returns
 returns c = let f = c.args.f in let W = c.args.low.now in

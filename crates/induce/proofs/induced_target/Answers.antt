@@ -11,19 +11,8 @@ use Rattle.survey.proofs.Level.{located-stored, located-target}
 use Rattle.survey.proofs.Marking.{lead-below}
 use Rattle.induce.proofs.induced_target.Goals as goal
 
-pub returns-then-g-f : goal.returns-then-g-f
-returns-then-g-f c = λ a. absurd (omega (arith, a, c.if-g-f.true))
-
-pub listed-d-requires : goal.listed-d-requires
-listed-d-requires c = let Y = c.requires.0.1 in (Y.sound.stands, Y.orbited.lines, c.requires.1)
-
 pub target-q-requires : goal.target-q-requires
 target-q-requires c = (c.args.f.m, located-stored c.listed-d.ensures (suc c.args.g) c.requires.2)
-
-pub bounds-notes-q : goal.bounds-notes-q
-bounds-notes-q c = let D = c.listed-d.ensures in
-    let t = located-target D _ _ (omega (arith, c.if-g-f.false)) c.requires.2 c.target-q.ensures in
-    there (λ n. n.leader) _ c.requires.0.1.orbited.leaders_are.long t.1
 
 pub bounds-notes-l : goal.bounds-notes-l
 bounds-notes-l c = let Y = c.requires.0.1 in

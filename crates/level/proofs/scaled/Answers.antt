@@ -1,14 +1,10 @@
 -- `scaled` moves an entry and adds c.
 use mathlib.Core.Path.{ap, ap₂, ◌∙◌}
 use Prim.Native.Nat.{◌+◌, ◌%◌}
-use native.Mathlib.Nat.{le_refl}
 use Rattle.definitions.specs.declared.Entry.{Entry}
 use Rattle.definitions.specs.Monomial.{entry}
 use Rattle.formulas.specs.Formulas.{plus}
 use Rattle.level.proofs.scaled.Goals as goal
-
-pub add_mod-requires : goal.add_mod-requires
-add_mod-requires c = (c.moved-y.ensures.1.exp, c.requires.2, (c.requires.0.holds _ (le_refl _)).small)
 
 pub returns : goal.returns
 unfolding plus

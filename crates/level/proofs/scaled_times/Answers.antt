@@ -1,37 +1,20 @@
--- `scaled_times`: after i turns r is what i turns make of x; turns that keep the basis index add up.
+-- `scaled_times`: after so many turns r is what they make of x; turns that keep the basis index add up.
 use mathlib.Core.Path.{◌≡◌, sym, ap, ◌∙◌}
 use Prim.Native.Nat.{◌+◌, ◌*◌, ◌%◌}
 use native.Mathlib.Omega.{arith}
-use native.Mathlib.Nat.{le_refl}
 use Rattle.definitions.specs.declared.Entry.{Entry}
 use Rattle.definitions.specs.Monomial.{entry}
 use Rattle.numbers.proofs.Lists.{iter-zero}
 use Rattle.formulas.specs.Formulas.{plus}
 use Rattle.level.specs.Stored.{entry_in, line_in}
-use Rattle.level.proofs.Columns.{turns-none, turns-one, turns_more, turns-all, iter-fixed, act-in, plus-fixed, stored-line, stored_at}
-use borrow.Author.Rules.{rules}
+use Rattle.level.proofs.Columns.{turns-none, turns-one, turns_more, turns-all, iter-fixed, act-in, plus-fixed}
 use Rattle.level.proofs.scaled_times.Goals as goal
 
 pub returns-then-k-eq0 : goal.returns-then-k-eq0
 returns-then-k-eq0 c = (turns-none _ c.if-k-eq0.true, c.requires.1)
 
-pub scaled-y-requires : goal.scaled-y-requires
-scaled-y-requires c = c.requires
-
 pub returns-then-k-eq1 : goal.returns-then-k-eq1
 returns-then-k-eq1 c = let s = c.scaled-y in (turns-one _ c.if-k-eq1.true s.ensures.0, s.ensures.1)
-
-pub matrix_line-requires : goal.matrix_line-requires
-matrix_line-requires c = omega (arith, stored-line c.requires.0, c.well_formed)
-
-pub column-e-requires : goal.column-e-requires
-column-e-requires c = (stored_at c.requires.0 c.matrix_line.ensures, c.requires.1.row)
-
-pub add_mod-requires : goal.add_mod-requires
-add_mod-requires c = (c.column-e.ensures.1.exp, c.requires.2, (c.requires.0.holds _ (le_refl _)).small)
-
-pub add_times-requires : goal.add_times-requires
-add_times-requires c = (c.requires.1.exp, c.add_mod.ensures.1, (c.requires.0.holds _ (le_refl _)).small)
 
 pub returns-then-y-x : goal.returns-then-y-x
 unfolding plus
@@ -48,17 +31,14 @@ returns-then-y-x c = let scaled' = c.scaled-y in
       record { row = c.requires.1.row; exp = c.add_times.ensures.1 },
     )
 
-pub loop-i-init : goal.loop-i-init
-loop-i-init c = (search rules, omega arith, sym (iter-zero _ _), c.scaled-y.ensures.1)
+pub loop-init : goal.loop-init
+loop-init c = (omega arith, sym (iter-zero _ _), c.scaled-y.ensures.1)
 
-pub scaled-r-requires : goal.scaled-r-requires
-scaled-r-requires c = (c.requires.0, c.loop-i.invariant.3, c.requires.2)
-
-pub loop-i-preserved : goal.loop-i-preserved
-loop-i-preserved c = let l = c.loop-i in
-    (search rules, omega arith, turns_more _ _ l.invariant.1 l.invariant.2 c.scaled-r.ensures.0, c.scaled-r.ensures.1)
+pub loop-preserved : goal.loop-preserved
+loop-preserved c = let l = c.loop in
+    (omega arith, turns_more _ _ l.invariant.0 l.invariant.1 c.scaled-r.ensures.0, c.scaled-r.ensures.1)
 
 pub returns : goal.returns
-returns c = let l = c.loop-i in
-    let e : l.i ≡ c.args.k = omega arith in
-    (turns-all _ l.invariant.1 e c.scaled-y.ensures.0 l.invariant.2, l.invariant.3)
+returns c = let l = c.loop in
+    let e : l.counter ≡ c.args.k = omega arith in
+    (turns-all _ l.invariant.0 e c.scaled-y.ensures.0 l.invariant.1, l.invariant.2)

@@ -10,12 +10,6 @@ use Rattle.level.proofs.single_times.Goals as goal
 pub returns-then-k-eq0 : goal.returns-then-k-eq0
 returns-then-k-eq0 c = (turns-none _ c.if-k-eq0.true, c.requires.1)
 
-pub column-z-requires : goal.column-z-requires
-column-z-requires c = (c.requires.0, omega arith)
-
-pub add_times-requires : goal.add_times-requires
-add_times-requires c = (c.requires.1, c.column-z.ensures.1.exp, c.requires.0.small)
-
 pub returns : goal.returns
 returns c = let e = ap (λ (x : Entry). x.exp) c.column-z.ensures.0 in
     let row = (c.requires.0.valid 0 (omega arith)).row in

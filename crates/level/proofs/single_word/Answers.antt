@@ -1,9 +1,9 @@
 -- `single_word`: after k generators y is the exponent that their part of the word makes of e.
 use borrow.Author.Rules.{rules}
 use mathlib.Core.Path.{◌≡◌, sym, ap₂, ◌∙◌, subst}
-use Prim.Native.Nat.{ℕ, ◌≤◌, ◌+◌, ◌*◌}
+use Prim.Native.Nat.{ℕ, ◌+◌, ◌*◌}
 use native.Mathlib.Omega.{arith}
-use lib.ListN.{length, get_or}
+use lib.ListN.{get_or}
 use Rattle.definitions.specs.declared.Entry.{Entry}
 use Rattle.definitions.specs.Lists.{iter}
 use Rattle.definitions.specs.Monomial.{Matrix, entry, act}
@@ -13,11 +13,6 @@ use Rattle.level.proofs.single_word.Goals as goal
 
 pub loop-k-init : goal.loop-k-init
 loop-k-init c = (search rules, sym (walk-zero _ _ c.args.w.now _), c.requires.2)
-
-pub overflow_add-at : goal.overflow_add-at
-overflow_add-at c = let l = c.loop-k in
-    let f : 8 * (c.args.at + l.k * 1 + 1) ≤ length c.args.words.now = (c.requires.1 l.k (search rules)).fits in
-    omega (arith, f, c.well_formed)
 
 pub single_times-y-requires : goal.single_times-y-requires
 single_times-y-requires c = let l = c.loop-k in
@@ -32,7 +27,3 @@ loop-k-preserved c = let l = c.loop-k in
     let T = c.single_times-y.ensures in
     let step = ap₂ (λ g (x : Entry). iter (act c.args.m (matrix_in W g 1)) (get_or c.args.w.now l.k 0) x) i l.invariant.1 in
     (search rules, T.0 ∙ step ∙ sym (walk-next _ F _ _ (entry 0 c.args.e)), T.1)
-
-pub returns : goal.returns
-returns c = let e : c.loop-k.k ≡ c.args.n = omega arith in
-    (rw e at c.loop-k.invariant.1, c.loop-k.invariant.2)

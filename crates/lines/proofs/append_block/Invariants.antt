@@ -1,7 +1,6 @@
 -- `append_block` appends a line for each column, or one line where the degree is 1.
-use mathlib.Core.Path.{◌≡◌}
 use mathlib.Core.List.{List}
-use Prim.Native.Nat.{ℕ, ◌+◌, ◌*◌, ◌≤◌, ◌-◌}
+use Prim.Native.Nat.{ℕ, ◌+◌, ◌*◌}
 use lib.ListN.{take}
 use Rattle.lines.specs.declared.Head.{Head}
 use Rattle.lines.specs.declared.Piece.{Piece}
@@ -13,8 +12,4 @@ unfoldable pub turn : ℕ → Head → Piece → List ℕ → ℕ → List ℕ
 turn m h b W k = head_line h (b.col + k) (block_entry m b W k)
 
 abbrev pub invariant-loop-k : goal.invariant-loop-k
-invariant-loop-k l = (l.k ≤ l.deg) × (l.deg ≡ l.b.deg) ×
-    Going l.low (turn l.m l.h l.b (take (8 * l.low) l.initial.words)) l.initial.words l.at l.k l.words l.pos
-
-abbrev pub decreases-loop-k : goal.decreases-loop-k
-decreases-loop-k l = l.deg - l.k
+invariant-loop-k l = Going l.low (turn l.m l.h l.b (take (8 * l.low) l.initial.words)) l.initial.words l.at l.k l.words l.pos

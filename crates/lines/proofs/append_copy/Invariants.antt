@@ -1,7 +1,6 @@
 -- `append_copy` appends a line for each column, or one line where the degree is 1.
-use mathlib.Core.Path.{◌≡◌}
 use mathlib.Core.List.{List}
-use Prim.Native.Nat.{ℕ, ◌+◌, ◌*◌, ◌≤◌, ◌-◌}
+use Prim.Native.Nat.{ℕ, ◌+◌, ◌*◌}
 use lib.ListN.{take}
 use Rattle.level.specs.Stored.{entry_in}
 use Rattle.lines.specs.declared.Head.{Head}
@@ -13,7 +12,4 @@ unfoldable pub turn : Head → ℕ → List ℕ → ℕ → List ℕ
 turn h src W k = head_line h k (entry_in W (src + k))
 
 abbrev pub invariant-loop-k : goal.invariant-loop-k
-invariant-loop-k l = (l.k ≤ l.deg) × (l.deg ≡ l.h.deg) × Going l.low (turn l.h l.src (take (8 * l.low) l.initial.words)) l.initial.words l.at l.k l.words l.pos
-
-abbrev pub decreases-loop-k : goal.decreases-loop-k
-decreases-loop-k l = l.deg - l.k
+invariant-loop-k l = Going l.low (turn l.h l.src (take (8 * l.low) l.initial.words)) l.initial.words l.at l.k l.words l.pos

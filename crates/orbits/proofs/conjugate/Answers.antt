@@ -12,9 +12,6 @@ use Rattle.orbits.specs.Sides.{EntryIs, cycle_in, conjugate_in}
 use Rattle.orbits.proofs.Blocks.{listing-stands, block-degree}
 use Rattle.orbits.proofs.conjugate.Goals as goal
 
-pub of_block-e-requires : goal.of_block-e-requires
-of_block-e-requires c = (c.requires.0, c.requires.1)
-
 pub walked-x-requires : goal.walked-x-requires
 walked-x-requires c = let D = c.of_block-e.ensures in
     let gens = (listing-stands c.requires.0).gens in

@@ -37,9 +37,6 @@ module _ {f : Frame} {W : List ℕ} {rows : List (List ℕ)} {notes : List Note}
   shift-small : (get_or notes (get_or notes q blank).leader blank).shift < f.m
   shift-small = subst (λ x. x < f.m) (noted_at (λ n. n.shift) notes _ (there (λ n. n.shift) notes Y.shifts_are.long led)) (Y.shifts_are.below _ led)
 
-pub bounds-notes-q : goal.bounds-notes-q
-bounds-notes-q c = row c.requires.0.2 _ c.requires.1
-
 pub overflow_add-n : goal.overflow_add-n
 overflow_add-n c = let Y = c.requires.0.2 in omega (arith, position-small Y _ c.requires.1, Y.sound.stands.prime.1)
 

@@ -9,9 +9,6 @@ use Rattle.orbits.proofs.Blocks.{listing-stands, block-degree}
 use Rattle.orbits.proofs.Sides.{cycle-within, cycle-last}
 use Rattle.orbits.proofs.cycle.Goals as goal
 
-pub of_block-e-requires : goal.of_block-e-requires
-of_block-e-requires c = (c.requires.0, c.requires.2.block_below)
-
 pub moved-y-requires : goal.moved-y-requires
 moved-y-requires c = let f = c.args.f in let D = c.of_block-e.ensures in
     let d = block-degree c.requires.0 _ D in
@@ -29,9 +26,6 @@ returns-then-b-f c = let f = c.args.f in let s = c.args.s in
       is = cycle-within _ _ _ _ _ y e h E.1.exp;
       lies = record { block_below = omega (arith, h); entry_below = subst (λ d. Below f.m d y) d E.1 };
     }
-
-pub add_mod-requires : goal.add_mod-requires
-add_mod-requires c = (c.moved-y.ensures.1.exp, c.requires.1, omega (arith, (listing-stands c.requires.0).modulus.1))
 
 pub returns : goal.returns
 returns c = let f = c.args.f in

@@ -9,9 +9,6 @@ use Rattle.orbits.specs.Sides.{left_in}
 use Rattle.orbits.proofs.Blocks.{block-degree}
 use Rattle.orbits.proofs.left.Goals as goal
 
-pub of_block-e-requires : goal.of_block-e-requires
-of_block-e-requires c = (c.requires.0, c.requires.2.block_below)
-
 pub moved-y-requires : goal.moved-y-requires
 moved-y-requires c = let D = c.of_block-e.ensures in
     let d = block-degree c.requires.0 _ D in

@@ -1,5 +1,5 @@
 -- `list_orbit`: q is member k, and the members before it are listed.
-use mathlib.Core.Path.{◌≡◌, sym, ap, ◌∙◌, subst}
+use mathlib.Core.Path.{sym, ap, ◌∙◌, subst}
 use Prim.Native.Nat.{suc, ◌+◌, ◌<◌}
 use native.Mathlib.Omega.{arith}
 use native.Mathlib.Nat.{le_refl}
@@ -15,9 +15,6 @@ use Rattle.orbits.specs.declared.Block.{Block}
 use Rattle.orbits.specs.Blocks.{members, member_of}
 use Rattle.orbits.proofs.Blocks.{blank}
 use Rattle.orbits.proofs.list_orbit.Goals as goal
-
-pub listed-d-requires : goal.listed-d-requires
-listed-d-requires c = (c.requires.0, c.requires.1, c.requires.2)
 
 pub loop-k-init : goal.loop-k-init
 loop-k-init c =
@@ -43,8 +40,3 @@ loop-k-preserved c = let l = c.loop-k in let f = c.args.f in
       subst (λ a. Filled a (member_of f W c.args.r) next) (sym (map-set (λ (b : Block). b.member) l.blocks l.k (record { member = l.q; scalar = (get_or l.blocks l.k blank).scalar }))) F,
       l.invariant.2 ∙ sym (located-degree M) ∙ t.2,
     )
-
-pub returns : goal.returns
-returns c = let l = c.loop-k in
-    let e : l.k ≡ c.args.f.p = omega arith in
-    record { long = omega (arith, c.requires.3, length-map l.blocks (λ (b : Block). b.member)); at = λ k h. l.invariant.1 k (omega (arith, e)) }

@@ -2,22 +2,11 @@
 use mathlib.Core.Path.{◌≡◌, refl}
 use Prim.Native.Nat.{suc, ◌+◌, ◌<◌}
 use native.Mathlib.Omega.{arith}
-use Rattle.orbits.proofs.Blocks.{block-there}
 use Rattle.orbits.proofs.Along.{scaling-none, scaling-more, scaling-all}
 use Rattle.orbits.proofs.list_scalars.Goals as goal
 
-pub bounds-blocks-0 : goal.bounds-blocks-0
-bounds-blocks-0 c = block-there _ c.requires.0.orbit_is 0 (omega (arith, c.requires.0.surveyed.sound.stands.prime.0))
-
 pub loop-init : goal.loop-init
 loop-init c = (0, refl, scaling-none _ _ _ _ _ c.requires.1 c.requires.2 c.args.blocks.now c.requires.0)
-
-pub next_scalar-s-requires : goal.next_scalar-s-requires
-next_scalar-s-requires c = let C = c.loop.invariant.2 in
-    (C.known, c.requires.1, c.requires.2, C.below.0, C.below.1)
-
-pub bounds-blocks-s : goal.bounds-blocks-s
-bounds-blocks-s c = block-there _ c.loop.invariant.2.known.orbit_is _ c.next_scalar-s.ensures.block_below
 
 pub loop-preserved : goal.loop-preserved
 loop-preserved c = let (k, e, C) = c.loop.invariant in

@@ -2,7 +2,6 @@
 use mathlib.Core.Path.{◌≡◌, sym, ap, ◌∙◌, subst}
 use mathlib.Core.List.{List}
 use Prim.Native.Nat.{ℕ, ◌<◌}
-use native.Mathlib.Omega.{arith}
 use lib.ListN.{get_or}
 use Rattle.definitions.specs.Monomial.{less}
 use Rattle.survey.specs.declared.Frame.{Frame}
@@ -19,13 +18,6 @@ shift_noted : {f : Frame} {W : List ℕ} {rows : List (List ℕ)} {notes : List 
     → get_or (shifts notes) r 0 ≡ (get_or notes r blank).shift
 shift_noted {notes = notes} {r = r} I = noted_at (λ n. n.shift) notes r (there (λ n. n.shift) notes I.surveyed.shifts_are.long I.leads.listed)
 
-pub word-w-requires : goal.word-w-requires
-word-w-requires c = let gens = c.requires.0.surveyed.sound.stands.gens in
-    (omega (arith, c.requires.1), omega (arith, c.requires.2, gens))
-
-pub bounds-notes-r : goal.bounds-notes-r
-bounds-notes-r c = let I = c.requires.0 in there (λ n. n.shift) _ I.surveyed.shifts_are.long I.leads.listed
-
 pub conjugate-a-requires : goal.conjugate-a-requires
 conjugate-a-requires c = let I = c.requires.0 in let f = c.args.f in
     let w = c.word-w.ensures in (
@@ -34,18 +26,6 @@ conjugate-a-requires c = let I = c.requires.0 in let f = c.args.f in
       subst (λ x. x < f.m) (shift_noted c.requires.0) (I.surveyed.shifts_are.below _ I.leads.listed),
       subst (λ x. get_or x f.top 0 < f.p) (sym w) (I.surveyed.sound.words.below _ c.requires.1 c.requires.2),
     )
-
-pub left-l-requires : goal.left-l-requires
-left-l-requires c = (record { rows = c.args.rows.now; known = c.requires.0 }, c.requires.2, c.conjugate-a.ensures.lies)
-
-pub right-y-requires : goal.right-y-requires
-right-y-requires c = (record { rows = c.args.rows.now; known = c.requires.0 }, c.requires.1, c.requires.2, c.requires.3)
-
-pub add_mod-e-requires : goal.add_mod-e-requires
-add_mod-e-requires c = (c.requires.4, c.right-y.ensures.1, omega (arith, c.requires.0.surveyed.sound.stands.modulus.1))
-
-pub sub_mod-requires : goal.sub_mod-requires
-sub_mod-requires c = (c.add_mod-e.ensures.1, c.left-l.ensures.1, omega (arith, c.requires.0.surveyed.sound.stands.modulus.1))
 
 pub returns : goal.returns
 returns c = let a = c.args in

@@ -1,11 +1,8 @@
 -- `of_block` reads which representation stands at a block.
 use mathlib.Core.Path.{subst}
 use Rattle.survey.specs.Below.{Located}
-use Rattle.orbits.proofs.Blocks.{listing-stands, block-there, block-member}
+use Rattle.orbits.proofs.Blocks.{listing-stands, block-member}
 use Rattle.orbits.proofs.of_block.Goals as goal
-
-pub bounds-blocks-b : goal.bounds-blocks-b
-bounds-blocks-b c = block-there _ c.requires.0.known.orbit_is _ c.requires.1
 
 pub listed-requires : goal.listed-requires
 listed-requires c = let L = c.requires.0 in

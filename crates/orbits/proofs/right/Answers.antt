@@ -9,20 +9,8 @@ use Rattle.orbits.specs.Sides.{constant_in, right_in}
 use Rattle.orbits.proofs.Blocks.{listing-stands}
 use Rattle.orbits.proofs.right.Goals as goal
 
-pub of_block-d-requires : goal.of_block-d-requires
-of_block-d-requires c = (c.requires.0, c.requires.3)
-
 pub target-q-requires : goal.target-q-requires
 target-q-requires c = (c.args.f.m, located-stored c.of_block-d.ensures (suc c.args.j) c.requires.2)
-
-pub member-e-requires : goal.member-e-requires
-member-e-requires c = let L = c.requires.0 in
-    let t = located-target c.of_block-d.ensures _ _ (omega (arith, c.requires.1)) c.requires.2 c.target-q.ensures in
-    (listing-stands L, L.known.surveyed.orbited.lines, t.1, t.2)
-
-pub constant-c-requires : goal.constant-c-requires
-constant-c-requires c = let t = located-target c.of_block-d.ensures _ _ (omega (arith, c.requires.1)) c.requires.2 c.target-q.ensures in
-    let L = c.requires.0 in ((c.args.low.now, L.rows, L.known.surveyed), t.1)
 
 pub through-requires : goal.through-requires
 through-requires c = let D = c.of_block-d.ensures in let M = c.member-e.ensures in

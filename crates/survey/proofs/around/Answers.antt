@@ -6,15 +6,12 @@ use Rattle.definitions.specs.declared.Entry.{Entry}
 use Rattle.definitions.specs.Lists.{iter}
 use Rattle.definitions.specs.Monomial.{Matrix, entry, act}
 use Rattle.level.specs.Stored.{Below}
-use Rattle.survey.proofs.Level.{located-stored, located-degree, located-matrix, located-column, located-target}
+use Rattle.survey.proofs.Level.{located-stored, located-degree, located-matrix, located-target}
 use Rattle.survey.proofs.Counting.{around-fixed}
 use Rattle.survey.proofs.around.Goals as goal
 
 pub target-requires : goal.target-requires
 target-requires c = (c.args.f.m, located-stored c.requires.0 (suc c.args.f.top) c.requires.0.stands.gens.0)
-
-pub moved_times-requires : goal.moved_times-requires
-moved_times-requires c = (located-stored c.requires.0 (suc c.args.f.top) c.requires.0.stands.gens.0, located-column c.requires.0)
 
 pub returns-then-target-r : goal.returns-then-target-r
 returns-then-target-r c = let L = c.requires.0 in

@@ -1,14 +1,12 @@
 -- `carry_around`: after so many steps the entry is that of the formulas.
-use mathlib.Core.Path.{◌≡◌, sym, ap, ap₂, ◌∙◌, subst}
+use mathlib.Core.Path.{sym, ap, ap₂, ◌∙◌}
 use mathlib.Core.List.{[]}
 use Prim.Native.Nat.{ℕ}
-use native.Mathlib.Omega.{arith}
 use Rattle.definitions.specs.declared.Entry.{Entry}
 use Rattle.definitions.specs.Monomial.{act}
 use Rattle.numbers.proofs.Lists.{iter-zero}
-use Rattle.level.specs.Stored.{Below}
 use Rattle.level.proofs.Columns.{iter-next}
-use Rattle.survey.specs.Below.{target_of, source_in, around_in}
+use Rattle.survey.specs.Below.{target_of, source_in}
 use Rattle.survey.proofs.Level.{located-degree, located-column}
 use Rattle.survey.proofs.Counting.{around-zero, around-next}
 use Rattle.survey.proofs.carry_around.Goals as goal
@@ -16,9 +14,6 @@ use Rattle.survey.proofs.carry_around.Goals as goal
 pub loop-init : goal.loop-init
 loop-init c = let L = c.requires.0 in
     (sym (iter-zero _ _), around-zero _ _ _, record { rep_below = L.listed; same_degree = located-degree L; entry_below = located-column L })
-
-pub carry-s-requires : goal.carry-s-requires
-carry-s-requires c = (c.requires.0.stands, c.requires.1, c.loop.invariant.2)
 
 pub loop-preserved : goal.loop-preserved
 loop-preserved c = let l = c.loop in
@@ -28,11 +23,4 @@ loop-preserved c = let l = c.loop in
       t.rep_is ∙ ap τ l.invariant.0 ∙ sym (iter-next τ _ _),
       t.entry_is ∙ ap₂ F l.invariant.0 l.invariant.1 ∙ sym (around-next _ _ _ _),
       t.carried,
-    )
-
-pub returns : goal.returns
-returns c = let l = c.loop in
-    let e : l.counter ≡ c.args.f.p = omega arith in (
-      l.invariant.1 ∙ ap (around_in c.args.f c.args.low.now c.args.r) e,
-      subst (λ d. Below c.args.f.m d l.s.x) (located-degree c.requires.0) l.invariant.2.entry_below,
     )

@@ -1,24 +1,12 @@
 -- `mark_orbits`: the orbits of the representations before r are marked.
-use mathlib.Core.Path.{◌≡◌, refl, sym, ◌∙◌, subst}
-use Prim.Native.Nat.{◌≤◌}
+use mathlib.Core.Path.{◌≡◌, sym, ◌∙◌, subst}
 use native.Mathlib.Omega.{arith}
-use lib.ListN.{length, length-map}
 use borrow.Author.Rules.{rules}
-use Rattle.survey.specs.declared.Note.{Note}
 use Rattle.survey.specs.Notes.{leaders, positions, without_orbit}
 use Rattle.survey.specs.Below.{Lines, MarkedTo}
 use Rattle.survey.proofs.Notes.{kept}
-use Rattle.survey.proofs.Marking.{marking-none, marking-all}
+use Rattle.survey.proofs.Marking.{marking-all}
 use Rattle.survey.proofs.mark_orbits.Goals as goal
-
-pub loop-r-init : goal.loop-r-init
-loop-r-init c = let C = c.clear.ensures in
-    let n = c.clear.new.notes in
-    let long = c.requires.1.long in
-    let h : c.args.f.reps ≤ length n = omega (arith, long, length-map c.args.notes.now (λ (n : Note). n.first)) in
-    let M = marking-none c.args.f c.args.low.now c.requires.0 (leaders n) (positions n)
-    (omega (arith, h, length-map n (λ (n : Note). n.leader))) (omega (arith, h, length-map n (λ (n : Note). n.position))) C.alone in
-    record { marks = M; lines = refl; len = refl }
 
 pub mark_from-requires-clause-level_stands : goal.mark_from-requires-clause-level_stands
 mark_from-requires-clause-level_stands c = let l = c.loop-r in

@@ -1,22 +1,13 @@
 -- `conjugated` walks the word and turns by its highest generator.
 use mathlib.Core.Path.{ap₂, ◌∙◌}
-use native.Mathlib.Omega.{arith}
 use native.Mathlib.Numerals.{add-one}
 use Rattle.definitions.specs.declared.Entry.{Entry}
 use Rattle.definitions.specs.Lists.{iter}
 use Rattle.definitions.specs.Monomial.{act}
 use Rattle.formulas.specs.Formulas.{plus}
 use Rattle.level.specs.Stored.{generator_in}
-use Rattle.level.proofs.Columns.{stored-fewer}
 use Rattle.targets.specs.Reached.{conjugated_in}
 use Rattle.targets.proofs.conjugated.Goals as goal
-
-pub walked-x-requires : goal.walked-x-requires
-walked-x-requires c =
-    (omega arith, stored-fewer c.args.g (omega arith) c.requires.0, record { row = c.requires.0.positive; exp = omega arith })
-
-pub scaled_times-requires : goal.scaled_times-requires
-scaled_times-requires c = (c.requires.0, c.walked-x.ensures.1, c.requires.2)
 
 pub returns : goal.returns
 unfolding conjugated_in

@@ -1,3 +1,0 @@
--- Laws of signed words, and of rounds.
-pub mod Words
-pub mod Quotients
