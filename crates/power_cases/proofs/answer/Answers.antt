@@ -12,7 +12,7 @@ use borrow.Author.Rules.{rules}
 use Rattle.power_cases.proofs.answer.Goals as goal
 
 pub print_powers-requires : goal.print_powers-requires
-print_powers-requires c = let W = c.parse-2.new.words in
+print_powers-requires g c = let W = c.parse-2.new.words in
     let q = c.parse.new.words in
     let d = get_or q 0 0 in
     let m = get_or q 1 0 in

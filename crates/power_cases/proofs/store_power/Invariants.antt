@@ -6,6 +6,3 @@ use Rattle.power_cases.proofs.store_power.Given as goal
 
 abbrev pub invariant-loop-c : goal.invariant-loop-c
 invariant-loop-c l = (l.c ≤ l.d) × (length l.out ≡ 256)
-
-abbrev pub decreases-loop-c : goal.decreases-loop-c
-decreases-loop-c l = l.d - l.c

@@ -1,2 +1,0 @@
--- A law of the exponents.
-pub mod Opposites
