@@ -47,7 +47,7 @@ struct Level<'a> {
     images: &'a Forms,
     ghost within: { i < collector.now.n },
     ghost central: { Central (suc i) collector.now.rows.now rise.now },
-    ghost imaged: { Images i collector.now.primes.now collector.now.rows.now images.now i } by { Images-prop i collector.now.primes.now collector.now.rows.now images.now i },
+    ghost imaged: { Images i collector.now.primes.now collector.now.rows.now images.now i } by { Images-prop },
 }
 
 impl Level<'_> {
