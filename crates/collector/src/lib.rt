@@ -201,6 +201,7 @@ impl<'a> Collector<'a> {
         }
         let mut r = [0u32; GENERATORS];
         for _n in 0..e {
+            // The borrow check does not cover a call whose result is laid into an array that stands already.
             let s = self.product(i, x, r);
             r = s;
         }

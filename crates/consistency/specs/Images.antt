@@ -1,6 +1,6 @@
 -- What the tables of images and the values over them say, for every presentation that primes and rows read.
 --
---   Images i primes rows h m      the first m rows of h are images under conjugation by generator i
+--   Images i primes rows h m      the first m rows of h are images under conjugation by generator i; a fact (Images-prop)
 --   Value i primes rows k x r     r is the value over the images of the first k exponents of x
 use Rattle.std.specs.Prelude.{◌≡◌, List, [], ℕ, zero, suc, ◌<◌, get_or}
 use Rattle.std.specs.Coded.{le_prop}
@@ -20,8 +20,8 @@ NF-set : (i : ℕ) → IsSet (NF i)
 NF-set zero = hlevel
 NF-set (suc i) = let h = NF-set i in hlevel ℕ_set
 
-pub Images-prop : (i : ℕ) (primes : List ℕ) (rows h : List (List ℕ)) (m : ℕ) → IsProp (Images i primes rows h m)
-Images-prop i primes rows h m = let s = NF-set i in hlevel le_prop
+pub Images-prop : {i : ℕ} {primes : List ℕ} {rows h : List (List ℕ)} {m : ℕ} → IsProp (Images i primes rows h m)
+Images-prop {i} = let s = NF-set i in hlevel le_prop
 
 -- r is the value over the images of the first k exponents of x
 pub record Value (i : ℕ) (primes : List ℕ) (rows : List (List ℕ)) (k : ℕ) (x r : List ℕ) : Type 0 where

@@ -33,8 +33,7 @@ fn find_images(collector: &Collector, i: usize, images: &mut Forms)
     ensures { Images i collector.now.primes.now collector.now.rows.now images.new i × (length images.new ≡ max_generators) }
 {
     for k in 0..i {
-        let c = collector.conjugate(i, i, generator(k));
-        images[k] = c;
+        images[k] = collector.conjugate(i, i, generator(k));
     }
 }
 
@@ -48,7 +47,7 @@ struct Level<'a> {
     images: &'a Forms,
     ghost within: { i < collector.now.n },
     ghost central: { Central (suc i) collector.now.rows.now rise.now },
-    ghost imaged: { Images i collector.now.primes.now collector.now.rows.now images.now i } by { Images-prop i collector.now.primes.now collector.now.rows.now images.now i },
+    ghost imaged: { Images i collector.now.primes.now collector.now.rows.now images.now i } by { Images-prop },
 }
 
 impl Level<'_> {
@@ -61,6 +60,7 @@ impl Level<'_> {
     {
         let mut v = [0u32; GENERATORS];
         for m in 0..k {
+            // The borrow check does not cover a call whose result is laid into an array that stands already.
             let s = self.collector.scaled(self.i, self.images[m], x[m], v);
             v = s;
         }
@@ -79,7 +79,8 @@ impl Level<'_> {
         same(self.i, l, v)
     }
 
-    // The images keep the power relations of the generators below i.
+    // The images keep the power relations of the generators below i. Here and below the tests are a `for`: what one answers is known for
+    // each presentation, and is no function of k that `all` could be told.
     fn keeps_powers(&self) -> bool
         ensures { Answers self.now keeps_powers result }
     {

@@ -12,7 +12,7 @@ loop-k-init c = (search rules, images-none)
 
 pub loop-k-preserved : goal.loop-k-preserved
 loop-k-preserved c = let l = c.loop-k in
-    (length-set l.images l.k c.conjugate-c.result ∙ l.invariant.0, images-more (search rules) l.invariant.1 c.generator.ensures c.conjugate-c.ensures)
+    (length-set l.images l.k c.conjugate.result ∙ l.invariant.0, images-more (search rules) l.invariant.1 c.generator.ensures c.conjugate.ensures)
 
 pub returns : goal.returns
 returns c = let l = c.loop-k in
