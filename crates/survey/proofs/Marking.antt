@@ -3,7 +3,7 @@
 --   marking-none               nothing is marked
 --   marking-next               where the orbit of r is marked, all orbits up to it are
 --   marking_step, marking_put  one more member of the orbit of r; the same in notes
---   marking-alone              the one member of an orbit that does not move is marked as it is
+--   marking-alone, marking_put_alone      the one member of an orbit that does not move; the same in notes
 --   marking-done               all members of the orbit of r, and so all orbits up to it
 --   marking-skip               r is led by another, so it begins no orbit
 --   marking-all                every orbit
@@ -15,6 +15,8 @@ use native.Mathlib.Omega.{arith}
 use native.Mathlib.Decide.{dec_lt, ℕ_discrete}
 use lib.ListN.{length, get_or, set, length-set}
 use lib.Seq.{get_or-set_same, get_or-set_other}
+use Rattle.std.proofs.Math.Seq.{map-set_same}
+use Rattle.std.proofs.lemmas.List.{map-set}
 use Rattle.definitions.specs.Lists.{iter}
 use lib.Dec.{eqb}
 use borrow.Author.Tests.{eq-eqb}
@@ -26,7 +28,7 @@ use Rattle.survey.specs.declared.Note.{Note}
 use Rattle.survey.specs.Notes.{leaders, positions}
 use Rattle.survey.specs.Below.{target_of, leader_in, position_in, LevelStands, Array, MarkedTo}
 use Rattle.survey.proofs.Level.{orbits}
-use Rattle.survey.proofs.Notes.{marked, marked-leaders, marked-positions}
+use Rattle.survey.proofs.Notes.{blank, marked, placed, marked-leaders, marked-positions}
 
 module _ (f : Frame) (W : List ℕ) (S : LevelStands f W) where
   abbrev τ : ℕ → ℕ
@@ -84,7 +86,7 @@ module _ (f : Frame) (W : List ℕ) (S : LevelStands f W) where
 
   -- ---- The marks
 
-  pub marking-none : (a b : List ℕ) → f.reps ≤ length a → f.reps ≤ length b → ((k : ℕ) → k < f.reps → (get_or a k 0 ≡ k) × (get_or b k 0 ≡ 0)) → MarkedTo f W a b 0 0
+  pub marking-none : (a b : List ℕ) → f.reps ≤ length a → f.reps ≤ length b → ((k : ℕ) → k < f.reps → get_or a k 0 ≡ k) → MarkedTo f W a b 0 0
   marking-none a b l m h = record {
     long = (l, m);
     earlier = λ q _ k. absurd (omega arith);
@@ -123,8 +125,8 @@ module _ (f : Frame) (W : List ℕ) (S : LevelStands f W) where
       long = (omega (arith, length-set a q₀ r, M.long.0), omega (arith, length-set b q₀ k, M.long.1));
       earlier = λ q l h. keep q (λ e. omega (arith, ap lead e, member k)) (M.earlier q l h);
       these = λ q l e h. pick q l e h (ℕ_discrete (pos q) k);
-      later = λ q l e h. keep q (λ e'. omega (arith, ap pos e', here)) (M.later q l e (omega arith));
-      others = λ q l h. keep q (λ e. omega (arith, ap lead e, member k)) (M.others q l h);
+      later = λ q l e h. get_or-set_other a q₀ q r 0 (λ e'. omega (arith, ap pos e', here)) ∙ M.later q l e (omega arith);
+      others = λ q l h. get_or-set_other a q₀ q r 0 (λ e. omega (arith, ap lead e, member k)) ∙ M.others q l h;
     }
       where
         q₀ : ℕ
@@ -155,25 +157,34 @@ module _ (f : Frame) (W : List ℕ) (S : LevelStands f W) where
         subst (λ x. MarkedTo f W x (positions (marked n q r k)) r (k + 1)) (sym a)
         (subst (λ x. MarkedTo f W (set (leaders n) (iter τ k r) r) x r (k + 1)) (sym b) (marking_step v k (leaders n) (positions n) hk M))
 
-    -- an orbit of one member is noted as it is
-    pub marking-alone : τ r ≡ r → (a b : List ℕ) → MarkedTo f W a b r 0 → MarkedTo f W a b r f.p
+    -- an orbit of one member
+    pub marking-alone : τ r ≡ r → (a b : List ℕ) → MarkedTo f W a b r 0 → MarkedTo f W a (set b r 0) r f.p
     marking-alone e a b M = record {
-      long = M.long;
-      earlier = M.earlier;
+      long = (M.long.0, omega (arith, length-set b r 0, M.long.1));
+      earlier = λ q l h.
+          let t = M.earlier q l h in
+          (t.0, get_or-set_other b r q 0 0 (λ z. omega (arith, ap lead z, own)) ∙ t.1);
       these = λ q l h _.
           let w : q ≡ r = at_position q (pos q) l h refl ∙ iter-fix τ r e (pos q) in
           let z : pos q ≤ 0 = pos-least q 0 (iter-zero τ (lead q) ∙ h ∙ sym w) in
-          let t = M.later q l h (omega arith) in
-          (t.0 ∙ w, t.1 ∙ omega arith);
+          (M.later q l h (omega arith) ∙ w, ap (λ x. get_or (set b r 0) x 0) w ∙ get_or-set_same b r 0 0 (omega (arith, hr, M.long.1)) ∙ omega arith);
       later = λ q l h k. absurd (omega (arith, pos-below q l));
       others = M.others;
     }
+
+    pub marking_put_alone : τ r ≡ r → (n : List Note) → MarkedTo f W (leaders n) (positions n) r 0
+        → MarkedTo f W (leaders (placed n r 0)) (positions (placed n r 0)) r f.p
+    marking_put_alone e n M =
+        let a : leaders (placed n r 0) ≡ leaders n = map-set_same (λ (x : Note). x.leader) n r _ blank refl in
+        let b : positions (placed n r 0) ≡ set (positions n) r 0 = map-set (λ (x : Note). x.position) n r _ in
+        subst (λ x. MarkedTo f W x (positions (placed n r 0)) r f.p) (sym a)
+        (subst (λ x. MarkedTo f W (leaders n) x r f.p) (sym b) (marking-alone e (leaders n) (positions n) M))
 
     pub marking-done : (a b : List ℕ) → MarkedTo f W a b r f.p → MarkedTo f W a b (r + 1) 0
     marking-done a b M = marking-next r a b f.p M (λ q l e. let t = M.these q l e (pos-below q l) in (t.0 ∙ sym e, t.1))
 
   pub marking-skip : (r : ℕ) (a b : List ℕ) → r < f.reps → ¬ (get_or a r 0 ≡ r) → MarkedTo f W a b r 0 → MarkedTo f W a b (r + 1) 0
-  marking-skip r a b l n M = marking-next r a b 0 M (λ q h e. absurd (n (M.later r l (ap lead (sym e) ∙ lead-lead q h ∙ e) (omega arith)).0))
+  marking-skip r a b l n M = marking-next r a b 0 M (λ q h e. absurd (n (M.later r l (ap lead (sym e) ∙ lead-lead q h ∙ e) (omega arith))))
 
   -- if r is its own leader, it begins its orbit
   pub marking-own : (r : ℕ) (a b : List ℕ) → r < f.reps → get_or a r 0 ≡ r → MarkedTo f W a b r 0 → lead r ≡ r

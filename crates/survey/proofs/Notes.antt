@@ -9,7 +9,7 @@
 --   led, placed, marked        leader and position are stored
 --   marked-leaders .. marked-firsts      what is noted then
 --   Filled, filled_none, filled_more, filled_note      numbers that are noted up to a representation
---   cleared_more               one more note that is an orbit of its own
+--   cleared_more               one more note that is its own leader
 use mathlib.Core.Path.{◌≡◌, refl, ap, sym, ◌∙◌, subst}
 use mathlib.Core.Logic.{by_cases}
 use mathlib.Core.List.{List, map}
@@ -23,7 +23,7 @@ use Rattle.std.proofs.lemmas.List.{get_or-map, map-set}
 use Rattle.std.proofs.lemmas.Simd.{map-map}
 use Rattle.survey.specs.declared.Frame.{Frame}
 use Rattle.survey.specs.declared.Note.{Note}
-use Rattle.survey.specs.Notes.{firsts, leaders, positions, without_orbit, Beside, Cleared}
+use Rattle.survey.specs.Notes.{firsts, leaders, positions, without_leader, Beside, Cleared}
 use Rattle.survey.specs.Below.{leader_in, position_in, Array, Lines, Orbited}
 
 abbrev pub blank : Note
@@ -80,6 +80,10 @@ placed notes q k =
     let n = get_or notes q blank in
     set notes q (record { first = n.first; leader = n.leader; position = k; number = n.number; shift = n.shift })
 
+-- a note without leader and position
+abbrev pub without_orbit : Note → Note
+without_orbit n = record { first = n.first; leader = 0; position = 0; number = n.number; shift = n.shift }
+
 module _ (notes : List Note) (q x k : ℕ) where
   abbrev pub marked : List Note
   marked = placed (led notes q x) q k
@@ -118,13 +122,8 @@ pub filled_note : (h : Note → ℕ) (notes : List Note) (g : ℕ → ℕ) (r : 
 filled_note h notes g r n l e F =
     subst (λ a. Filled a g (r + 1)) (sym (map-set h notes r n)) (filled_more (map h notes) g r (h n) (omega (arith, length-map notes h)) e F)
 
-pub cleared_more : {k : ℕ} {a : List Note} (notes : List Note) → k < length notes → Cleared k a notes → Cleared (k + 1) a (marked notes k k 0)
-cleared_more {k} {a} notes l C = record {
-  beside = marked-beside notes k k 0 ∙ C.beside;
-  alone = λ q h. (
-    ap (λ x. get_or x q 0) (marked-leaders notes k k 0)
-        ∙ filled_more (leaders notes) (λ j. j) k k (omega (arith, length-map notes (λ (n : Note). n.leader))) refl (λ j i. (C.alone j i).0) q h,
-    ap (λ x. get_or x q 0) (marked-positions notes k k 0)
-        ∙ filled_more (positions notes) (λ j. 0) k 0 (omega (arith, length-map notes (λ (n : Note). n.position))) refl (λ j i. (C.alone j i).1) q h,
-  );
+pub cleared_more : {k : ℕ} {a : List Note} (notes : List Note) → k < length notes → Cleared k a notes → Cleared (k + 1) a (led notes k k)
+cleared_more {k} notes l C = record {
+  beside = map-set_same without_leader notes k _ blank refl ∙ C.beside;
+  alone = filled_note (λ n. n.leader) notes (λ j. j) k _ l refl C.alone;
 }

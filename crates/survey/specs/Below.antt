@@ -190,13 +190,13 @@ module _ (f : Frame) (W : List ℕ) where
 
   -- ---- Orbits while they are marked
 
-  -- every member of an orbit before that of r is marked, so are the first k members of that of r; each other is noted as an orbit of its own
+  -- every member of an orbit before that of r is marked, so are the first k members of that of r; each other is its own leader
   pub record MarkedTo (leaders places : List ℕ) (r k : ℕ) : Type 0 where
     pub long : (f.reps ≤ length leaders) × (f.reps ≤ length places)
     pub earlier : (q : ℕ) → q < f.reps → leader_in q < r → (get_or leaders q 0 ≡ leader_in q) × (get_or places q 0 ≡ position_in q)
     pub these : (q : ℕ) → q < f.reps → leader_in q ≡ r → position_in q < k → (get_or leaders q 0 ≡ r) × (get_or places q 0 ≡ position_in q)
-    pub later : (q : ℕ) → q < f.reps → leader_in q ≡ r → k ≤ position_in q → (get_or leaders q 0 ≡ q) × (get_or places q 0 ≡ 0)
-    pub others : (q : ℕ) → q < f.reps → r < leader_in q → (get_or leaders q 0 ≡ q) × (get_or places q 0 ≡ 0)
+    pub later : (q : ℕ) → q < f.reps → leader_in q ≡ r → k ≤ position_in q → get_or leaders q 0 ≡ q
+    pub others : (q : ℕ) → q < f.reps → r < leader_in q → get_or leaders q 0 ≡ q
 
   -- the same in notes that have kept their first lines
   pub record Marking (notes₀ notes : List Note) (r k : ℕ) : Type 0 where

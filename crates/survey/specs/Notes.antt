@@ -4,9 +4,9 @@
 --   leaders, positions         the least of each orbit, and the position in the orbit
 --   numbers                    numbers of the first representations above
 --   shifts                     the constants that close the orbits
---   without_orbit, without_number, without_shift      a note without leader and position, without the number, without the constant
+--   without_leader, without_number, without_shift      a note without its leader, number, constant
 --   Beside without a b         a and b differ alone in what `without` takes away
---   Cleared reps a b           b is a with each representation as an orbit of its own
+--   Cleared reps a b           b is a with each representation as its own leader
 use Rattle.std.specs.Prelude.{◌≡◌, List, map, ℕ, ◌<◌, get_or}
 use Rattle.survey.specs.declared.Note.{Note}
 
@@ -25,8 +25,8 @@ numbers = map (λ n. n.number)
 abbrev pub shifts : List Note → List ℕ
 shifts = map (λ n. n.shift)
 
-abbrev pub without_orbit : Note → Note
-without_orbit n = record { first = n.first; leader = 0; position = 0; number = n.number; shift = n.shift }
+abbrev pub without_leader : Note → Note
+without_leader n = record { first = n.first; leader = 0; position = n.position; number = n.number; shift = n.shift }
 
 abbrev pub without_number : Note → Note
 without_number n = record { first = n.first; leader = n.leader; position = n.position; number = 0; shift = n.shift }
@@ -38,5 +38,5 @@ abbrev pub Beside : (Note → Note) → List Note → List Note → Type 0
 Beside without a b = map without b ≡ map without a
 
 pub record Cleared (reps : ℕ) (a b : List Note) : Type 0 where
-  pub beside : Beside without_orbit a b
-  pub alone : (q : ℕ) → q < reps → (get_or (leaders b) q 0 ≡ q) × (get_or (positions b) q 0 ≡ 0)
+  pub beside : Beside without_leader a b
+  pub alone : (q : ℕ) → q < reps → get_or (leaders b) q 0 ≡ q

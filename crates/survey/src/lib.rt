@@ -14,8 +14,8 @@
 
 ghost use Rattle.std.specs.Prelude.{◌≡◌, ◌+◌, ◌≤◌, ◌<◌, length};
 ghost use Rattle.survey.specs.Notes.{firsts, leaders, positions, numbers, shifts, without_number, without_shift, Beside, Cleared};
-ghost use Rattle.survey.specs.Below.{deg_of, target_of, leader_in, made_in, number_in, around_in, closing_in, leading_in, LevelStands, Located, Fixed, Array, Lines};
-ghost use Rattle.survey.specs.Below.{FirstsTo, RunNoted, Orbited, MarkedTo, Marking, CarriedAt, CarriedOn};
+ghost use Rattle.survey.specs.Below.{deg_of, target_of, leader_in, made_in, number_in, around_in, closing_in, leading_in, LevelStands, Located, Array, Lines};
+ghost use Rattle.survey.specs.Below.{Fixed, FirstsTo, RunNoted, Orbited, MarkedTo, Marking, CarriedAt, CarriedOn};
 ghost use Rattle.level.specs.Stored.{Below};
 ghost use Rattle.rows.specs.Rows.{Top};
 
@@ -140,15 +140,17 @@ fn mark_along(low: &[u32], notes: &mut [Note], f: Frame, r: u32)
     }
 }
 
-// Marks the orbit of r, none of which is marked: where it does not move, r is marked as it is.
+// Marks the orbit of r, none of which is marked: where it does not move, r is its own leader as it is.
 fn mark_orbit(low: &[u32], notes: &mut [Note], f: Frame, r: u32)
     requires level_stands { LevelStands f low.now × Lines f low.now (firsts notes.old) × (r < f.reps) × (leader_in f low.now r ≡ r) }
     requires marked_to { MarkedTo f low.now (leaders notes.old) (positions notes.old) r 0 }
     ensures { Marking f low.now notes.old notes.new r f.p }
 {
-    if top_target(low, notes, f, r) != r {
-        mark_along(low, notes, f, r);
+    if top_target(low, notes, f, r) == r {
+        notes[r as usize].position = 0;
+        return;
     }
+    mark_along(low, notes, f, r);
 }
 
 // Marks the orbit of r if r begins one: if no orbit before has it.
@@ -162,14 +164,13 @@ fn mark_from(low: &[u32], notes: &mut [Note], f: Frame, r: u32)
     }
 }
 
-// Notes each representation as an orbit of its own, which it is until the orbit is marked that has it.
+// Notes each representation as its own leader, which it is until the orbit is marked that has it.
 fn clear(notes: &mut [Note], reps: u32)
     requires { reps ≤ length notes.old }
     ensures { Cleared reps notes.old notes.new }
 {
     for k in 0..reps {
         notes[k as usize].leader = k;
-        notes[k as usize].position = 0;
     }
 }
 
