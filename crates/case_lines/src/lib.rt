@@ -118,7 +118,7 @@ fn lent_call(line: &[u8], text: &[u8], have: u32, room: u32) {
     }
 }
 
-// The call that the kind of a case names.
+// The call that the kind of a case names. A table of functions would give each the same arguments.
 fn call(line: &[u8], text: &[u8], have: u32, room: u32) {
     if line.starts_with(b"accept ") {
         accept_case(text);

@@ -6,6 +6,7 @@ const INPUT: usize = 1048576;
 
 fn answer_all(input: &[u8]) {
     let mut at: usize = 0;
+    // Each case tells where the next begins.
     while at < input.len() {
         at = case_lines::answer_at(input, at);
     }

@@ -85,6 +85,7 @@ fn blocks_act(words: &[u32], s: Scope, i: u32, near: usize, d: Listed) -> bool
     ensures { Tells s words.now (λ P. restricts P s.m words.now (suc i) (rep_in words.now d)) result }
 {
     let mut o: u32 = 0;
+    // The next block begins behind this one, whose width only its reference tells.
     while o < d.deg {
         let f = block_at(words, s, i, near, d, o);
         if !block_acts(words, s, i, d, o, f) {

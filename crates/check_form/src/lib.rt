@@ -46,6 +46,7 @@ fn blocks_ok(words: &[u32], s: Scope, i: u32, low: usize, near: usize, d: Listed
     ensures { result ≡ blocks_ok (level_at s.gens words.now i) (listed_rep words.now d) }
 {
     let mut o: u32 = 0;
+    // The next block begins behind this one, whose width only its reference tells.
     while o < d.deg {
         let Some(f) = block(words, s, i, low, near, d, o) else {
             return false;

@@ -171,6 +171,7 @@ pub fn heads_behind(words: &[u32], orders: &Orders, s: Scope, k: usize) -> bool
         level: 1,
         rep: k,
     };
+    // Each place is found from the one before it.
     while p.line < s.lines {
         let t = turned(words, p);
         if !place_ok(words, orders, s, t) {

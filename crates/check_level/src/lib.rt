@@ -76,6 +76,7 @@ pub fn first_lines(
     let mut d = seek::found(words, s, i, 0);
     let mut left = level::up(order);
     let mut r: usize = 0;
+    // A turn is a run of representations of one degree, whose length it finds.
     loop {
         let e = run_lines(words, s, i, d, firsts, at, r, reps);
         let q = check_blocks::square(d.deg);

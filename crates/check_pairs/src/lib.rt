@@ -145,6 +145,7 @@ fn blocks_differ(words: &[u32], s: Scope, i: u32, p: u32, near: usize, d: Listed
     let deg = d.deg;
     let mut o: u32 = 0;
     let mut count: u32 = 0;
+    // The next block begins behind this one, whose width only its reference tells.
     while o < deg {
         if !fresh_at(words, d, o) {
             return false;

@@ -220,6 +220,7 @@ impl<'a> Collector<'a> {
         let mut c = x;
         let mut n: u32 = 0;
         let mut left = b;
+        // Whole periods are left out, so that what is left may fall by more than one.
         while left > 0 {
             let d = self.conjugate(i, i, c);
             n += 1;

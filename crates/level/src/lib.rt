@@ -46,6 +46,7 @@ pub const ROW: usize = 6;
 
 pub const EXP: usize = 7;
 
+// A word as a place: `usize` has no `From<u32>`, so the one cast that is needed is named.
 pub fn up(x: u32) -> usize
     ensures { result ≡ x }
 {
@@ -139,6 +140,7 @@ fn lap_from(words: &[u32], at: usize, d: u32, most: u32, x: Entry, m: u32) -> La
 {
     let mut to = apply(words, at, d, x, m);
     let mut turns: u32 = 1;
+    // The loop ends where the basis index comes again.
     while to.row != x.row && turns < most {
         to = apply(words, at, d, to, m);
         turns += 1;

@@ -18,6 +18,7 @@ fn fill<F: Read>(file: &mut F, text: &mut [u8]) -> usize
     ensures { IsPrefixLen result text.new }
 {
     let mut count = 0;
+    // Each read tells how far it came.
     while count < text.len() {
         let Ok(more) = file.read(&mut text[count..]) else {
             return count;

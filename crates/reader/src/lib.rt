@@ -38,6 +38,7 @@ pub fn names(text: &[u8]) -> Option<(u32, usize)>
     }
     let mut n: u32 = 0;
     let mut at: usize = 5;
+    // The next name stands where the last one ends.
     while text::byte_at(text, at) == b' ' {
         let (v, next) = next_name(text, at)?;
         if v != n + 1 {

@@ -33,7 +33,7 @@ pub type Row = [u32; GENERATORS];
 // A row for each pair of generators, picked by the number of the pair.
 pub type Rows = [[u32; GENERATORS]; PAIRS];
 
-// A number as one of 64 bits.
+// A number as one of 64 bits, and the bound by which products of such numbers fit.
 pub fn wide(x: u32) -> u64
     ensures { (result ≡ x) × (result < 4294967296) }
 {

@@ -58,6 +58,7 @@ fn find(words: &[u32], lines: usize, i: u32, r: usize) -> usize
 {
     let mut lo: usize = 0;
     let mut hi = lines;
+    // A search by halves: std's finds an element of a slice, and a line is eight.
     while lo < hi {
         let mid = lo + (hi - lo) / 2;
         if stands_before(words, i, r, mid) {

@@ -115,6 +115,7 @@ pub fn find_lines(low: &[u32], notes: &mut [Note], f: Frame)
 {
     let mut s = f.base;
     let mut r: u32 = 0;
+    // A turn is a run of representations of one degree, whose length it finds.
     while r < f.reps {
         let d = level::representation(low, s);
         let e = note_run(low, notes, f, d, r);

@@ -58,7 +58,7 @@ fn in_form(text: &[u8], start: usize) -> bool
     k % LINE == 0
 }
 
-// Stores the words that stand from a position to the end of a text, and returns how many they are.
+// Stores the words that stand from a position to the end of a text, and returns how many they are. It goes on by what it reads, too.
 fn fill(text: &[u8], start: usize, words: &mut [u32]) -> usize
     requires { Room text.now start (length words.old) }
     ensures { Filled text.now start words.old words.new result }

@@ -94,7 +94,8 @@ pub fn width(v: u32) -> usize
     width(v / 10) + 1
 }
 
-// Writes a value, and returns the position behind it.
+// Writes a value digit by digit, and returns the position behind it: std's printing wants a writer, and one over a lent buffer would
+// have to say the same bytes.
 pub fn put_value(out: &mut [u8], at: usize, v: u32) -> usize
     requires { at + length (decimal v) ≤ length out.old }
     ensures { Wrote out.old at (decimal v) out.new result }
