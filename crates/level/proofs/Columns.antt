@@ -1,5 +1,6 @@
 -- Laws of what stands in lines.
 --
+--   times-fit                  a product of a number up to 2³² and one below the modulus fits in 64 bits
 --   col-matrix_in               a column of a matrix that stands in lines
 --   act-in                     a matrix on an entry, from its line
 --   col-scale                  a column of a matrix times a power of the root
@@ -34,6 +35,9 @@ use Rattle.level.specs.Stored.{entry_in, matrix_in, line_in, Holds, Stored}
 -- ---- Products that fit
 
 -- ---- Matrices in lines
+
+pub times-fit : (a k b m : ℕ) → a < m → b < m → m ≤ 2147483648 → k ≤ 4294967296 → a + k * b < 18446744073709551616
+times-fit a k b m h l s f = let x : k * b ≤ 4294967296 * b = mul-le-mul_right b (omega arith) in omega arith
 
 pub col-matrix_in : (W : List ℕ) (at d k : ℕ) → k < d → col (matrix_in W at d) k ≡ entry_in W (at + k)
 unfolding col

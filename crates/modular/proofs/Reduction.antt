@@ -1,15 +1,31 @@
 -- Numbers below 2m modulo m, and differences modulo m.
 --
 --   mod-once                   a number below 2m modulo m, where it is not below m
+--   over, over-is              1 where a number reaches m, as `reduce` has it
 --   less-is, less-below, less-above       differences modulo m of numbers below it
 use mathlib.Core.Path.{◌≡◌, ap, sym, ◌∙◌}
-use Prim.Native.Nat.{ℕ, ◌+◌, ◌-◌, ◌%◌, ◌<◌, ◌≤◌}
+use mathlib.Core.Logic.{by_cases}
+use mathlib.Core.Bool.{cond}
+use Prim.Native.Nat.{ℕ, ◌+◌, ◌-◌, ◌/◌, ◌%◌, ◌<◌, ◌≤◌}
 use native.Mathlib.Nat.{mod-eq_of_lt, mod-eq-sub-mod}
 use native.Mathlib.Omega.{arith}
+use native.Mathlib.Decide.{dec_lt}
+use lib.Dec.{leb}
+use borrow.Author.Tests.{le-leb, lt-leb}
 use Rattle.definitions.specs.Monomial.{less}
 
 pub mod-once : (s m : ℕ) → m ≤ s → s < m + m → s - m ≡ s % m
 mod-once s m h l = sym (mod-eq-sub-mod h ∙ mod-eq_of_lt (omega arith))
+
+-- bit 31 of s + (2 ^ 31 - m)
+abbrev pub over : ℕ → ℕ → ℕ
+over s m = (s + (2147483648 - m)) / 2147483648
+
+-- it is 1 where s reaches m
+pub over-is : (s m : ℕ) → m ≤ 2147483648 → s < m + m → over s m ≡ cond (leb m s) 1 0
+over-is s m h l = by_cases (dec_lt s m)
+    (λ a. let e : over s m ≡ 0 = omega arith in e ∙ sym (ap (λ t. cond t 1 0) (lt-leb m s a)))
+    (λ f. let e : over s m ≡ 1 = omega arith in e ∙ sym (ap (λ t. cond t 1 0) (le-leb m s (omega arith))))
 
 pub less-is : (m a b : ℕ) → b < m → (a + (m - b)) % m ≡ less m a b
 unfolding less

@@ -15,7 +15,7 @@ use Rattle.survey.specs.declared.Frame.{Frame}
 use Rattle.survey.specs.declared.Note.{Note}
 use Rattle.survey.specs.Notes.{firsts}
 use Rattle.survey.specs.Below.{first_of, deg_of, Located, Lines, FirstsTo}
-use Rattle.survey.proofs.Notes.{filled_none, filled_note}
+use Rattle.survey.proofs.Notes.{filled_none, filled_put}
 use Rattle.survey.proofs.Level.{first_next, first-room, first_below, located-degree}
 
 pub firsts-none : (f : Frame) (W : List ℕ) (notes : List Note) → f.reps ≤ length notes → FirstsTo f W notes 0
@@ -49,7 +49,7 @@ module _ {f : Frame} {W : List ℕ} {notes₀ : List Note} {r : ℕ} {D : Listed
       len = length-set notes q n ∙ R.len;
       noted = record {
         long = omega (arith, R.noted.long, length-map notes (λ (n : Note). n.first), length-map (set notes q n) (λ (n : Note). n.first), length-set notes q n);
-        at = filled_note (λ n. n.first) notes (first_of f W) q n (run_room h) (is ∙ R.reached) R.noted.at;
+        at = filled_put (λ n. n.first) notes (first_of f W) q n (run_room h) (is ∙ R.reached) R.noted.at;
       };
       reached = ap (λ x. line + x) (s ∙ ap (λ x. f.gens * x) (sym e)) ∙ ap (λ x. x + f.gens * word_at W x DEG) R.reached ∙ sym (first_next f W q);
     }

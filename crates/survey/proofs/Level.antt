@@ -7,15 +7,18 @@
 --   located-degree, located-matrix, located-column      its degree, a matrix, column 0
 --   located-target             where an intertwiner leads it
 --   orbits                     the orbits of the generator on top
---   moved-many                 an orbit that moves has p members, so that p is no more than there are representations
+--   moved-many, moved-prime    an orbit that moves has p members, so that p is no more than there are representations, and small
 use mathlib.Core.Path.{◌≡◌, refl, ap, sym, ◌∙◌, subst}
-use Prim.Native.Nat.{ℕ, ◌+◌, ◌*◌, ◌<◌, ◌≤◌}
+use mathlib.Core.Logic.{by_cases}
+use Prim.Native.Nat.{ℕ, suc, ◌+◌, ◌*◌, ◌<◌, ◌≤◌}
+use native.Mathlib.Decide.{dec_lt}
 use native.Mathlib.Numerals.{add-one}
 use native.Mathlib.Omega.{arith}
-use native.Mathlib.Nat.{mul-le-mul_right}
+use native.Mathlib.Nat.{mul-le-mul_right, mul-le-mul_left}
 use mathlib.Core.List.{List}
 use lib.ListN.{length}
 use Rattle.definitions.specs.Lists.{iter}
+use Rattle.definitions.specs.Presentation.{max_degree}
 use Rattle.numbers.proofs.Pigeonhole.{injects-le}
 use Rattle.numbers.proofs.Orbits.{Orbits, iter-below, moved-distinct}
 use Rattle.level.specs.declared.Listed.{Listed}
@@ -62,6 +65,15 @@ module _ (f : Frame) (W : List ℕ) where
       below = λ k l. iter-below orbits k r h;
       injective = λ j k a b e. moved-distinct orbits r h v j k a b e;
     })
+
+    -- the square of the prime of an orbit that moves is at most the order
+    pub moved-prime : f.p ≤ f.reps → f.p ≤ max_degree
+    moved-prime l = by_cases (dec_lt max_degree f.p)
+        (λ h.
+        let a : f.p * f.p ≤ f.p * f.reps = mul-le-mul_left f.p l in
+        let b : f.p * suc max_degree ≤ f.p * f.p = mul-le-mul_left f.p h in
+        absurd (omega (arith, S.few)))
+        (λ h. omega arith)
 
 -- ---- The representation that D is
 

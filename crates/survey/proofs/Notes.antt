@@ -8,7 +8,7 @@
 --   orbit_of, orbits_kept      orbits stay noted where what they are made of does
 --   led, placed, marked        leader and position are stored
 --   marked-leaders .. marked-firsts      what is noted then
---   Filled, filled_none, filled_more, filled_note      numbers that are noted up to a representation
+--   Filled, filled_none, filled_more, filled_put      numbers that are noted up to a representation
 --   cleared_more               one more note that is its own leader
 use mathlib.Core.Path.{◌≡◌, refl, ap, sym, ◌∙◌, subst}
 use mathlib.Core.Logic.{by_cases}
@@ -117,13 +117,13 @@ filled_more a g r x l e h k m = by_cases (ℕ_discrete k r)
     (λ q. ap (λ z. get_or (set a r x) z 0) q ∙ get_or-set_same a r x 0 l ∙ e ∙ ap g (sym q))
     (λ q. get_or-set_other a r k x 0 q ∙ h k (omega arith))
 
-pub filled_note : (h : Note → ℕ) (notes : List Note) (g : ℕ → ℕ) (r : ℕ) (n : Note) → r < length notes → h n ≡ g r → Filled (map h notes) g r
+pub filled_put : (h : Note → ℕ) (notes : List Note) (g : ℕ → ℕ) (r : ℕ) (n : Note) → r < length notes → h n ≡ g r → Filled (map h notes) g r
     → Filled (map h (set notes r n)) g (r + 1)
-filled_note h notes g r n l e F =
+filled_put h notes g r n l e F =
     subst (λ a. Filled a g (r + 1)) (sym (map-set h notes r n)) (filled_more (map h notes) g r (h n) (omega (arith, length-map notes h)) e F)
 
 pub cleared_more : {k : ℕ} {a : List Note} (notes : List Note) → k < length notes → Cleared k a notes → Cleared (k + 1) a (led notes k k)
 cleared_more {k} notes l C = record {
   beside = map-set_same without_leader notes k _ blank refl ∙ C.beside;
-  alone = filled_note (λ n. n.leader) notes (λ j. j) k _ l refl C.alone;
+  alone = filled_put (λ n. n.leader) notes (λ j. j) k _ l refl C.alone;
 }

@@ -7,7 +7,7 @@ use borrow.Author.Rules.{rules}
 use Rattle.std.proofs.Math.Seq.{map-set_same}
 use Rattle.survey.specs.declared.Note.{Note}
 use Rattle.survey.specs.Notes.{without_number}
-use Rattle.survey.proofs.Notes.{blank, kept, orbit_of, orbits_kept, filled_none, filled_note}
+use Rattle.survey.proofs.Notes.{blank, kept, orbit_of, orbits_kept, filled_none, filled_put}
 use Rattle.survey.proofs.Counting.{number-zero, number-next, number_fits}
 use Rattle.survey.proofs.count_numbers.Goals as goal
 
@@ -28,6 +28,6 @@ pub loop-r-preserved : goal.loop-r-preserved
 loop-r-preserved c = let l = c.loop-r in (
   map-set_same without_number l.notes l.r _ blank refl ∙ l.invariant.0,
   ap₂ (λ x y. x + y) l.invariant.1 c.made-c.ensures ∙ sym (number-next _ _ _),
-  filled_note (λ n. n.number) l.notes _ l.r _
+  filled_put (λ n. n.number) l.notes _ l.r _
       (omega (arith, c.requires.1.lines.long, length-map c.args.notes.now (λ (n : Note). n.first))) l.invariant.1 l.invariant.2,
 )

@@ -6,7 +6,7 @@ use borrow.Author.Rules.{rules}
 use Rattle.std.proofs.Math.Seq.{map-set_same}
 use Rattle.survey.specs.declared.Note.{Note}
 use Rattle.survey.specs.Notes.{without_shift}
-use Rattle.survey.proofs.Notes.{blank, kept, orbit_of, orbits_kept, filled_note}
+use Rattle.survey.proofs.Notes.{blank, kept, orbit_of, orbits_kept, filled_put}
 use Rattle.survey.proofs.find_shifts.Goals as goal
 
 pub leading-requires : goal.leading-requires
@@ -16,6 +16,6 @@ leading-requires c = let O = orbits_kept _ _ (kept orbit_of without_shift _ _ c.
 pub loop-r-preserved : goal.loop-r-preserved
 loop-r-preserved c = let l = c.loop-r in (
   map-set_same without_shift l.notes l.r _ blank refl ∙ l.invariant.0,
-  filled_note (λ n. n.shift) l.notes _ l.r _
+  filled_put (λ n. n.shift) l.notes _ l.r _
       (omega (arith, c.requires.1.lines.long, length-map c.args.notes.now (λ (n : Note). n.first))) c.leading.ensures.0 l.invariant.1,
 )
