@@ -19,7 +19,8 @@ returns-then-not-commutes_at c = λ e. absurd (false≢true e)
 pub loop-o-preserved : goal.loop-o-preserved
 loop-o-preserved c = let t = c.commutes_at in
     let a = c.args in
-    subst (λ k. Carrying a.s a.words.now a.d a.e a.i a.j [] a.v (c.loop-o.o + k)) (sym c.up-o-step.ensures) (carrying-more c.loop-o.invariant (λ P z. sym (t.ensures P z) ∙ c.if-not-commutes_at.false))
+    subst (λ k. Carrying a.s a.words.now a.d a.e a.i a.j [] a.v (c.loop-o.o + k)) (sym c.up-o-step.ensures)
+    (carrying-more c.loop-o.invariant (λ P z. sym (t.ensures P z) ∙ c.if-not-commutes_at.false))
 
 pub returns-else-not-commutes_at : goal.returns-else-not-commutes_at
 returns-else-not-commutes_at c = λ e. let t = c.commutes_at in

@@ -17,7 +17,8 @@ loop-o-init c = blocking-none
 
 pub loop-o-preserved : goal.loop-o-preserved
 loop-o-preserved c = let a = c.args in
-    subst (λ k. Blocking a.s a.words.now a.g a.d c.in-Some.w (c.loop-o.o + k)) (sym c.up-o-step.ensures) (blocking-more c.loop-o.invariant (c.block_fits.ensures c.if-not-block_fits.false))
+    subst (λ k. Blocking a.s a.words.now a.g a.d c.in-Some.w (c.loop-o.o + k)) (sym c.up-o-step.ensures)
+    (blocking-more c.loop-o.invariant (c.block_fits.ensures c.if-not-block_fits.false))
 
 pub block_fits-requires : goal.block_fits-requires
 block_fits-requires c = let S = c.requires.0 in
@@ -29,4 +30,5 @@ returns-else-not-proper c = λ e. blocking-all c.loop-o.invariant c.in-Some.ensu
 
 pub returns-else-not-block_fits : goal.returns-else-not-block_fits
 returns-else-not-block_fits c = λ e.
-    blocking-all (blocking-more c.loop-o.invariant (c.block_fits.ensures c.if-not-block_fits.false)) c.in-Some.ensures (c.proper.ensures c.if-not-proper.false) (omega (arith, c.up-o-step.ensures))
+    blocking-all (blocking-more c.loop-o.invariant (c.block_fits.ensures c.if-not-block_fits.false)) c.in-Some.ensures
+    (c.proper.ensures c.if-not-proper.false) (omega (arith, c.up-o-step.ensures))
