@@ -9,6 +9,3 @@ slice_bounds-read_full-end c = sym (length-replicate {0} {A = ℕ} 65536 0)
 
 pub slice_bounds-input-end : goal.slice_bounds-input-end
 slice_bounds-input-end c = c.read_full-n.ensures.0
-
-pub slice_bounds-answer_all-end : goal.slice_bounds-answer_all-end
-slice_bounds-answer_all-end c = c.read_full-n.ensures.1
