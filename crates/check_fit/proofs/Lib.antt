@@ -1,5 +1,4 @@
 -- Laws of the quick yes.
-pub mod Lines
 pub mod First
 pub mod Levels
 pub mod Yes

@@ -75,8 +75,8 @@ fn character_lines(firsts: &mut [u32], many: usize, n: u32)
     ensures { CharacterLines n many firsts.new × (length firsts.new ≡ length firsts.old) }
 {
     let mut l: u32 = 0;
-    for r in 0..many {
-        firsts[r] = l;
+    for first in &mut firsts[..many] {
+        *first = l;
         l += n;
     }
 }
