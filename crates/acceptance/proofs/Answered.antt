@@ -16,7 +16,8 @@ use Rattle.definitions.proofs.Rendering.{says-unique}
 use Rattle.std.specs.Prelude.{Result, Ok, Err}
 use Rattle.results.specs.declared.Refusal.{Refusal}
 use Rattle.results.specs.declared.Refusal.TheVariants.{Inconsistent}
-use Rattle.results.proofs.Numbers.{number-nonzero, answer-ok}
+use Rattle.results.specs.Numbers.{answer}
+use Rattle.results.proofs.Numbers.{number-nonzero}
 use Rattle.presentation.specs.declared.ReadPresentation.{ReadPresentation}
 use Rattle.presentation.specs.Outcome.{Held, ReadText}
 use Rattle.rows.specs.Rows.{Ranged, Reads}
@@ -32,10 +33,10 @@ reads_held {R} {p} h = subst (λ m. Reads (presentation R) m p.primes p.rows) (s
 pub ranged : {R : Relations} {p : ReadPresentation} → Unrefused R p → Ranged p.n p.primes p.rows
 ranged {R} u = reads-ready R u.formed u.primes u.used _ u.held.count _ _ (reads_held u.held) u.fits
 
-module _ {t : Bytes} {r : Result ReadPresentation Refusal} (read : ReadText t r) where
-  module _ {p : ReadPresentation} (is : r ≡ Ok p) where
+module _ {t : Bytes} {r : Result Unit Refusal} {p : ReadPresentation} (read : ReadText t r p) where
+  module _ (is : answer r ≡ 0) where
     none : None (text_refusals t)
-    none = first-none (text_refusals t) refl (subst (First (text_refusals t)) (answer-ok is) read.answered)
+    none = first-none (text_refusals t) refl (subst (First (text_refusals t)) is read.answered)
 
     passed_none : None (text_refusals t) → says t (λ (R : Relations). Held R p) → says t (λ (R : Relations). Unrefused R p)
     passed_none (h, (k, (l, (m, e)))) (R, s, d) =
@@ -43,7 +44,7 @@ module _ {t : Bytes} {r : Result ReadPresentation Refusal} (read : ReadText t r)
 
     -- the relations that t says, and what is known of them
     said : says t (λ (R : Relations). Unrefused R p)
-    said = passed_none none (read.held p is)
+    said = passed_none none (read.held is)
 
     abbrev R : Relations
     R = said.0
@@ -58,21 +59,21 @@ module _ {t : Bytes} {r : Result ReadPresentation Refusal} (read : ReadText t r)
       decided : (b ≡ true → Consistent (presentation R)) × (Consistent (presentation R) → b ≡ true)
       decided = decides-consistent R passed.formed passed.primes passed.used _ passed.held.count _ _ (reads_held passed.held) b decides
 
-      pub accepted-consistent : b ≡ true → AcceptedText t (Ok p)
+      pub accepted-consistent : b ≡ true → AcceptedText t (Ok tt) p
       accepted-consistent e =
           record {
             answered = first-behind (inconsistent t) 0 (text_refusals t) none (inr (allowed, refl));
-            sound = λ q z. let i : ◌≡◌ {A = ReadPresentation} p q = cc in (R, said.1, subst (Confirmed R) i (record { passed = passed; consistent = decided.0 e }));
+            sound = λ z. (R, said.1, record { passed = passed; consistent = decided.0 e });
           }
         where
           allowed : ¬ says t (λ (R : Relations). ¬ Consistent (presentation R))
           allowed (Q, s, h) = h (subst (λ (R : Relations). Consistent (presentation R)) (says-unique t R Q said.1 s) (decided.0 e))
 
-      pub accepted-inconsistent : b ≡ false → AcceptedText t (Err Inconsistent)
+      pub accepted-inconsistent : b ≡ false → AcceptedText t (Err Inconsistent) p
       accepted-inconsistent e = record {
         answered = first-behind (inconsistent t) 15 (text_refusals t) none (inl ((R, said.1, λ c. false≢true (sym e ∙ decided.1 c)), refl));
-        sound = λ q z. absurd (number-nonzero Inconsistent (answer-ok {r = Err Inconsistent} z));
+        sound = λ z. absurd (number-nonzero Inconsistent z);
       }
 
-pub accepts : {t : Bytes} {r : Result ReadPresentation Refusal} {p : ReadPresentation} → AcceptedText t r → r ≡ Ok p → Accept t 0
-accepts {t} a is = subst (Accept t) (answer-ok is) a.answered
+pub accepts : {t : Bytes} {r : Result Unit Refusal} {p : ReadPresentation} → AcceptedText t r p → answer r ≡ 0 → Accept t 0
+accepts {t} a is = subst (Accept t) is a.answered

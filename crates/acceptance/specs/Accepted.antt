@@ -3,8 +3,8 @@
 --   Unrefused R p              none of 11 to 14 refuses the relations R, and p holds them
 --   Confirmed R p              and nor does 15
 --   SomeSound p                so for some relations: the code has what holds them, and not the relations
---   AcceptedText t r           the answer to the text t, and what is confirmed where it is not refused
-use Rattle.std.specs.Prelude.{◌≡◌, true, false, Result, Ok}
+--   AcceptedText t r p         the answer to the text t, and what is confirmed of p where it is not refused
+use Rattle.std.specs.Prelude.{◌≡◌, true, false, Result}
 use Rattle.definitions.specs.Text.{Bytes}
 use Rattle.definitions.specs.Presentation.{Relations, well_formed, presentation, some_not_prime, too_large, misused}
 use Rattle.definitions.specs.Consistency.{Consistent}
@@ -28,6 +28,6 @@ pub record Confirmed (R : Relations) (p : ReadPresentation) : Type 0 where
 abbrev pub SomeSound : ReadPresentation → Type 0
 SomeSound p = (R : Relations) × Confirmed R p
 
-pub record AcceptedText (t : Bytes) (r : Result ReadPresentation Refusal) : Type 0 where
+pub record AcceptedText (t : Bytes) (r : Result Unit Refusal) (p : ReadPresentation) : Type 0 where
   pub answered : Accept t (answer r)
-  pub sound : (p : ReadPresentation) → r ≡ Ok p → says t (λ R. Confirmed R p)
+  pub sound : answer r ≡ 0 → says t (λ R. Confirmed R p)

@@ -1,6 +1,6 @@
 // The presentation that an accepted text says: the reader's answer, and behind it that of the consistency test.
 //
-//   accepted      the presentation, or the first of 11 to 15
+//   accepted      reads it, or answers the first of 11 to 15
 #![tactic(auto)]
 
 ghost use Rattle.acceptance.specs.Accepted.{AcceptedText};
@@ -8,13 +8,13 @@ ghost use Rattle.acceptance.specs.Accepted.{AcceptedText};
 use presentation::ReadPresentation;
 use results::Refusal;
 
-// The presentation that a text says, or its refusal: the reader's 11 to 14, then 15.
-pub fn accepted(text: &[u8]) -> Result<ReadPresentation, Refusal>
-    ensures { AcceptedText text.now result }
+// Reads the presentation that a text says, or answers its refusal: the reader's 11 to 14, then 15.
+pub fn accepted(text: &[u8], p: &mut ReadPresentation) -> Result<(), Refusal>
+    ensures { AcceptedText text.now result p.new }
 {
-    let p = presentation::read(text)?;
+    presentation::read(text, p)?;
     if !consistency::consistent(&p.primes, &p.rows, p.n) {
         return Err(Refusal::Inconsistent);
     }
-    Ok(p)
+    Ok(())
 }

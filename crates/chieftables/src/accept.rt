@@ -8,6 +8,6 @@ use results::Refusal;
 pub fn accept(text: &[u8]) -> Result<(), Refusal>
     ensures { Accept text.now (answer result) }
 {
-    acceptance::accepted(text)?;
-    Ok(())
+    let mut p = presentation::BLANK;
+    acceptance::accepted(text, &mut p)
 }

@@ -12,8 +12,9 @@ use Rattle.definitions.proofs.Refusals.{leaves-finished}
 use Rattle.numbers.proofs.Bools.{same_test}
 use Rattle.group.specs.Models.{WordsEmpty}
 use Rattle.clifford.proofs.Commutative.{top-ones}
-use Rattle.std.specs.Prelude.{Result, Ok}
+use Rattle.std.specs.Prelude.{Result}
 use Rattle.results.specs.declared.Refusal.{Refusal}
+use Rattle.results.specs.Numbers.{answer}
 use Rattle.presentation.specs.declared.ReadPresentation.{ReadPresentation}
 use Rattle.rows.specs.Rows.{Reads}
 use Rattle.acceptance.specs.Accepted.{Confirmed, AcceptedText}
@@ -31,8 +32,8 @@ scan-tells {R} {p} S =
     (λ h. empty (subst (WordsEmpty (presentation R)) n_is (empty-words read h)))
     (λ h. words-empty read (subst (WordsEmpty (presentation R)) (sym n_is) (ones h)))
 
-module _ {t : Bytes} {r : Result ReadPresentation Refusal} (a : AcceptedText t r) {p : ReadPresentation} (is : r ≡ Ok p) where
+module _ {t : Bytes} {r : Result Unit Refusal} {p : ReadPresentation} (a : AcceptedText t r p) (is : answer r ≡ 0) where
   pub commutative-told : {b : Bool} → b ≡ rows_empty p.rows p.n → Commutative t 0 (cond b 1 0)
   commutative-told scan =
-      let (R, s, S) = a.sound p is in
+      let (R, s, S) = a.sound is in
       record { answered = accepts a is; leaves = leaves-finished (R, s, ap (λ b. cond b 1 0) (scan ∙ scan-tells S)) }

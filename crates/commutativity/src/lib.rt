@@ -14,6 +14,7 @@ use results::Refusal;
 pub fn commutative(text: &[u8]) -> Result<bool, Refusal>
     ensures { Commutative text.now (answer result) (yes result) }
 {
-    let p = accepted(text)?;
+    let mut p = presentation::BLANK;
+    accepted(text, &mut p)?;
     Ok(commutators::words_empty(&p.rows, p.n))
 }

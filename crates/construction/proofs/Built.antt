@@ -19,8 +19,9 @@ use Rattle.definitions.specs.Steps.{table_of}
 use Rattle.definitions.specs.Answers.{says, presentation_refusals, short, over, Build}
 use Rattle.definitions.proofs.Refusals.{None, first-behind, accept-unrefused}
 use Rattle.definitions.proofs.Rendering.{says-unique}
-use Rattle.std.specs.Prelude.{Result, Ok}
+use Rattle.std.specs.Prelude.{Result}
 use Rattle.results.specs.declared.Refusal.{Refusal}
+use Rattle.results.specs.Numbers.{answer as number-of}
 use Rattle.presentation.specs.declared.ReadPresentation.{ReadPresentation}
 use Rattle.conditions.specs.declared.size.Size.{Size}
 use Rattle.conditions.specs.Size.{Measured}
@@ -73,7 +74,7 @@ module _ {p : ReadPresentation} {s : Size} (M : Measured p.primes p.n s) (before
 
 -- ---- The call
 
-pub build-sized : {t : Bytes} {r : Result ReadPresentation Refusal} {p : ReadPresentation} {before after : List ℕ} {answer count : ℕ} → AcceptedText t r → r ≡ Ok p
+pub build-sized : {t : Bytes} {r : Result Unit Refusal} {p : ReadPresentation} {before after : List ℕ} {answer count : ℕ} → AcceptedText t r p → number-of r ≡ 0
     → Sized p before answer count after → Build t before answer count after
 build-sized {t} {r} {p} {before} {after} {answer} {count} a is z = by_cases (dec_lt (length before) (build_words (presentation R)))
     (λ l.
@@ -90,7 +91,7 @@ build-sized {t} {r} {p} {before} {after} {answer} {count} a is z = by_cases (dec
     })
   where
     said : says t (λ (R : Relations). Confirmed R p)
-    said = a.sound p is
+    said = a.sound is
 
     R : Relations
     R = said.0

@@ -31,6 +31,7 @@ fn build_sound(p: &ReadPresentation, words: &mut [u32]) -> Result<usize, Refusal
 pub fn build(text: &[u8], words: &mut [u32]) -> Result<usize, Refusal>
     ensures { Build text.now words.old (answer result) (counted result) words.new }
 {
-    let p = accepted(text)?;
+    let mut p = presentation::BLANK;
+    accepted(text, &mut p)?;
     build_sound(&p, words)
 }

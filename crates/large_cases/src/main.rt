@@ -46,21 +46,21 @@ fn build_checked(text: &[u8]) -> Told {
     Told { made, sum, checked }
 }
 
-fn answer(rt: &HostRuntime, line: &[u8], text: &[u8]) -> std::io::Result<()> {
+// What cannot be written is passed over, as in every program here: what follows is tried, and the status stays 0.
+fn answer(rt: &HostRuntime, line: &[u8], text: &[u8]) {
     let t = build_checked(text);
     let number = results::answer(&t.made);
     let lines = t.made.unwrap_or(0);
     let sum = t.sum;
     let checked = results::answer(&t.checked);
-    print!(rt; "{number} {lines} {sum} {checked} | ")?;
-    rt.stdout().write_all(line)
+    let _ = print!(rt; "{number} {lines} {sum} {checked} | ");
+    let _ = rt.stdout().write_all(line);
 }
 
-fn main(rt: HostRuntime) -> std::io::Result<()> {
+fn main(rt: HostRuntime) {
     let mut input = [0u8; INPUT];
     let n = io::read_full(0, &mut input);
     for (line, text) in Input::new(&input[..n]) {
-        answer(&rt, line, text)?;
+        answer(&rt, line, text);
     }
-    Ok(())
 }

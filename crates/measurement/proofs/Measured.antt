@@ -14,8 +14,9 @@ use Rattle.definitions.specs.Presentation.{Relations, build_words, presentation}
 use Rattle.definitions.specs.Answers.{First, says, presentation_refusals, short, Measure, Build}
 use Rattle.definitions.proofs.Refusals.{first_rest, accept-unrefused, leaves-finished}
 use Rattle.definitions.proofs.Rendering.{says-unique}
-use Rattle.std.specs.Prelude.{Result, Ok}
+use Rattle.std.specs.Prelude.{Result}
 use Rattle.results.specs.declared.Refusal.{Refusal}
+use Rattle.results.specs.Numbers.{answer}
 use Rattle.presentation.specs.declared.ReadPresentation.{ReadPresentation}
 use Rattle.conditions.specs.declared.size.Size.{Size}
 use Rattle.conditions.specs.Size.{Measured}
@@ -23,10 +24,10 @@ use Rattle.acceptance.specs.Accepted.{AcceptedText}
 use Rattle.acceptance.proofs.Answered.{accepts}
 use Rattle.measurement.proofs.Sizes.{size-words}
 
-module _ {t : Bytes} {r : Result ReadPresentation Refusal} (a : AcceptedText t r) {p : ReadPresentation} (is : r ≡ Ok p) where
+module _ {t : Bytes} {r : Result Unit Refusal} {p : ReadPresentation} (a : AcceptedText t r p) (is : answer r ≡ 0) where
   pub measure-sized : {s : Size} → Measured p.primes p.n s → Measure t 0 s.words
   measure-sized M =
-      let (R, says, S) = a.sound p is in
+      let (R, says, S) = a.sound is in
       record { answered = accepts a is; leaves = leaves-finished (R, says, size-words S M) }
 
 -- ---- The build of a text that was measured

@@ -14,6 +14,7 @@ use results::Refusal;
 pub fn measure(text: &[u8]) -> Result<usize, Refusal>
     ensures { Measure text.now (answer result) (counted result) }
 {
-    let p = accepted(text)?;
+    let mut p = presentation::BLANK;
+    accepted(text, &mut p)?;
     Ok(size::measure(&p.primes, p.n).words)
 }

@@ -73,24 +73,25 @@ fn power_sum(words: &[u32], d: u32, k: i32, m: u32) -> u32
     case_input::mix_words(&out[..n])
 }
 
-fn print_power(rt: &impl Print, words: &[u32], d: u32, k: i32, m: u32) -> std::io::Result<()>
+// A line that cannot be written is passed over, as in every program here: what follows is tried, and the status stays 0.
+fn print_power(rt: &impl Print, words: &[u32], d: u32, k: i32, m: u32)
     requires { Holds m words.now 0 d × (d ≤ 128) }
 {
     let sum = power_sum(words, d, k, m);
-    println!(rt; "{d} {m} {k} {sum}")
+    let _ = println!(rt; "{d} {m} {k} {sum}");
 }
 
-fn print_powers(rt: &impl Print, words: &[u32], d: u32, m: u32) -> std::io::Result<()>
+fn print_powers(rt: &impl Print, words: &[u32], d: u32, m: u32)
     requires { Holds m words.now 0 d × (d ≤ 128) }
 {
     for k in EXPONENTS {
-        print_power(rt, words, d, k, m)?;
+        print_power(rt, words, d, k, m);
     }
-    print_power(rt, words, d, d as i32, m)?;
-    print_power(rt, words, d, 0 - d as i32, m)
+    print_power(rt, words, d, d as i32, m);
+    print_power(rt, words, d, 0 - d as i32, m);
 }
 
-fn answer(rt: &impl Print, line: &[u8], text: &[u8]) -> std::io::Result<()> {
+fn answer(rt: &impl Print, line: &[u8], text: &[u8]) {
     let mut numbers = [0u32; 2];
     case_input::parse(line, &mut numbers);
     let d = numbers[0];
@@ -101,18 +102,18 @@ fn answer(rt: &impl Print, line: &[u8], text: &[u8]) -> std::io::Result<()> {
         if m <= MODULUS {
             let r = Listed { line: 0, deg: d };
             if check_lines::matrices_ok(&words, r, 1, m) {
-                return print_powers(rt, &words, d, m);
+                print_powers(rt, &words, d, m);
+                return;
             }
         }
     }
-    println!(rt; "{d} {m} no matrix")
+    let _ = println!(rt; "{d} {m} no matrix");
 }
 
-fn main(rt: HostRuntime) -> std::io::Result<()> {
+fn main(rt: HostRuntime) {
     let mut input = [0u8; INPUT];
     let n = io::read_full(0, &mut input);
     for (line, text) in Input::new(&input[..n]) {
-        answer(&rt, line, text)?;
+        answer(&rt, line, text);
     }
-    Ok(())
 }

@@ -28,11 +28,10 @@ use Rattle.group.proofs.Rows.{to_nf-ext}
 use Rattle.group.proofs.Context.{exponent-unused}
 use Rattle.rows.specs.Rows.{Reads}
 use Rattle.rows.proofs.Pairs.{pair-below}
-use Rattle.std.specs.Prelude.{Result, Ok, Err}
+use Rattle.std.specs.Prelude.{Result, Err}
 use Rattle.results.specs.declared.Refusal.{Refusal}
 use Rattle.results.specs.declared.Refusal.TheVariants.{PresentationForm, NotPrime, TooLarge}
 use Rattle.results.specs.Numbers.{answer}
-use Rattle.results.proofs.Numbers.{answer-ok}
 use Rattle.presentation.specs.declared.ReadPresentation.{ReadPresentation}
 use Rattle.reader.specs.Lines.{NamesLine, NoNames}
 use Rattle.reader.specs.Rows.{no_row, row_text, AllLines, NoLines}
@@ -42,8 +41,8 @@ use Rattle.conditions.proofs.Primes.{not-prime-small}
 use Rattle.conditions.proofs.Conditions.{product-order}
 
 -- what has the number of a refusal holds nothing
-unheld : {k : ℕ} {r : Result ReadPresentation Refusal} → answer r ≡ suc k → (p : ReadPresentation) → r ≡ Ok p → ⊥
-unheld e p q = omega (arith, e, answer-ok q)
+unheld : {k a : ℕ} → a ≡ suc k → a ≡ 0 → ⊥
+unheld e z = omega (arith, e, z)
 
 -- ---- Texts that are not in the form
 
@@ -91,12 +90,12 @@ module _ {t : Bytes} {n next : ℕ} (nm : NamesLine t n next) {rows : List (List
   unfolding some_not_prime presentation row_of
   all-prime q = ap not (all_below-intro n (λ j. is_prime (get_or al.lines (pair_number j j) no_row).p) (al.prime q))
 
-  pub not-prime : flag ≡ false → ReadText t (Err NotPrime)
+  pub not-prime : {p : ReadPresentation} → flag ≡ false → ReadText t (Err NotPrime) p
   unfolding some_not_prime presentation row_of
   not-prime q =
       let c = al.composite q in
       let w : some_not_prime relations_of ≡ true = ap not (all_below-fails n (λ j. is_prime (get_or al.lines (pair_number j j) no_row).p) c.0 c.1 c.2) in
-      record { answered = inr (in-form, inl ((relations_of, says-them, w), refl)); held = λ p q. absurd (unheld refl p q) }
+      record { answered = inr (in-form, inl ((relations_of, says-them, w), refl)); held = λ z. absurd (unheld refl z) }
 
   pub primes-positive : flag ≡ true → n ≤ max_generators → (j : ℕ) → j < n → 0 < get_or ps (pair_number j j) 0
   primes-positive q few j l =
@@ -111,13 +110,13 @@ module _ {t : Bytes} {n next : ℕ} (nm : NamesLine t n next) {rows : List (List
 
   -- ---- More generators than the ceiling
 
-  pub too_many : flag ≡ true → max_generators < n → ReadText t (Err TooLarge)
+  pub too_many : {p : ReadPresentation} → flag ≡ true → max_generators < n → ReadText t (Err TooLarge) p
   unfolding too_large
   too_many q l =
       let w : too_large relations_of ≡ true = ap (λ (b : Bool). b || ltb max_order (order (presentation relations_of) n)) (lt-ltb max_generators n l) in
       record {
         answered = inr (in-form, inr (unsaid some_not_prime says-them (all-prime q), inl ((relations_of, says-them, w), refl)));
-        held = λ p q. absurd (unheld refl p q);
+        held = λ z. absurd (unheld refl z);
       }
 
   -- ---- At most as many
@@ -170,40 +169,40 @@ module _ {t : Bytes} {n next : ℕ} (nm : NamesLine t n next) {rows : List (List
           rest = λ j i k a b c e. word-is j i b a k (omega arith) ∙ exponent-unused relations_of h j i k a b c e;
         }
 
-    held_by : misused relations_of ≡ false → (p : ReadPresentation) → (p.n ≡ n) × (p.primes ≡ primes) × (p.rows ≡ rows) → Held relations_of p
-    held_by h p (count, is, are) =
-        record { count = count; few = few; reads = subst₂ (λ (xs : List ℕ) (ys : List (List ℕ)). Reads (presentation relations_of) n xs ys) (sym is) (sym are) (rows-read h) }
+    held_by : misused relations_of ≡ false → {p : ReadPresentation} → p.n ≡ n → p.primes ≡ primes → p.rows ≡ rows → Held relations_of p
+    held_by h count is kept =
+        record { count = count; few = few; reads = subst₂ (λ (xs : List ℕ) (ys : List (List ℕ)). Reads (presentation relations_of) n xs ys) (sym is) (sym kept) (rows-read h) }
 
-  pub concluded : flag ≡ true → n ≤ max_generators → {r : Result ReadPresentation Refusal} → Concluded n rows ps r → ReadText t r
-  concluded q few {r} h = pick (leb (product h.primes n) max_order) (all_well rows ps h.primes n) refl refl h.number
+  pub concluded : flag ≡ true → n ≤ max_generators → {r : Result Unit Refusal} {p : ReadPresentation} → Concluded n rows ps r p → ReadText t r p
+  concluded q few {r} {p} h = pick (leb (product p.primes n) max_order) (all_well rows ps p.primes n) refl refl h.number
     where
       not12 : ¬ says t (λ (R : Relations). some_not_prime R ≡ true)
       not12 = unsaid some_not_prime says-them (all-prime q)
 
-      large : (b : Bool) → leb (product h.primes n) max_order ≡ b → too_large relations_of ≡ not b
-      large true w = too_large_lem few h.are ∙ le-ltb max_order (product h.primes n) (leb-true (product h.primes n) max_order w)
-      large false w = too_large_lem few h.are ∙ lt-ltb max_order (product h.primes n) (leb-false (product h.primes n) max_order w)
+      large : (b : Bool) → leb (product p.primes n) max_order ≡ b → too_large relations_of ≡ not b
+      large true w = too_large_lem few h.are ∙ le-ltb max_order (product p.primes n) (leb-true (product p.primes n) max_order w)
+      large false w = too_large_lem few h.are ∙ lt-ltb max_order (product p.primes n) (leb-false (product p.primes n) max_order w)
 
-      not13 : leb (product h.primes n) max_order ≡ true → ¬ says t (λ (R : Relations). too_large R ≡ true)
+      not13 : leb (product p.primes n) max_order ≡ true → ¬ says t (λ (R : Relations). too_large R ≡ true)
       not13 w = unsaid too_large says-them (large true w)
 
-      pick : (a b : Bool) → leb (product h.primes n) max_order ≡ a → all_well rows ps h.primes n ≡ b
-          → answer r ≡ cond a (cond b 0 14) 13 → ReadText t r
+      pick : (a b : Bool) → leb (product p.primes n) max_order ≡ a → all_well rows ps p.primes n ≡ b
+          → answer r ≡ cond a (cond b 0 14) 13 → ReadText t r p
       pick false b x y e =
-          record { answered = inr (in-form, inr (not12, inl ((relations_of, says-them, large false x), e))); held = λ p q. absurd (unheld e p q) }
+          record { answered = inr (in-form, inr (not12, inl ((relations_of, says-them, large false x), e))); held = λ z. absurd (unheld e z) }
       pick true false x y e =
           record {
             answered = inr (in-form, inr (not12, inr (not13 x, inl ((relations_of, says-them, misused-is few h.are ∙ ap not y), e))));
-            held = λ p q. absurd (unheld e p q);
+            held = λ z. absurd (unheld e z);
           }
       pick true true x y e =
           let well : misused relations_of ≡ false = misused-is few h.are ∙ ap not y in
           record {
             answered = inr (in-form, inr (not12, inr (not13 x, inr (unsaid misused says-them well, e))));
-            held = λ p z. (relations_of, says-them, held_by few h.are well p (h.kept p z));
+            held = λ z. (relations_of, says-them, held_by few h.are well h.kept.0 refl h.kept.1);
           }
 
 -- ---- Answers
 
-pub refused-form : {t : Bytes} → ¬ InForm t → ReadText t (Err PresentationForm)
-refused-form h = record { answered = inl (h, refl); held = λ p q. absurd (unheld refl p q) }
+pub refused-form : {t : Bytes} {p : ReadPresentation} → ¬ InForm t → ReadText t (Err PresentationForm) p
+refused-form h = record { answered = inl (h, refl); held = λ z. absurd (unheld refl z) }

@@ -3,7 +3,7 @@
 --   Held                  what was read holds the relations R
 --   ReadText              the answer to a text, and what is held where it is not refused
 --   Concluded             the answer to what was kept of a text whose generators have room
-use Rattle.std.specs.Prelude.{◌≡◌, cond, List, ℕ, ◌≤◌, leb, Result, Ok}
+use Rattle.std.specs.Prelude.{◌≡◌, cond, List, ℕ, ◌≤◌, leb, Result}
 use Rattle.definitions.specs.Text.{Bytes}
 use Rattle.definitions.specs.Presentation.{Relations, max_generators, max_order, presentation}
 use Rattle.definitions.specs.Answers.{First, says, text_refusals}
@@ -19,12 +19,11 @@ pub record Held (R : Relations) (p : ReadPresentation) : Type 0 where
   pub few : R.n ≤ max_generators
   pub reads : Reads (presentation R) R.n p.primes p.rows
 
-pub record ReadText (t : Bytes) (r : Result ReadPresentation Refusal) : Type 0 where
+pub record ReadText (t : Bytes) (r : Result Unit Refusal) (p : ReadPresentation) : Type 0 where
   pub answered : First (text_refusals t) (answer r)
-  pub held : (p : ReadPresentation) → r ≡ Ok p → says t (λ R. Held R p)
+  pub held : answer r ≡ 0 → says t (λ R. Held R p)
 
-pub record Concluded (n : ℕ) (rows : List (List ℕ)) (ps : List ℕ) (r : Result ReadPresentation Refusal) : Type 0 where
-  pub primes : List ℕ
-  pub are : Primes ps n primes
-  pub number : answer r ≡ cond (leb (product primes n) max_order) (cond (all_well rows ps primes n) 0 14) 13
-  pub kept : (p : ReadPresentation) → r ≡ Ok p → (p.n ≡ n) × (p.primes ≡ primes) × (p.rows ≡ rows)
+pub record Concluded (n : ℕ) (rows : List (List ℕ)) (ps : List ℕ) (r : Result Unit Refusal) (p : ReadPresentation) : Type 0 where
+  pub are : Primes ps n p.primes
+  pub number : answer r ≡ cond (leb (product p.primes n) max_order) (cond (all_well rows ps p.primes n) 0 14) 13
+  pub kept : (p.n ≡ n) × (p.rows ≡ rows)

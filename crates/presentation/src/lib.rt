@@ -1,6 +1,6 @@
 // The presentation that a text says, and the answer to the text (refusals 11 to 14).
 //
-//   ReadPresentation      n, the primes, and the words in rows, one for each pair
+//   ReadPresentation      n, the primes, and the words in rows, one for each pair; BLANK has none
 //   conclude              refusals 13 and 14 on what was kept of a text whose generators have room
 //   read                  the presentation that a text says
 #![tactic(auto)]
@@ -21,32 +21,39 @@ pub struct ReadPresentation {
     pub rows: Rows,
 }
 
-// Refusals 13 and 14 on what was kept of a text with n generators.
-fn conclude(n: usize, rows: Rows, ps: &[u32; PAIRS]) -> Result<ReadPresentation, Refusal>
+// What a text is read into.
+pub const BLANK: ReadPresentation = ReadPresentation {
+    n: 0,
+    primes: [0; GENERATORS],
+    rows: [[0; GENERATORS]; PAIRS],
+};
+
+// Refusals 13 and 14 on what was kept of a text with n generators, whose words stand in the rows of p.
+fn conclude(n: usize, p: &mut ReadPresentation, ps: &[u32; PAIRS]) -> Result<(), Refusal>
     requires n_le_max_generators { n ≤ max_generators }
     requires by_index { (j : ℕ) → j < n → 0 < get_or ps.now (pair_number j j) 0 }
-    ensures { Concluded n rows ps.now result }
+    ensures { Concluded n p.old.rows ps.now result p.new }
 {
-    let primes = judge::primes_of(ps, n);
-    if !judge::order_fits(&primes, n) {
+    p.n = n;
+    p.primes = judge::primes_of(ps, n);
+    if !judge::order_fits(&p.primes, n) {
         return Err(Refusal::TooLarge);
     }
-    if !judge::well(&rows, ps, &primes, n) {
+    if !judge::well(&p.rows, ps, &p.primes, n) {
         return Err(Refusal::Word);
     }
-    Ok(ReadPresentation { n, primes, rows })
+    Ok(())
 }
 
-// The presentation that a text says, or the first refusal of 11 to 14.
-pub fn read(text: &[u8]) -> Result<ReadPresentation, Refusal>
-    ensures { ReadText text.now result }
+// Reads the presentation that a text says, or answers the first refusal of 11 to 14. It is lent, so that no copy of it is made.
+pub fn read(text: &[u8], p: &mut ReadPresentation) -> Result<(), Refusal>
+    ensures { ReadText text.now result p.new }
 {
     let Some((n, at)) = reader::names(text) else {
         return Err(Refusal::PresentationForm);
     };
-    let mut rows = [[0u32; GENERATORS]; PAIRS];
     let mut ps = [0u32; PAIRS];
-    let Some(primes) = reader::read_lines(text, at, n, &mut rows, &mut ps) else {
+    let Some(primes) = reader::read_lines(text, at, n, &mut p.rows, &mut ps) else {
         return Err(Refusal::PresentationForm);
     };
     if !primes {
@@ -56,5 +63,5 @@ pub fn read(text: &[u8]) -> Result<ReadPresentation, Refusal>
     if GENERATORS < count {
         return Err(Refusal::TooLarge);
     }
-    conclude(count, rows, &ps)
+    conclude(count, p, &ps)
 }

@@ -8,8 +8,6 @@
 
 ghost use Rattle.std.specs.Prelude.{◌≡◌, ℕ, ◌<◌, ◌≤◌, length};
 
-use std::io;
-
 // ---- All pairs, m at most 64
 
 // The sum of two numbers, and 64 times their difference.
@@ -41,7 +39,8 @@ fn mixed(m: u32) -> u32
 
 // ---- The edges of larger moduli
 
-fn print_edges<F: Fn(u32, u32) -> u32>(rt: &impl Print, of: &F, a: u32, m: u32) -> io::Result<()>
+// A line that cannot be written is passed over, as in every program here: what follows is tried, and the status stays 0.
+fn print_edges<F: Fn(u32, u32) -> u32>(rt: &impl Print, of: &F, a: u32, m: u32)
     requires callable { (x : ℕ) → (y : ℕ) → x < m → y < m → F.pre of.now x y }
     requires within { (a < m) × (2 ≤ m) }
 {
@@ -49,20 +48,20 @@ fn print_edges<F: Fn(u32, u32) -> u32>(rt: &impl Print, of: &F, a: u32, m: u32) 
     let one = of(a, 1);
     let half = of(a, m / 2);
     let last = of(a, m - 1);
-    println!(rt; "{m} {a} {zero} {one} {half} {last}")
+    let _ = println!(rt; "{m} {a} {zero} {one} {half} {last}");
 }
 
-fn print_square<F: Fn(u32, u32) -> u32>(rt: &impl Print, of: F, m: u32) -> io::Result<()>
+fn print_square<F: Fn(u32, u32) -> u32>(rt: &impl Print, of: F, m: u32)
     requires callable { (x : ℕ) → (y : ℕ) → x < m → y < m → F.pre of x y }
     requires within { 2 ≤ m }
 {
-    print_edges(rt, &of, 0, m)?;
-    print_edges(rt, &of, 1, m)?;
-    print_edges(rt, &of, m / 2, m)?;
-    print_edges(rt, &of, m - 1, m)
+    print_edges(rt, &of, 0, m);
+    print_edges(rt, &of, 1, m);
+    print_edges(rt, &of, m / 2, m);
+    print_edges(rt, &of, m - 1, m);
 }
 
-fn print_modulus(rt: &impl Print, m: u32) -> io::Result<()>
+fn print_modulus(rt: &impl Print, m: u32)
     requires { (2 ≤ m) × (m ≤ 2147483648) }
 {
     print_square(
@@ -71,23 +70,22 @@ fn print_modulus(rt: &impl Print, m: u32) -> io::Result<()>
             requires { (a < m) × (b < m) × (m ≤ 2147483648) }
         { modular::add_mod(a, b, m) },
         m,
-    )?;
+    );
     print_square(
         rt,
         |a, b|
             requires { (a < m) × (b < m) × (m ≤ 2147483648) }
         { modular::sub_mod(a, b, m) },
         m,
-    )
+    );
 }
 
-fn main(rt: HostRuntime) -> io::Result<()> {
+fn main(rt: HostRuntime) {
     for m in 1..=64 {
         let sum = mixed(m);
-        println!(&rt; "{m} {sum}")?;
+        let _ = println!(&rt; "{m} {sum}");
     }
     for m in [4093, 4096, 16384, 2147483647, 2147483648] {
-        print_modulus(&rt, m)?;
+        print_modulus(&rt, m);
     }
-    Ok(())
 }

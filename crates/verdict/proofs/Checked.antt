@@ -11,8 +11,9 @@ use Rattle.definitions.specs.Text.{Bytes}
 use Rattle.definitions.specs.Presentation.{Relations, max_modulus, order, presentation}
 use Rattle.definitions.specs.Answers.{judgement, Check}
 use Rattle.definitions.proofs.Refusals.{accept-unrefused, check-judged}
-use Rattle.std.specs.Prelude.{Result, Ok}
+use Rattle.std.specs.Prelude.{Result}
 use Rattle.results.specs.declared.Refusal.{Refusal}
+use Rattle.results.specs.Numbers.{answer}
 use Rattle.presentation.specs.declared.ReadPresentation.{ReadPresentation}
 use Rattle.conditions.specs.declared.size.Size.{Size}
 use Rattle.conditions.specs.Size.{Measured}
@@ -50,8 +51,8 @@ pub checks-of : {p : ReadPresentation} {s : Size} {T : List ℕ} {a : ℕ} → M
     → Judged p.n s.order p.rows p.primes T a → Checks p T a
 checks-of M J = record { is = λ R S. judged-said S M J }
 
-module _ {t : Bytes} {r : Result ReadPresentation Refusal} (A : AcceptedText t r) (T : List ℕ) {p : ReadPresentation} (is : r ≡ Ok p) where
+module _ {t : Bytes} {r : Result Unit Refusal} {p : ReadPresentation} (A : AcceptedText t r p) (T : List ℕ) (is : answer r ≡ 0) where
   pub check-judges : {a : ℕ} → Checks p T a → Check t T a
   check-judges {a} J =
-      let (R, z, S) = A.sound p is in
+      let (R, z, S) = A.sound is in
       (check-judged t (accept-unrefused t (accepts A is)) R z (λ P. order P P.n) T a).1 (J.is R S)

@@ -27,6 +27,7 @@ fn check_sound(p: &ReadPresentation, words: &[u32]) -> Result<(), Refusal>
 pub fn check(text: &[u8], words: &[u32]) -> Result<(), Refusal>
     ensures { Check text.now words.now (answer result) }
 {
-    let p = accepted(text)?;
+    let mut p = presentation::BLANK;
+    accepted(text, &mut p)?;
     check_sound(&p, words)
 }

@@ -1,5 +1,5 @@
 -- One answer for each way through.
-use Rattle.std.proofs.Common.{refl, arith}
+use Rattle.std.proofs.Common.{refl, arith, rules}
 use Rattle.presentation.proofs.Judged.{unnamed, unlined, refused-form, not-prime, primes-positive, too_many, concluded}
 use Rattle.presentation.proofs.read.Goals as goal
 
@@ -8,7 +8,7 @@ returns-in_default c = refused-form (unnamed (c.names.ensures.fails c.in_default
 
 pub read_lines-requires : goal.read_lines-requires
 read_lines-requires c = let m = c.names.ensures.stands _ _ c.in-Some.is in
-    (m.within, m.few, refl, refl)
+    (m.within, m.few, search rules, refl)
 
 pub returns-in_default-read_lines : goal.returns-in_default-read_lines
 returns-in_default-read_lines c = let m = c.names.ensures.stands _ _ c.in-Some.is in
