@@ -4,12 +4,10 @@
 --   HoldingBehind s T k         and for which the first k levels restrict
 --   up-behind                   these levels, or level 1, of which nothing is asked: no generator is below its top
 use mathlib.Core.Path.{◌≡◌, refl, sym, subst}
-use mathlib.Core.Logic.{by_cases}
-use native.Mathlib.Decide.{dec_lt}
-use native.Mathlib.Omega.{arith}
+use mathlib.Core.Logic.{◌⊎◌, inl, inr}
 use mathlib.Core.Bool.{Bool, true}
 use mathlib.Core.List.{List, [], ◌∷◌}
-use Prim.Native.Nat.{ℕ, max}
+use Prim.Native.Nat.{ℕ}
 use lib.ListN.{length}
 use Rattle.definitions.specs.Lists.{all_below, all}
 use Rattle.definitions.specs.Presentation.{Presentation}
@@ -47,9 +45,6 @@ module _ (s : Scope) (T : List ℕ) where
       all_below-intro (length (level_at s.gens T 1)) (λ r. restricts P s.m T 1 (R r))
       (λ r l. all_true (block_restricts P s.m T 0 (R r)) (λ o. refl) (cuts (level_at P.n T 0) (R r)))
 
-  pub up-behind : (k : ℕ) {r : ℕ} → r ≡ max k 1 → UpTo s T (λ P. FormedBehind s T k P) (λ P. restricts P s.m T) r
-  up-behind k {r} e = by_cases (dec_lt 0 k)
-      (λ l. let z : k ≡ r = omega arith in
-      subst (UpTo s T (HoldingBehind k) asks) z (up-to-known s T (HoldingBehind k) asks (λ P p. p.known)))
-      (λ n. let z : 1 ≡ r = omega arith in
-      subst (UpTo s T (HoldingBehind k) asks) z (passed-more passed_none (λ P p. sym (first-restricts P)) refl))
+  pub up-behind : (k : ℕ) {r : ℕ} → (r ≡ k) ⊎ (r ≡ 1) → UpTo s T (λ P. FormedBehind s T k P) (λ P. restricts P s.m T) r
+  up-behind k (inl e) = subst (UpTo s T (HoldingBehind k) asks) (sym e) (up-to-known s T (HoldingBehind k) asks (λ P p. p.known))
+  up-behind k (inr e) = subst (UpTo s T (HoldingBehind k) asks) (sym e) (passed-more passed_none (λ P p. sym (first-restricts P)) refl)

@@ -25,7 +25,7 @@ use commuting::{Reaches, rises};
 use rows::{GENERATORS, Row, Rows, generator, same, word};
 
 // A normal form for each generator.
-type Forms = [[u32; GENERATORS]; GENERATORS];
+pub type Forms = [[u32; GENERATORS]; GENERATORS];
 
 // The images of the generators below i under conjugation by generator i, written into rows that are lent.
 fn find_images(collector: &Collector, i: usize, images: &mut Forms)

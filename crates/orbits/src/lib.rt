@@ -224,7 +224,8 @@ pub fn list_scalars(
 {
     let mut s = BlockScalar { block: 0, exp: 0 };
     blocks[0].scalar = 0;
-    for _ in 1..f.p {
+    for k in 1..f.p {
+        // Step k leads to block s.block, which need not be block k.
         s = next_scalar(low, rows, notes, blocks, f, j, r, s);
         blocks[s.block as usize].scalar = s.exp;
     }

@@ -4,5 +4,5 @@ use Prim.Native.Nat.{ℕ, ◌+◌}
 use Rattle.orbits.proofs.Along.{Scaling}
 use Rattle.orbits.proofs.list_scalars.Given as goal
 
-abbrev pub invariant-loop : goal.invariant-loop
-invariant-loop l = (k : ℕ) × (l.counter ≡ k + 1) × Scaling l.f l.low l.rows l.j l.r l.notes l.blocks k l.s
+abbrev pub invariant-loop-k : goal.invariant-loop-k
+invariant-loop-k l = (k : ℕ) × (l.k ≡ k + 1) × Scaling l.f l.low l.rows l.j l.r l.notes l.blocks k l.s
