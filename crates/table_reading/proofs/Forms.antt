@@ -3,12 +3,13 @@
 --   word_none, word-other, word_some     word k at a position
 --   Forming, forming-none, forming-more, forming-fails, forming-end     whether words stand to the end
 --   Filling, filling-none, filling-length, filling-below, filling-known, filling-more, filling-end     storing them
---   counted-newlines                     bytes 10, as the library counts them
+--   CountedLines, counted_none, counted-more, counted-all     bytes 10 up to a position
 use mathlib.Core.Path.{◌≡◌, refl, sym, ap, ap₂, subst, ◌∙◌}
 use mathlib.Core.Logic.{by_cases}
-use mathlib.Core.Bool.{true, false, cond, false≢true}
+use mathlib.Core.Bool.{Bool, true, false, cond, false≢true}
 use mathlib.Core.List.{List, [], ◌∷◌, ◌++◌, append_assoc, append-nil, tail-eq_of_cons-eq}
 use Prim.Native.Nat.{ℕ, suc, ◌+◌, ◌%◌, ◌<◌, ◌≤◌}
+use native.Mathlib.Numerals.{add-one}
 use native.Mathlib.Decide.{dec_lt}
 use native.Mathlib.Omega.{arith}
 use lib.ListN.{length, get_or, take, drop, set, length-append, length-take, length-drop, drop_of_length-le}
@@ -20,9 +21,7 @@ use Rattle.definitions.specs.Presentation.{line_words}
 use Rattle.definitions.specs.Answers.{newlines, over}
 use Rattle.definitions.proofs.Rendering.{decimal_nonempty}
 use Rattle.text.specs.Reading.{Ends, ValueAt, NoValue}
-use Rattle.std.specs.Prelude.{Some, None, ◌==◌}
-use Rattle.std.specs.List.{count_by}
-use Rattle.std.proofs.lemmas.List.Sums.{sum_by-cons}
+use Rattle.std.specs.Prelude.{Some, None}
 use Rattle.text.proofs.Reading.{drop-front, drop-byte, read_known, value-unique}
 use Rattle.text.proofs.Trail.{small-nil, small_at}
 use Rattle.text.proofs.Trail as trail
@@ -210,6 +209,25 @@ module _ {t : Bytes} {start : ℕ} {before : List ℕ} where
 
 -- ---- Bytes 10
 
-pub counted-newlines : (t : Bytes) → count_by (λ b. b == 10) t ≡ newlines t
-counted-newlines [] = sym newlines-nil
-counted-newlines (b ∷ t) = sum_by-cons (λ x. cond (x == 10) 1 0) b t ∙ ap (λ n. cond (eqb b 10) 1 0 + n) (counted-newlines t) ∙ sym (newlines-cons b t)
+-- n of the first i bytes are 10
+pub record CountedLines (t : Bytes) (i n : ℕ) : Type 0 where
+  pub total : n + newlines (drop i t) ≡ newlines t
+  pub few : n ≤ i
+  pub within : i ≤ length t
+
+module _ {t : Bytes} where
+  pub counted_none : CountedLines t 0 0
+  counted_none = record { total = omega arith; few = omega arith; within = omega arith }
+
+  pub counted-more : {i n x : ℕ} → CountedLines t i n → i < length t → x ≡ cond (eqb (get_or t i 0) 10) 1 0 → CountedLines t (i + 1) (n + x)
+  counted-more {i} {n} {x} h l q =
+      let e : newlines (drop i t) ≡ x + newlines (drop (i + 1) t) =
+      ap newlines (drop-cons t i 0 l) ∙ newlines-cons (get_or t i 0) (drop (suc i) t) ∙ ap₂ (λ (a b : ℕ). a + newlines (drop b t)) (sym q) (sym (add-one i)) in
+      record { total = omega (arith, h.total); few = omega (arith, h.few, at_most (eqb (get_or t i 0) 10) q); within = omega arith }
+    where
+      at_most : (b : Bool) → x ≡ cond b 1 0 → x ≤ 1
+      at_most true w = omega arith
+      at_most false w = omega arith
+
+  pub counted-all : {i n : ℕ} → CountedLines t i n → length t ≤ i → n ≡ newlines t
+  counted-all {i} {n} h l = omega (arith, h.total, ap newlines (drop_of_length-le t {i = i} l), newlines-nil)

@@ -20,7 +20,11 @@ use table_text::{LINE, NAMES, separator};
 fn count_newlines(text: &[u8]) -> usize
     ensures { result ≡ newlines text.now }
 {
-    text.iter().filter(|b| **b == b'\n').count()
+    let mut n = 0;
+    for b in text {
+        n += usize::from(*b == b'\n');
+    }
+    n
 }
 
 // Whether so many words are room for every line but the first.

@@ -5,7 +5,7 @@
 --   digits-shorter, value-unique     digits before the end of others; what stands behind a value, and the value
 --   value_none, value-past    no value: no digit stands there; the run goes on behind a 0 or behind nine digits
 --   read-stands, read-fails, read_known   what the two answers say; the value read is the one that stands there
---   Run, digit-within, run_none, run-one, run_more, run_past, run_end   a run of digits, turn by turn
+--   Run, byte-digit, byte-none, digit-within, run_none, run-one, run_more, run_past, run_end   a run of digits, turn by turn
 --   behind-none, behind-some  a value behind a byte
 --   starts-is                 given bytes, as the library compares them
 use mathlib.Core.Path.{◌≡◌, refl, sym, ap, ap₂, subst, subst₂, ◌∙◌}
@@ -23,6 +23,7 @@ use Rattle.definitions.proofs.Rendering.{Each, each_append, decimal-one, decimal
 use Rattle.definitions.proofs.Rendering.{decimal_nonempty, decimal-length, decimal-nine}
 use Rattle.text.specs.Reading.{Digit, DigitAt, Ends, ValueAt, NoValue, ReadAt, StartsAt}
 use Rattle.std.specs.Prelude.{Option, Some, None, ◌↔◌, Bool, true, eqb}
+use Rattle.std.specs.Char.{IsAsciiDigit, IsNotAsciiDigit}
 use Rattle.std.specs.List.{starts_with}
 use Rattle.std.proofs.lemmas.Bool.Decides.{Decides-eqb}
 use Rattle.std.proofs.lemmas.Slice.Eq.{starts_is}
@@ -148,6 +149,17 @@ pub record Run (t : Bytes) (at v i : ℕ) : Type 0 where
   pub few : v ≤ 999999999
   pub further : at < i
   pub within : i ≤ length t
+
+-- a byte b as the library tests it: it is a digit, also where it is read again as a, or it is none
+module _ {t : Bytes} {i b : ℕ} (q : b ≡ get_or t i 0) where
+  pub byte-digit : {a : ℕ} → a ≡ get_or t i 0 → IsAsciiDigit b → DigitAt t i (Some (a - 48))
+  byte-digit {a} w h = record {
+    stands = λ d z. let e : a - 48 ≡ d = cc in (omega (arith, e, w, q, h), omega (arith, e, w, q, h));
+    fails = λ z. let e : ◌≡◌ {A = ℕ} 0 1 = cc in absurd (omega arith);
+  }
+
+  pub byte-none : IsNotAsciiDigit b → DigitAt t i None
+  byte-none h = record { stands = λ d z. let e : ◌≡◌ {A = ℕ} 0 1 = cc in absurd (omega arith); fails = λ z k. omega (arith, q, h, k) }
 
 pub digit-within : {t : Bytes} {i d : ℕ} {r : Option ℕ} → DigitAt t i r → r ≡ Some d → i < length t
 digit-within {t} {i} {d} h q = byte-within t i (omega (arith, (h.stands d q).1))

@@ -39,11 +39,11 @@ pub fn value(text: &[u8], at: usize) -> Option<(u32, usize)>
 {
     let mut v = digit_at(text, at)?;
     let mut next = at + 1;
-    while let Some(d) = digit_at(text, next) {
+    while byte_at(text, next).is_ascii_digit() {
         if v == 0 || 99999999 < v {
             return None;
         }
-        v = v * 10 + d;
+        v = v * 10 + u32::from(byte_at(text, next) - b'0');
         next += 1;
     }
     Some((v, next))
