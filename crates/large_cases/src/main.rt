@@ -46,7 +46,7 @@ fn build_checked(text: &[u8]) -> Told {
     Told { made, sum, checked }
 }
 
-// What cannot be written is passed over, as in every program here: what follows is tried, and the status stays 0.
+// A line that cannot be written is skipped, as in every program here: the next line is tried, and the status stays 0.
 fn answer(rt: &HostRuntime, line: &[u8], text: &[u8]) {
     let t = build_checked(text);
     let number = results::answer(&t.made);

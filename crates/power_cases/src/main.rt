@@ -73,7 +73,7 @@ fn power_sum(words: &[u32], d: u32, k: i32, m: u32) -> u32
     case_input::mix_words(&out[..n])
 }
 
-// A line that cannot be written is passed over, as in every program here: what follows is tried, and the status stays 0.
+// A line that cannot be written is skipped, as in every program here: the next line is tried, and the status stays 0.
 fn print_power(rt: &impl Print, words: &[u32], d: u32, k: i32, m: u32)
     requires { Holds m words.now 0 d × (d ≤ 128) }
 {

@@ -1,8 +1,9 @@
 // The presentation that a text says, and the answer to the text (refusals 11 to 14).
 //
-//   ReadPresentation      n, the primes, and the words in rows, one for each pair; BLANK has none
+//   ReadPresentation      n, the primes, and the words in rows, one for each pair
+//   BLANK                 an empty one, to read into
 //   conclude              refusals 13 and 14 on what was kept of a text whose generators have room
-//   read                  the presentation that a text says
+//   read                  reads the presentation that a text says
 #![tactic(auto)]
 
 ghost use Rattle.std.specs.Prelude.{◌≡◌, ℕ, ◌<◌, ◌≤◌, get_or};
@@ -21,14 +22,14 @@ pub struct ReadPresentation {
     pub rows: Rows,
 }
 
-// What a text is read into.
+// An empty presentation, to read into.
 pub const BLANK: ReadPresentation = ReadPresentation {
     n: 0,
     primes: [0; GENERATORS],
     rows: [[0; GENERATORS]; PAIRS],
 };
 
-// Refusals 13 and 14 on what was kept of a text with n generators, whose words stand in the rows of p.
+// Refusals 13 and 14 for a text with n generators, whose words are in the rows of p. Stores n and the primes.
 fn conclude(n: usize, p: &mut ReadPresentation, ps: &[u32; PAIRS]) -> Result<(), Refusal>
     requires n_le_max_generators { n ≤ max_generators }
     requires by_index { (j : ℕ) → j < n → 0 < get_or ps.now (pair_number j j) 0 }
@@ -45,7 +46,8 @@ fn conclude(n: usize, p: &mut ReadPresentation, ps: &[u32; PAIRS]) -> Result<(),
     Ok(())
 }
 
-// Reads the presentation that a text says, or answers the first refusal of 11 to 14. It is lent, so that no copy of it is made.
+// Reads the presentation that a text says into p, or answers the first refusal of 11 to 14. The caller provides p, since a value of
+// this size would be copied wherever it is returned.
 pub fn read(text: &[u8], p: &mut ReadPresentation) -> Result<(), Refusal>
     ensures { ReadText text.now result p.new }
 {

@@ -39,7 +39,7 @@ fn mixed(m: u32) -> u32
 
 // ---- The edges of larger moduli
 
-// A line that cannot be written is passed over, as in every program here: what follows is tried, and the status stays 0.
+// A line that cannot be written is skipped, as in every program here: the next line is tried, and the status stays 0.
 fn print_edges<F: Fn(u32, u32) -> u32>(rt: &impl Print, of: &F, a: u32, m: u32)
     requires callable { (x : ℕ) → (y : ℕ) → x < m → y < m → F.pre of.now x y }
     requires within { (a < m) × (2 ≤ m) }

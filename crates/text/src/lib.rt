@@ -33,7 +33,7 @@ fn digit_at(text: &[u8], at: usize) -> Option<u32>
 }
 
 // The value at a position, by its whole run of digits, and the position behind the last. It has at most nine digits, and no leading
-// zero.
+// zero. The loop tests bytes: an `Option` for each digit would select a value for None, too.
 pub fn value(text: &[u8], at: usize) -> Option<(u32, usize)>
     ensures { ReadAt [] text.now at result }
 {
