@@ -23,7 +23,7 @@ use Rattle.presentation.specs.Outcome.{Held, ReadText}
 use Rattle.rows.specs.Rows.{Ranged, Reads}
 use Rattle.consistency.specs.Answers.{DecidesTest}
 use Rattle.consistency.proofs.Relations.{reads-ready, decides-consistent}
-use Rattle.acceptance.specs.Accepted.{Unrefused, Confirmed, AcceptedText}
+use Rattle.acceptance.specs.Accepted.{Unrefused, AcceptedText}
 
 -- ---- What is known behind the reader
 
